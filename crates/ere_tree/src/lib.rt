@@ -1,0 +1,9 @@
+//! Regular expressions as trees: POSIX extended regular expressions (POSIX.1 XBD 9.4) with back-references, their
+//! parser, their classes, and the definitions of what they match. Everything about matching stands on this crate.
+#![tactic(auto)]
+
+mod byte_set;
+mod ere;
+
+pub use byte_set::ByteSet;
+pub use ere::{ByteRun, Ere, EreList};
