@@ -1,0 +1,36 @@
+//! Cases of the public calls with ample memory.
+use crate::{Bytes, Items, Place, find_in, line_of, place_of};
+use std::test::Fail;
+
+#[test]
+fn places_count_from_one(rt: HostRuntime) {
+    let cases = [("ab\nc", 3, 2, 1), ("ab\nc", 2, 1, 3), ("", 0, 1, 1)];
+    for (text, at, line, col) in cases {
+        let place = place_of(text.as_bytes(), at);
+        assert_eq!(rt; place, Place { line, col }, "offset {at} of {text:?}");
+    }
+}
+
+#[test]
+fn a_line_ends_before_its_newline(rt: HostRuntime) {
+    let cases = [("ab\nc", 1, 0, 2), ("ab\nc", 2, 0, 2), ("ab\nc", 3, 3, 4)];
+    for (text, at, from, to) in cases {
+        let line = line_of(text.as_bytes(), at);
+        assert_eq!(rt; line.from, from, "offset {at} of {text:?}");
+        assert_eq!(rt; line.to, to, "offset {at} of {text:?}");
+    }
+}
+
+#[test]
+fn lists_grow_and_searches_find(rt: HostRuntime) -> Result<(), Fail> {
+    let alloc = rt.alloc();
+    let mut bytes = Bytes::from_slice(alloc, b"a")?;
+    bytes.append(b"b")?;
+    assert_eq!(rt; bytes.as_slice(), b"ab".as_slice());
+    let mut items = Items::new(alloc);
+    items.push(1u8)?;
+    assert_eq!(rt; items.as_slice(), [1u8].as_slice());
+    assert_eq!(rt; find_in(b"abab", b"ab", 1, 4), Some(2));
+    assert_eq!(rt; find_in(b"abab", b"ab", 1, 3), None);
+    Ok(())
+}
