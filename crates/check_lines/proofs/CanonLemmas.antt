@@ -1,6 +1,6 @@
 -- The canonical form in place: what is done, what waits to be moved down, and what is left are the whole.
-use Rattle.std.proofs.Common.{◌≡◌, ℕ, ◌+◌, ◌-◌, ◌<◌, ◌≤◌, Bool, true, false, List, [], ◌∷◌, ◌++◌, Option, None, Some, length, get_or, slice_index, take, drop, refl, sym, ◌∙◌, ap, subst, arith, append_assoc, append-nil, drop-cons, add-one, length-drop, take_all, eqb, cond, ◌&&◌, IsTrue}
-use Rattle.std.proofs.lemmas.List.{get_or-drop, take_more, drop_all, drop-drop, drop-set-lt}
+use Rattle.std.proofs.Common.{◌≡◌, ℕ, ◌+◌, ◌-◌, ◌<◌, ◌≤◌, Bool, true, false, List, [], ◌∷◌, ◌++◌, Option, None, Some, length, get_or, take, drop, refl, sym, ◌∙◌, ap, subst, arith, append_assoc, append-nil, drop-cons, add-one, length-drop, take_all, eqb, cond, ◌&&◌, IsTrue}
+use Rattle.std.proofs.lemmas.List.{take_more, drop_all, drop-drop, drop-set-lt}
 use Rattle.std.proofs.lemmas.List.Edits.{take-paste, drop-paste, length-paste}
 use Rattle.std.proofs.lemmas.Bool.Decides.{nat_tests}
 use Rattle.std.proofs.lemmas.Grind.{take-set_at}

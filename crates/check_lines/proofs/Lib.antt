@@ -1,1 +1,3 @@
 pub mod CanonLemmas
+pub mod ChecksLemmas
+pub mod DecisionLemmas

@@ -1,1 +1,3 @@
 pub mod Canon
+pub mod Checks
+pub mod Decision

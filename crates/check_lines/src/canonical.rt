@@ -149,7 +149,8 @@ fn starts_line_end(rest: &[u8]) -> bool
     }
 }
 
-fn blank(byte: u8) -> bool
+/// Whether a byte is a space or a tab.
+pub fn blank(byte: u8) -> bool
     ensures { result ≡ is_blank byte }
 {
     byte == b' ' || byte == b'\t'

@@ -3,5 +3,13 @@
 #![tactic(auto)]
 
 mod canonical;
+mod checks;
+mod decision;
+mod directive;
+mod fault;
+mod line;
 
 pub use canonical::{canon, canon_owned};
+pub use checks::read_checks;
+pub use directive::{Directive, Kind};
+pub use fault::{CheckFail, CheckFault, CheckKind};

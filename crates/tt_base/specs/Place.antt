@@ -2,7 +2,9 @@
 -- Own rule, after the messages of the LLVM Command Guide, FileCheck: a line ends at a newline, and lines and columns count from 1.
 use Rattle.std.specs.Prelude.{ℕ, ◌+◌, ◌-◌, Bool, ◌==◌, List, length, take, drop, count_by}
 use Rattle.std.specs.List.{after_last, before_first}
+use Rattle.std.proofs.Math.Nat.{le-add_right}
 use Rattle.tt_base.specs.declared.place.Place.{Place}
+use Rattle.tt_base.specs.declared.place.Span.{Span}
 
 -- whether a byte ends a line
 abbrev pub is_newline : ℕ → Bool
@@ -22,3 +24,7 @@ line_start text at = at - length (after_last is_newline (take at text))
 -- where the line of an offset ends, before its newline
 abbrev pub line_end : List ℕ → ℕ → ℕ
 line_end text at = at + length (before_first is_newline (drop at text))
+
+-- the span of so many bytes from an offset
+abbrev pub span_of : ℕ → ℕ → Span
+span_of from count = record { from = from; to = from + count; ordered = le-add_right from count }

@@ -1,4 +1,4 @@
-use Rattle.std.proofs.Common.{rules, refl, sym, ◌∙◌, ap, length, drop, ◌+◌, ◌≤◌, arith, length-drop}
+use Rattle.std.proofs.Common.{rules, ap, length, ◌+◌, ◌≤◌, arith, length-drop}
 use Rattle.check_lines.proofs.CanonLemmas.{Done, done_passed, done_moved, done_all, rest_of}
 use Rattle.check_lines.proofs.canonical.canon_front.Goals as goal
 

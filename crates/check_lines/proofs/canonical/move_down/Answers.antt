@@ -1,6 +1,5 @@
-use Rattle.std.proofs.Common.{◌<◌, length, rules, sym, ◌∙◌, ap, ◌++◌, take, drop, ◌-◌}
-use Rattle.std.specs.Option.{option_to_list}
-use Rattle.check_lines.proofs.CanonLemmas.{part, put_front, put_rest, moved_rest}
+use Rattle.std.proofs.Common.{◌<◌, length, rules}
+use Rattle.check_lines.proofs.CanonLemmas.{put_front, put_rest, moved_rest}
 use Rattle.check_lines.proofs.canonical.move_down.Goals as goal
 
 pub returns-in-Some-clause-front : goal.returns-in-Some-clause-front

@@ -1,0 +1,26 @@
+//! What a line of a check file asks for.
+use tt_base::Span;
+
+/// How a directive is matched.
+#[derive(Clone, Copy, Debug, PartialEq, Eq)]
+pub enum Kind {
+    /// `CHECK:`: somewhere behind the match before.
+    Plain,
+}
+
+/// A directive of a check file. Lines and columns count from 1, in the canonical text.
+#[derive(Clone, Copy, Debug, PartialEq, Eq)]
+pub struct Directive {
+    pub line: u32,
+    /// The column of its prefix.
+    pub head: u32,
+    /// The column of its body.
+    pub col: u32,
+    /// Which of the check prefixes it has, from 0.
+    pub prefix: usize,
+    pub kind: Kind,
+    /// Whether all of its body is plain text.
+    pub literal: bool,
+    /// Its body in the canonical text, without blanks at both ends.
+    pub body: Span,
+}
