@@ -2,11 +2,18 @@
 #![tactic(auto)]
 
 mod files;
+mod mem_files;
+mod mem_sink;
+mod mem_source;
+mod plan;
 mod sink;
 mod source;
 mod transfer;
 
 pub use files::{Files, FilesFault};
+pub use mem_files::{MemFiles, Named};
+pub use mem_sink::MemSink;
+pub use mem_source::MemSource;
 pub use sink::Sink;
 pub use source::{Failed, Source};
 pub use transfer::{TakeFault, take_all, write_all};
