@@ -8,6 +8,8 @@ mod mem_source;
 mod plan;
 mod sink;
 mod source;
+#[cfg(test)]
+mod tests;
 mod transfer;
 
 pub use files::{Files, FilesFault};
