@@ -26,8 +26,8 @@ pub enum TakeFault {
 /// How many bytes are asked of a source at once.
 const PIECE: u64 = 65536;
 
-#[tactic(auto, using(crate::proofs::Known::consumes_none, crate::proofs::Known::consumes_more, crate::proofs::Known::consumes_kept))]
 /// Takes all bytes of a source to its end, if they are at most `limit`.
+#[tactic(auto, using(crate::proofs::Known::consumes_none, crate::proofs::Known::consumes_more, crate::proofs::Known::consumes_kept))]
 pub fn take_all<S: Source>(alloc: Global, src: &mut S, limit: u64) -> Result<Bytes, TakeFault>
     requires small { limit < 2 ^ 62 }
     ensures whole { IfOk result (λ bytes. Consumes (S.left src.old) (S.left src.new) bytes

@@ -5,8 +5,7 @@ ghost use Rattle.tt_real.specs.Meaning.{IsPlain, meaning_of};
 ghost use Rattle.tt_real.specs.Real.{file_faults};
 
 use std::alloc::Global;
-use std::fs::File;
-use std::fs::OpenFile;
+use std::fs::{File, OpenFile};
 use std::io::{Error, ErrorKind, Read};
 use std::rt;
 use tt_base::Bytes;
@@ -56,7 +55,12 @@ fn fault_of(error: &Error) -> FilesFault
 
 /// Reads a file of at most `limit` bytes. A file that grows, or whose size isn't known before, is given up behind
 /// the limit: `size` is then what was read of it.
-fn read_whole<R: rt::Files>(rt: &R, alloc: Global, name: &str, limit: u64) -> Result<Bytes, FilesFault>
+fn read_whole<R: rt::Files>(
+    rt: &R,
+    alloc: Global,
+    name: &str,
+    limit: u64,
+) -> Result<Bytes, FilesFault>
     ensures within { IfOk result (λ bytes. length bytes ≤ limit) }
     ensures too_large { (size : ℕ) → result ≡ Err (FilesFault.TooLarge size) → limit < size }
 {
@@ -77,9 +81,9 @@ fn read_whole<R: rt::Files>(rt: &R, alloc: Global, name: &str, limit: u64) -> Re
     if let Err(error) = file.take(limit.saturating_add(1)).read_to_end(&mut bytes) {
         return Err(fault_of(&error));
     }
-    let size = bytes.len() as u64;
-    if size > limit {
-        return Err(FilesFault::TooLarge { size });
+    let taken = bytes.len() as u64;
+    if taken > limit {
+        return Err(FilesFault::TooLarge { size: taken });
     }
     Ok(Bytes::from_vec(bytes))
 }
