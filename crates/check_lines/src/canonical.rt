@@ -19,7 +19,8 @@ pub fn canon(alloc: Global, text: &[u8], strict: bool) -> Result<Bytes, NoMemory
 
 /// The canonical form of a text, in the text's own memory.
 pub fn canon_owned(bytes: Bytes, strict: bool) -> Bytes
-    ensures { result ≡ canonical strict bytes }
+    ensures exact { result ≡ canonical strict bytes }
+    ensures no_longer { length result ≤ length bytes }
 {
     let mut text = bytes.into_vec();
     let done = canon_front(&mut text, strict);
