@@ -1,13 +1,13 @@
 -- The lines of a text one by one, and what they hold so far.
-use Rattle.std.proofs.Common.{◌≡◌, ℕ, ◌+◌, ◌-◌, ◌<◌, ◌≤◌, false, List, [], ◌∷◌, ◌++◌, Option, None, Some, Result, Ok, Err, length, take, drop, refl, sym, ◌∙◌, ap, arith, append_assoc, append-nil, length-drop, take_all, ⊎_elim}
+use Rattle.std.proofs.Common.{◌≡◌, ℕ, ◌+◌, ◌-◌, ◌<◌, ◌≤◌, false, List, [], ◌∷◌, ◌++◌, Option, None, Some, Result, Ok, Err, All, length, take, drop, refl, sym, ◌∙◌, ap, arith, append_assoc, append-nil, length-drop, take_all, ⊎_elim}
 use Rattle.std.proofs.lemmas.Bool.{cases_lt}
 use Rattle.std.proofs.lemmas.List.{drop-drop, length-take-le}
-use Rattle.std.proofs.lemmas.List.Elements.{All-from_all_within}
+use Rattle.std.proofs.lemmas.List.Elements.{All-from_all_within, All-nil}
 use Rattle.std.proofs.lemmas.List.Splits.{slice_split_first, slice_split_none}
 use Rattle.std.proofs.lemmas.List.Sums.{fails_before_first, prefix_len-le-length}
 use Rattle.std.specs.List.{position_or_len, slice_split}
 use Rattle.tt_base.specs.Place.{is_newline, line_end}
-use Rattle.check_lines.specs.Checks.{AddsLine, IsRefusalOf, all_lines, join_reading, line_reading, reading_from}
+use Rattle.check_lines.specs.Checks.{AddsLine, EndsBy, IsRefusalOf, all_lines, join_reading, line_reading, reading_from}
 use Rattle.check_lines.specs.declared.directive.Directive.{Directive}
 use Rattle.check_lines.specs.declared.fault.CheckFail.{CheckFail}
 use Rattle.check_lines.specs.declared.fault.CheckFail.TheVariants.{Bad, NoMemory}
@@ -79,10 +79,11 @@ joined-start (Err fault) = refl
 pub record Read (text : List ℕ) (found : List Directive) (number start : ℕ) : Type 0 where
   pub within : start ≤ length text
   pub counted : number ≤ start + 1
+  pub bodies : All (EndsBy (length text)) found
   pub same : joined found (reading_from number start (slice_split is_newline (drop start text))) ≡ all_lines text
 
 pub read_none : (text : List ℕ) → Read text [] 1 0
-read_none text = record { within = omega arith; counted = omega arith; same = joined-start (all_lines text) }
+read_none text = record { within = omega arith; counted = omega arith; bodies = All-nil (EndsBy (length text)); same = joined-start (all_lines text) }
 
 module _ (text : List ℕ) (old new : List Directive) (number start end : ℕ) (line : List ℕ)
     (so_far : Read text old number start) (is : end ≡ line_end text start) (line_is : line ≡ take (end - start) (drop start text)) where
@@ -96,9 +97,10 @@ module _ (text : List ℕ) (old new : List Directive) (number start end : ℕ) (
       ∙ joined_line old new (line_reading number start line) (Ok []) adds ∙ joined-nil new
 
   -- a line before others is read
-  pub read_next : end < length text → AddsLine old new (line_reading number start line) → Read text new (number + 1) (end + 1)
+  pub read_next : end < length text → AddsLine old new (line_reading number start line) → All (EndsBy (length text)) new
+      → Read text new (number + 1) (end + 1)
   unfolding reading_from
-  read_next inside adds =
+  read_next inside adds bodies =
       let lines : slice_split is_newline (drop start text) ≡ line ∷ slice_split is_newline (drop (end + 1) text) =
       next_line text start end so_far.within is inside ∙ ap (λ l. l ∷ slice_split is_newline (drop (end + 1) text)) (sym line_is) in
       let low : start ≤ end = omega (arith, line_end_is text start) in
@@ -108,6 +110,7 @@ module _ (text : List ℕ) (old new : List Directive) (number start end : ℕ) (
       record {
         within = omega arith;
         counted = omega (arith, so_far.counted);
+        bodies = bodies;
         same = sym (joined_line old new (line_reading number start line) _ adds)
             ∙ ap (λ k. joined old (join_reading (line_reading number start line) (reading_from (number + 1) k (slice_split is_newline (drop (end + 1) text))))) (sym later)
             ∙ ap (λ l. joined old (reading_from number start l)) (sym lines) ∙ so_far.same;
@@ -122,6 +125,13 @@ module _ (text : List ℕ) (old new : List Directive) (number start end : ℕ) (
 
   pub ends_within : end ≤ length text
   ends_within = omega (arith, so_far.within, line_end_is text start, position_fits (drop start text), length-drop start text)
+
+  pub line_within : start + length line ≤ length text
+  line_within =
+      let within = ends_within in
+      let long : length line ≡ end - start =
+      ap length line_is ∙ length-take-le (end - start) (drop start text) (omega (arith, length-drop start text)) in
+      omega (arith, line_end_is text start)
 
   -- a refused line refuses the text
   pub read_refused : (fail : CheckFail) → IsRefusalOf (line_reading number start line) fail → IsRefusalOf (all_lines text) fail

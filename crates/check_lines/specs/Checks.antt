@@ -1,7 +1,7 @@
 -- The directives of a check file, or its first refusal.
 -- After LLVM Command Guide, FileCheck: a directive's text is the rest of its line, without blanks at both ends.
 -- Own rules: the order of refusals, and that a file without a directive is refused.
-use Rattle.std.specs.Prelude.{◌≡◌, ⊤, ◌++◌, ℕ, ◌+◌, ◌-◌, ◌==◌, nat_le, Bool, false, ◌&&◌, not, if◌then◌else◌, List, [], ◌∷◌, take, drop, length, codes, Option, None, Some, is_some, Result, Ok, Err}
+use Rattle.std.specs.Prelude.{◌≡◌, ◌≤◌, ⊤, ◌++◌, ℕ, ◌+◌, ◌-◌, ◌==◌, nat_le, Bool, false, ◌&&◌, not, if◌then◌else◌, List, [], ◌∷◌, take, drop, length, codes, Option, None, Some, is_some, Result, Ok, Err}
 use Rattle.std.specs.List.{prefix_len, suffix_len, slice_split}
 use Rattle.tt_base.specs.Occurrence.{first_from}
 use Rattle.tt_base.specs.Place.{is_newline, span_of}
@@ -111,3 +111,7 @@ abbrev pub AddsLine : List Directive → List Directive → Result (Option Direc
 AddsLine old new (Ok None) = new ≡ old
 AddsLine old new (Ok (Some one)) = new ≡ old ++ one ∷ []
 AddsLine old new (Err fault) = ⊥
+
+-- a directive's body ends at or before an offset
+abbrev pub EndsBy : ℕ → Directive → Type 0
+EndsBy offset directive = directive.body.to ≤ offset

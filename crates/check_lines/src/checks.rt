@@ -1,6 +1,6 @@
 //! The directives of a whole check file.
-ghost use Rattle.std.specs.Prelude.{◌≡◌, ◌+◌, ◌≤◌, ◌^◌, Ok, IfErr, OnOk, MatchResult, length};
-ghost use Rattle.check_lines.specs.Checks.{AddsLine, IsRefusalOf, all_lines, checks_in, fault_at, line_reading};
+ghost use Rattle.std.specs.Prelude.{◌≡◌, ◌+◌, ◌≤◌, ◌^◌, ℕ, All, Ok, IfErr, IfOk, OnOk, MatchResult, length};
+ghost use Rattle.check_lines.specs.Checks.{AddsLine, EndsBy, IsRefusalOf, all_lines, checks_in, fault_at, line_reading};
 ghost use Rattle.check_lines.specs.declared.fault.CheckKind.TheVariants.{NoChecks};
 
 use crate::directive::Directive;
@@ -12,7 +12,8 @@ use tt_base::{Items, Place, line_of};
 /// The directives of a check file's canonical text, in line order.
 pub fn read_checks(alloc: Global, text: &[u8]) -> Result<Items<Directive>, CheckFail>
     requires { length text.now ≤ 2 ^ 30 }
-    ensures { MatchResult result (λ directives. checks_in text.now ≡ Ok directives) (λ fail. IsRefusalOf (checks_in text.now) fail) }
+    ensures value { MatchResult result (λ directives. checks_in text.now ≡ Ok directives) (λ fail. IsRefusalOf (checks_in text.now) fail) }
+    ensures within { IfOk result (All (EndsBy (length text.now))) }
 {
     let directives = read_lines(alloc, text)?;
     if directives.is_empty() {
@@ -24,7 +25,8 @@ pub fn read_checks(alloc: Global, text: &[u8]) -> Result<Items<Directive>, Check
 /// What all lines hold.
 fn read_lines(alloc: Global, text: &[u8]) -> Result<Items<Directive>, CheckFail>
     requires { length text.now ≤ 2 ^ 30 }
-    ensures { MatchResult result (λ directives. all_lines text.now ≡ Ok directives) (λ fail. IsRefusalOf (all_lines text.now) fail) }
+    ensures value { MatchResult result (λ directives. all_lines text.now ≡ Ok directives) (λ fail. IsRefusalOf (all_lines text.now) fail) }
+    ensures within { IfOk result (All (EndsBy (length text.now))) }
 {
     let mut directives = Items::new(alloc);
     let mut number = 1;
@@ -53,6 +55,8 @@ fn add_line(
     requires { start + length line.now ≤ 2 ^ 30 }
     ensures ok { OnOk result (AddsLine directives.old directives.new (line_reading number start line.now)) }
     ensures err { IfErr result (λ fail. IsRefusalOf (line_reading number start line.now) fail) }
+    ensures within { (limit : ℕ) → start + length line.now ≤ limit → All (EndsBy limit) directives.old
+        → OnOk result (All (EndsBy limit) directives.new) }
 {
     match read_line(number, start, line) {
         Ok(None) => Ok(()),

@@ -1,9 +1,9 @@
 //! What one line of a check file holds.
-ghost use Rattle.std.specs.Prelude.{◌≡◌, ◌+◌, ◌≤◌, ◌<◌, ◌^◌, length};
+ghost use Rattle.std.specs.Prelude.{◌≡◌, ◌+◌, ◌≤◌, ◌<◌, ◌^◌, IfOk, IfSome, length};
 ghost use Rattle.std.specs.List.{prefix_len, suffix_len};
 ghost use Rattle.check_lines.specs.Canon.{is_blank};
 ghost use Rattle.check_lines.specs.declared.fault.CheckKind.TheVariants.{NotBuilt};
-ghost use Rattle.check_lines.specs.Checks.{body_from, body_len, checked_line, fault_at, has_part, is_built, line_reading, plain_directive};
+ghost use Rattle.check_lines.specs.Checks.{EndsBy, body_from, body_len, checked_line, fault_at, has_part, is_built, line_reading, plain_directive};
 
 use crate::canonical::blank;
 use crate::decision::{CHECK_LEN, Mark, decide};
@@ -17,7 +17,8 @@ pub const MAX_BODY: usize = 65_536;
 /// What a line holds. Its number counts from 1, and `start` is where it begins in its text.
 pub fn read_line(number: u32, start: usize, line: &[u8]) -> Result<Option<Directive>, CheckFault>
     requires { start + length line.now ≤ 2 ^ 30 }
-    ensures { result ≡ line_reading number start line.now }
+    ensures value { result ≡ line_reading number start line.now }
+    ensures within { IfOk result (λ found. IfSome found (EndsBy (start + length line.now))) }
 {
     match decide(line) {
         None => Ok(None),
@@ -38,7 +39,8 @@ fn checked(
 ) -> Result<Option<Directive>, CheckFault>
     requires fits { start + length line.now ≤ 2 ^ 30 }
     requires within { head + CHECK_LEN ≤ length line.now }
-    ensures { result ≡ checked_line number start line.now head }
+    ensures value { result ≡ checked_line number start line.now head }
+    ensures within { IfOk result (λ found. IfSome found (EndsBy (start + length line.now))) }
 {
     let from = body_start(line, head + CHECK_LEN);
     let rest = &line[from..];
@@ -54,7 +56,8 @@ fn checked(
 fn plain(number: u32, start: usize, head: usize, from: usize, count: usize) -> Directive
     requires below { head < 2 ^ 30 }
     requires fits { start + from + count ≤ 2 ^ 30 }
-    ensures { result ≡ plain_directive number start head from count }
+    ensures value { result ≡ plain_directive number start head from count }
+    ensures within { EndsBy (start + from + count) result }
 {
     Directive {
         line: number,

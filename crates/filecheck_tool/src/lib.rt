@@ -1,0 +1,6 @@
+//! FileCheck as one call over objects that are handed in: words, files, an input, and two streams.
+//! After LLVM Command Guide, FileCheck. The program `filecheck` stands above.
+#![tactic(auto)]
+
+mod message;
+mod words;
