@@ -1,2 +1,5 @@
+pub mod Answer
 pub mod Messages
+pub mod Scan
+pub mod Sound
 pub mod Words

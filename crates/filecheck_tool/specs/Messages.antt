@@ -12,7 +12,7 @@ newline = 10 ∷ []
 abbrev pub placed : List ℕ → Place → List ℕ → List ℕ → List ℕ
 placed name place what line =
     name ++ codes ":" ++ decimal place.line ++ codes ":" ++ decimal place.col ++ codes ": " ++ what ++ newline
-      ++ line ++ newline ++ replicate (place.col - 1) 32 ++ codes "^" ++ newline
+    ++ line ++ newline ++ replicate (place.col - 1) 32 ++ codes "^" ++ newline
 
 -- a message that is told of no place, about a name between two texts
 abbrev pub unplaced : List ℕ → List ℕ → List ℕ → List ℕ

@@ -1,7 +1,7 @@
 -- What the words of the command line ask for.
 -- After LLVM Command Guide, FileCheck: one check file, and options that begin with a dash. Own rule: no option is built yet,
 -- and the first one is refused before the plain words are counted.
-use Rattle.std.specs.Prelude.{ℕ, ◌<◌, ⊤, Bool, ◌==◌, ◌&&◌, not, if◌then◌else◌, List, length, map, String, string_bytes, Option, Some, None, codes}
+use Rattle.std.specs.Prelude.{ℕ, ◌<◌, ⊤, Bool, ◌==◌, ◌&&◌, not, if◌then◌else◌, List, length, slice_index_or, [], map, String, string_bytes, Option, Some, None, codes}
 use Rattle.std.specs.declared.alloc.Global.{Global}
 use Rattle.std.specs.List.{position_from}
 use Rattle.std.specs.Str.{bytes_eq}
@@ -16,6 +16,10 @@ texts words = map string_bytes words
 -- whether a word is an option: it begins with `-`, and isn't `-` alone
 abbrev pub is_option : List ℕ → Bool
 is_option word = begins_with word (codes "-") && not (bytes_eq word (codes "-"))
+
+-- the word at an index
+abbrev pub word_at : List (List ℕ) → ℕ → List ℕ
+word_at words at = slice_index_or words at []
 
 -- what is asked for: the word that names the check file, or the first refusal
 abbrev pub settings_from : Option ℕ → ℕ → Settings

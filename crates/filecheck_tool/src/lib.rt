@@ -2,5 +2,11 @@
 //! After LLVM Command Guide, FileCheck. The program `filecheck` stands above.
 #![tactic(auto)]
 
+mod answer;
+mod checked;
+mod line;
 mod message;
+mod reading;
+mod scan;
+mod verdict;
 mod words;

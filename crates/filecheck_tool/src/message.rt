@@ -7,7 +7,13 @@ use std::alloc::Global;
 use tt_base::{Bytes, NoMemory, Place};
 
 /// A message at a place of a text: what is told there, and the text of the line.
-pub fn placed(alloc: Global, name: &[u8], place: Place, what: &[u8], line: &[u8]) -> Result<Bytes, NoMemory>
+pub fn placed(
+    alloc: Global,
+    name: &[u8],
+    place: Place,
+    what: &[u8],
+    line: &[u8],
+) -> Result<Bytes, NoMemory>
     ensures { IfOk result (λ message. message ≡ placed name.now place what.now line.now) }
 {
     let mut message = Bytes::from_slice(alloc, name)?;

@@ -1,7 +1,7 @@
 //! What the words of the command line ask for.
 ghost use Rattle.std.specs.Prelude.{◌≡◌, ◌<◌, IfSome, length, string_bytes};
 ghost use Rattle.std.specs.List.{position_from};
-ghost use Rattle.filecheck_tool.specs.Words.{WordsHold, is_option, settings_of, texts};
+ghost use Rattle.filecheck_tool.specs.Words.{WordsHold, is_option, settings_of, texts, word_at};
 
 /// What is asked for. A word is told by its index.
 #[derive(Clone, Copy, Debug, PartialEq, Eq)]
@@ -39,4 +39,13 @@ fn is_option(word: &str) -> bool
     ensures { result ≡ is_option word.now }
 {
     word.starts_with("-") && word != "-"
+}
+
+/// A word.
+#[tactic(auto, using(crate::proofs::WordsLemmas::word_at_texts, crate::proofs::WordsLemmas::length_texts))]
+pub fn word(words: &[String], at: usize) -> &str
+    requires { at < length (texts words.now) }
+    ensures { result.now ≡ word_at (texts words.now) at }
+{
+    words[at].as_str()
 }
