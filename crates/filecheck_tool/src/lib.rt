@@ -7,6 +7,13 @@ mod checked;
 mod line;
 mod message;
 mod reading;
+mod run;
 mod scan;
 mod verdict;
 mod words;
+
+pub use answer::Answer;
+pub use checked::{Checked, Program};
+pub use reading::Reading;
+pub use run::{CHECK_LIMIT, INPUT_LIMIT, filecheck_run};
+pub use words::Settings;
