@@ -27,7 +27,7 @@ pub enum TakeFault {
 const PIECE: u64 = 65536;
 
 /// Takes all bytes of a source to its end, if they are at most `limit`.
-#[tactic(auto, using(crate::proofs::Known::consumes_none, crate::proofs::Known::consumes_more, crate::proofs::Known::consumes_kept))]
+#[tactic(auto, using(crate::proofs::Known::takings))]
 pub fn take_all<S: Source>(alloc: Global, src: &mut S, limit: u64) -> Result<Bytes, TakeFault>
     requires small { limit < 2 ^ 62 }
     ensures whole { IfOk result (λ bytes. Consumes (S.left src.old) (S.left src.new) bytes

@@ -1,7 +1,7 @@
 //! The system's files.
 ghost use Rattle.std.specs.Prelude.{◌≡◌, ◌<◌, ◌≤◌, ℕ, Err, IfErr, IfOk, None, length};
 ghost use Rattle.std.specs.IoError.{error_kind};
-ghost use Rattle.tt_real.specs.Meaning.{IsPlain, meaning_of};
+ghost use Rattle.tt_real.specs.Meaning.{GivesRest, IsPlain, meaning_of};
 ghost use Rattle.tt_real.specs.Real.{file_faults};
 
 use std::alloc::Global;
@@ -53,8 +53,7 @@ fn fault_of(error: &Error) -> FilesFault
     }
 }
 
-/// Reads a file of at most `limit` bytes. A file that grows, or whose size isn't known before, is given up behind
-/// the limit: `size` is then what was read of it.
+/// Reads a file of at most `limit` bytes.
 fn read_whole<R: rt::Files>(
     rt: &R,
     alloc: Global,
@@ -68,13 +67,29 @@ fn read_whole<R: rt::Files>(
         Ok(file) => file,
         Err(error) => return Err(fault_of(&error)),
     };
-    let size = match known_size(&file) {
-        Ok(size) => size,
-        Err(fault) => return Err(fault),
-    };
-    if size > limit {
-        return Err(FilesFault::TooLarge { size });
+    match known_size(&file) {
+        Ok(size) => {
+            if size > limit {
+                return Err(FilesFault::TooLarge { size });
+            }
+            read_to_end(alloc, file, size, limit)
+        }
+        Err(fault) => Err(fault),
     }
+}
+
+/// Reads to the end, if there are at most `limit` bytes, into room for `size`. A file that grows, or
+/// whose size wasn't known before, is given up behind the limit: its size is then what was read of it.
+fn read_to_end<F: Read + Drop>(
+    alloc: Global,
+    file: F,
+    size: u64,
+    limit: u64,
+) -> Result<Bytes, FilesFault>
+    ensures gives { GivesRest (F.remaining file) limit result }
+    ensures within { IfOk result (λ bytes. length bytes ≤ limit) }
+    ensures too_large { (size : ℕ) → result ≡ Err (FilesFault.TooLarge size) → limit < size }
+{
     let Ok(mut bytes) = Vec::with_capacity(alloc, size.saturating_add(1) as usize) else {
         return Err(FilesFault::NoMemory);
     };

@@ -1,5 +1,5 @@
-//! The trusted edge: the system's streams and files as the sources, sinks and files of `tt_outside`. What the system
-//! does is trusted; each error of it is a fault that is counted, and nothing is told of the bytes.
+//! The trusted edge: the system's streams and files as the sources, sinks and files of `tt_outside`. What the
+//! system does is trusted; each error of it is a fault that is counted, and nothing is told of the bytes.
 #![tactic(auto)]
 
 mod files;
