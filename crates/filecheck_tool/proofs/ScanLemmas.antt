@@ -1,8 +1,7 @@
 -- Scanning, directive by directive.
-use Rattle.std.proofs.Common.{◌≡◌, ℕ, suc, ◌+◌, ◌<◌, ◌≤◌, List, [], ◌∷◌, Option, Some, None, length, get_or, drop, sym, ◌∙◌, ap, drop-cons, add-one}
+use Rattle.std.proofs.Common.{◌≡◌, ℕ, suc, ◌+◌, ◌<◌, ◌≤◌, List, ◌∷◌, Some, None, length, get_or, drop, sym, ◌∙◌, ap, drop-cons, add-one}
 use Rattle.std.proofs.lemmas.List.{drop_all}
 use Rattle.check_lines.specs.declared.directive.Directive.{Directive}
-use Rattle.filecheck_tool.specs.declared.scan.Unfound.{Unfound}
 use Rattle.filecheck_tool.specs.Scan.{body_of, found_at, scanned, scanned_behind}
 
 module _ (checks input : List ℕ) (directives : List Directive) (index : ℕ) (from : ℕ) where

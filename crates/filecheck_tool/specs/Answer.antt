@@ -2,7 +2,7 @@
 -- streams and the status.
 -- After LLVM Command Guide, FileCheck: 0 where the input matches, 1 where it doesn't. Own rules: the texts, the statuses 2 for a
 -- refusal and 3 for a fault of reading, and that the first refusal alone is told, in the order of the cases below.
-use Rattle.std.specs.Prelude.{ℕ, ◌-◌, false, List, [], ◌∷◌, ◌++◌, length, take, drop, slice_index_or, codes, Option, Some, None, Result, Ok, Err}
+use Rattle.std.specs.Prelude.{ℕ, ◌-◌, false, List, [], ◌∷◌, ◌++◌, take, drop, slice_index_or, codes, Option, Some, None, Result, Ok, Err}
 use Rattle.std.specs.List.{slice_split}
 use Rattle.tt_base.specs.declared.place.Place.{Place}
 use Rattle.tt_base.specs.Place.{is_newline, line_end, line_start, place_at}

@@ -1,7 +1,7 @@
 -- What a run of FileCheck does to the objects that it is given.
 -- Own rule: the check file is read where the words name one, the input where the check file was accepted, and the answer is
 -- written to out and then to err. A fault of out is told on err; after a fault of a stream nothing more is written to it.
-use Rattle.std.specs.Prelude.{◌≡◌, ◌×◌, ◌⊎◌, ℕ, ◌+◌, ◌<◌, ◌≤◌, List, [], ◌++◌, length, Option, Result, Ok, Err, codes, ⊤}
+use Rattle.std.specs.Prelude.{◌≡◌, ◌⊎◌, ℕ, ◌+◌, ◌<◌, ◌≤◌, List, [], ◌++◌, length, Option, Ok, Err, codes}
 use Rattle.std.specs.Io.KnownBytes.{Appends, Consumes, IsAtEnd}
 use Rattle.tt_outside.specs.Faults.{Rose}
 use Rattle.tt_outside.specs.GivesFile.{GivesFile}
@@ -72,5 +72,5 @@ Stopped s bytes = AppendsPart s.old s.new bytes × Rose s.before s.now × (s.roo
 abbrev pub Written : Answer → ℕ → Stream → Stream → Type 0
 Written answer status out err =
     ((status ≡ answer.status) × Appends out.old out.new answer.out × Appends err.old err.new answer.err)
-      ⊎ ((status ≡ 3) × Stopped out answer.out × AppendsFront err.old err.new cannot_write)
-      ⊎ ((status ≡ 3) × Appends out.old out.new answer.out × Stopped err answer.err)
+    ⊎ ((status ≡ 3) × Stopped out answer.out × AppendsFront err.old err.new cannot_write)
+    ⊎ ((status ≡ 3) × Appends out.old out.new answer.out × Stopped err answer.err)

@@ -35,12 +35,12 @@ pub fn filecheck_run<F: Files, I: Source, O: Sink, E: Sink>(
 ) -> u8
     ensures answer { result ≢ 4 → (file : Reading) × (read : Reading)
         × FileUsed (F.held files.old) (F.steady files.old) (F.faults files.old) (F.faults files.new) CHECK_LIMIT
-            (texts words.now) (settings_of (texts words.now)) file
+        (texts words.now) (settings_of (texts words.now)) file
         × InputUsed (I.left input.old) (I.left input.new) (I.steady input.old) (I.faults input.old) (I.faults input.new) INPUT_LIMIT
-            (checked_words (texts words.now) file) read
+        (checked_words (texts words.now) file) read
         × Written (answer (texts words.now) file read) result
-            (stream (O.held out.old) (O.held out.new) (O.faults out.old) (O.faults out.new) (O.room out.old))
-            (stream (E.held err.old) (E.held err.new) (E.faults err.old) (E.faults err.new) (E.room err.old)) }
+        (stream (O.held out.old) (O.held out.new) (O.faults out.old) (O.faults out.new) (O.room out.old))
+        (stream (E.held err.old) (E.held err.new) (E.faults err.old) (E.faults err.new) (E.room err.old)) }
     ensures fault { result ≡ 3 → Rose (F.faults files.old) (F.faults files.new) ⊎ Rose (I.faults input.old) (I.faults input.new)
         ⊎ Rose (O.faults out.old) (O.faults out.new) ⊎ Rose (E.faults err.old) (E.faults err.new) }
     ensures memory { result ≡ 4 → (O.held out.new ≡ O.held out.old)
@@ -64,7 +64,12 @@ pub fn filecheck_run<F: Files, I: Source, O: Sink, E: Sink>(
 }
 
 /// What reading the check file gave, where the words name one.
-fn read_file<F: Files>(alloc: Global, words: &[String], settings: Settings, files: &mut F) -> Result<Reading, NoMemory>
+fn read_file<F: Files>(
+    alloc: Global,
+    words: &[String],
+    settings: Settings,
+    files: &mut F,
+) -> Result<Reading, NoMemory>
     requires { WordsHold (texts words.now) settings }
     ensures used { IfOk result (FileUsed (F.held files.old) (F.steady files.old) (F.faults files.old) (F.faults files.new) CHECK_LIMIT
         (texts words.now) settings) }
@@ -83,7 +88,11 @@ fn read_file<F: Files>(alloc: Global, words: &[String], settings: Settings, file
 }
 
 /// What reading the input gave, where the check file was accepted.
-fn read_input<I: Source>(alloc: Global, checked: &Checked, input: &mut I) -> Result<Reading, NoMemory>
+fn read_input<I: Source>(
+    alloc: Global,
+    checked: &Checked,
+    input: &mut I,
+) -> Result<Reading, NoMemory>
     ensures used { IfOk result (InputUsed (I.left input.old) (I.left input.new) (I.steady input.old) (I.faults input.old)
         (I.faults input.new) INPUT_LIMIT checked.now) }
     ensures small { IfOk result IsShort }

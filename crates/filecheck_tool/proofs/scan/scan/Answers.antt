@@ -1,4 +1,4 @@
-use Rattle.std.proofs.Common.{◌∙◌, sym}
+use Rattle.std.proofs.Common.{◌∙◌}
 use Rattle.filecheck_tool.proofs.ScanLemmas.{scanned_unfound, scanned_found, scanned_all}
 use Rattle.filecheck_tool.proofs.scan.scan.Goals as goal
 
