@@ -1,0 +1,138 @@
+#!/usr/bin/env python3
+"""Times filecheck, and LLVM's FileCheck beside it where that is installed.
+
+    benches/filecheck.py [--mib N] [--rounds N] [PROGRAM]
+
+PROGRAM is the program to time; without it, the one that ./run builds. In each round the two programs run in
+alternation on the same files. Time is wall time, the best of the rounds; memory is the greatest resident set.
+"""
+import argparse
+import glob
+import os
+import shutil
+import subprocess
+import sys
+import tempfile
+import time
+
+TOP = os.path.dirname(os.path.dirname(os.path.realpath(__file__)))
+MIB = 1 << 20
+NEEDLE = "call frame_of_the_needle"
+LINES = [
+    "\t.globl\tfunction_{k}\n",
+    "function_{k}:                           # @function_{k}\n",
+    "\tpushq\t%rbp\n",
+    "\tmovq\t%rsp, %rbp\n",
+    "\tmovl\t${k}, -{k}(%rbp)\n",
+    "\tcallq\thelper_{k}@PLT\n",
+    "\taddl\t-{k}(%rbp), %eax\n",
+    "\tpopq\t%rbp\n",
+    "\tretq\n",
+    "  %{k} = add nsw i32 %{k}, 1, !dbg !{k}\n",
+]
+
+
+def write_input(path, size, with_needle):
+    """Compiler-like text of `size` bytes; its last line may hold the needle."""
+    last = ("\t" + NEEDLE.replace(" ", "\t", 1) + "\n" if with_needle else "").encode()
+    left, k = size - len(last), 0
+    with open(path, "wb") as out:
+        while left > 0:
+            block = "".join(LINES).replace("{k}", str(k % 100000)).encode()[:left]
+            out.write(block)
+            left, k = left - len(block), k + 1
+        out.write(last)
+
+
+def write_many(checks, text, count):
+    """As many directives as lines, each found on the next line."""
+    with open(checks, "w") as out, open(text, "w") as lines:
+        for k in range(count):
+            out.write(f"; CHECK: op {k} value {k * k % 997}\n")
+            lines.write(f"\top\t{k}\tvalue {k * k % 997}\n")
+
+
+def other_programs():
+    """LLVM's FileCheck, by its name or in the folder of the newest LLVM."""
+    named = [shutil.which("FileCheck"), shutil.which("FileCheck-14")]
+    return [path for path in named + sorted(glob.glob("/usr/lib/llvm-*/bin/FileCheck"), reverse=True) if path]
+
+
+def run_once(command, text, status):
+    """The wall time of one run in seconds."""
+    with open(text, "rb") as source:
+        begun = time.perf_counter()
+        ended = subprocess.run(command, stdin=source, stdout=subprocess.DEVNULL, stderr=subprocess.DEVNULL)
+        took = time.perf_counter() - begun
+    if ended.returncode != status:
+        sys.exit(f"{command[0]}: status {ended.returncode} on {text}, not {status}")
+    return took
+
+
+def peak(command, text):
+    """The greatest resident set of one run in KiB, by GNU time; None where that isn't installed."""
+    if not os.path.exists("/usr/bin/time"):
+        return None
+    with tempfile.NamedTemporaryFile("r") as told, open(text, "rb") as source:
+        subprocess.run(["/usr/bin/time", "-q", "-f", "%M", "-o", told.name] + command,
+                       stdin=source, stdout=subprocess.DEVNULL, stderr=subprocess.DEVNULL)
+        return int(told.read().split()[-1])
+
+
+def row(title, commands, text, status, rounds):
+    """Runs a case by all programs in alternation, and prints its row."""
+    best = [float("inf")] * len(commands)
+    for _ in range(rounds):
+        for which, command in enumerate(commands):
+            best[which] = min(best[which], run_once(command, text, status))
+    memory = [peak(command, text) for command in commands]
+    cells = [title]
+    for seconds, kib in zip(best, memory):
+        cells += [f"{seconds * 1000:.1f} ms", "?" if kib is None else f"{kib / 1024:.1f} MiB"]
+    if len(commands) == 2:
+        cells.append(f"{best[0] / best[1]:.2f}")
+        cells.append("?" if None in memory else f"{memory[0] / memory[1]:.2f}")
+    print("| " + " | ".join(cells) + " |", flush=True)
+
+
+def main():
+    wants = argparse.ArgumentParser(description="Times filecheck beside LLVM's FileCheck.")
+    wants.add_argument("--mib", type=int, default=60, help="size of the large inputs (60)")
+    wants.add_argument("--rounds", type=int, default=5, help="runs of a case, of which the best counts (5)")
+    wants.add_argument("program", nargs="?", help="the program to time")
+    given = wants.parse_args()
+    ours = given.program
+    if ours is None:
+        built = subprocess.run([os.path.join(TOP, "run"), "--build", "filecheck"], stdout=subprocess.PIPE, text=True)
+        if built.returncode != 0:
+            sys.exit(built.returncode)
+        ours = built.stdout.strip()
+    os.environ.pop("FILECHECK_OPTS", None)
+    others = other_programs()[:1]
+    if others:
+        told = subprocess.run([others[0], "--version"], stdout=subprocess.PIPE, text=True).stdout.split("\n")
+        print(f"Beside {others[0]}: " + next((line.strip() for line in told if "version" in line), "version unknown"))
+        print("\n| case | ours | memory | LLVM | memory | time, ours / LLVM | memory, ours / LLVM |")
+        print("|---|---|---|---|---|---|---|")
+    else:
+        print("LLVM's FileCheck isn't installed.\n\n| case | ours | memory |\n|---|---|---|")
+
+    with tempfile.TemporaryDirectory() as folder:
+        at = lambda name: os.path.join(folder, name)
+        with open(at("checks"), "w") as out:
+            out.write(f"; CHECK: {NEEDLE}\n")
+        commands = lambda checks: [[ours, at(checks)]] + [[other, "--dump-input=never", at(checks)] for other in others]
+
+        write_input(at("nowhere"), given.mib * MIB, False)
+        row(f"{given.mib} MiB, found nowhere", commands("checks"), at("nowhere"), 1, given.rounds)
+        os.remove(at("nowhere"))
+        for mib in (given.mib, given.mib // 2, given.mib // 4):
+            write_input(at("end"), mib * MIB, True)
+            row(f"{mib} MiB, found at the end", commands("checks"), at("end"), 0, given.rounds)
+        write_many(at("many checks"), at("many lines"), 50000)
+        row("50,000 directives on 50,000 lines", commands("many checks"), at("many lines"), 0, given.rounds)
+        write_input(at("tiny"), 64, True)
+        row("a tiny file, best of 300", commands("checks"), at("tiny"), 0, 300)
+
+
+main()
