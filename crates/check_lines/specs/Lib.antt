@@ -1,3 +1,4 @@
 pub mod Canon
+pub mod CanonMade
 pub mod Checks
 pub mod Decision

@@ -1,12 +1,12 @@
 //! The form in which a check file and an input are compared.
-ghost use Rattle.std.specs.Prelude.{◌≡◌, ◌==◌, ◌≤◌, ◌<◌, ◌+◌, ◌-◌, ◌++◌, ℕ, Bool, List, IsTrue, Some, IfOk, IsSome, drop, length, take};
-ghost use Rattle.std.specs.Option.{option_to_list};
-ghost use Rattle.check_lines.specs.Canon.{begins_with_newline, behind_at, canonical, canonical_from, is_blank, kept_byte};
+ghost use Rattle.std.specs.Prelude.{◌≡◌, ◌≤◌, ◌+◌, ◌++◌, ℕ, List, IfOk, IfSome, IsTrue, None, Some, if◌then◌else◌, drop, length, map, take};
+ghost use Rattle.check_lines.specs.CanonMade.{whole_form};
+ghost use Rattle.check_lines.specs.Canon.{begins_with_newline, canonical, canonical_from, is_blank, kept_byte, shown_byte};
 
 use std::alloc::Global;
 use tt_base::{Bytes, NoMemory};
 
-/// How many bytes are looked at together, without a branch between them.
+/// How many bytes are looked at together.
 const CHUNK: usize = 16;
 
 /// The canonical form of a text. Offsets and places that are told later count in this text, not in the file.
@@ -28,117 +28,121 @@ pub fn canon_owned(bytes: Bytes, strict: bool) -> Bytes
     Bytes::from_vec(text)
 }
 
-/// Puts the canonical form of a text at its front, and answers how long it is.
+/// How far the canonical form has come: so many bytes of it stand at the front, and a blank was last read or not.
+#[derive(Clone, Copy)]
+struct Made {
+    done: usize,
+    behind_blank: bool,
+}
+
+/// Puts the canonical form of a text at its front, and answers how long it is. A chunk in which each byte is kept is
+/// moved as one; another is moved byte by byte.
 fn canon_front(text: &mut [u8], strict: bool) -> usize
     ensures { take result text.new ≡ canonical strict text.old }
 {
-    // The bytes before `done` are canonical; those from `from` to before `at` stay, and wait to be moved down as one.
-    let mut done = 0;
-    let mut from = 0;
+    let mut made = Made {
+        done: 0,
+        behind_blank: false,
+    };
     let mut at = 0;
-    let mut behind_blank = false;
-    while at < text.len() {
-        let passed = quiet_front(behind_blank, &text[at..]);
-        behind_blank = blank_at(behind_blank, &text[at..], passed);
-        at += passed;
-        if at < text.len() {
-            let byte = text[at];
-            let kept = kept_of(strict, behind_blank, byte, &text[at + 1..]);
-            done = move_down(text, done, from, at, kept);
-            behind_blank = blank(byte);
-            at += 1;
-            from = at;
-        }
-    }
-    move_down(text, done, from, at, None)
-}
-
-/// How many bytes at the front certainly stay as they are.
-fn quiet_front(behind_blank: bool, rest: &[u8]) -> usize
-    ensures within { result ≤ length rest.now }
-    ensures stay { (strict : Bool) → canonical_from strict behind_blank rest.now
-        ≡ take result rest.now ++ canonical_from strict (behind_at behind_blank rest.now result) (drop result rest.now) }
-{
-    let mut at = 0;
-    let mut behind = behind_blank;
-    while rest.len() - at >= CHUNK {
-        let mut all_stay = true;
-        let mut last = behind;
-        for k in at..at + CHUNK {
-            let byte = rest[k];
-            all_stay &= stays(last, byte);
-            last = byte == b' ';
-        }
-        if !all_stay {
-            break;
-        }
-        behind = last;
+    while text.len() - at >= CHUNK {
+        made = match quiet_end(strict, made.behind_blank, &text[at..at + CHUNK]) {
+            Some(behind_blank) => Made {
+                done: move_chunk(text, strict, made.done, at),
+                behind_blank,
+            },
+            None => move_bytes(text, strict, made, at, at + CHUNK),
+        };
         at += CHUNK;
     }
-    while at < rest.len() {
-        let byte = rest[at];
-        if !stays(behind, byte) {
-            return at;
-        }
-        behind = byte == b' ';
-        at += 1;
-    }
-    at
+    let end = text.len();
+    move_bytes(text, strict, made, at, end).done
 }
 
-/// Whether a byte certainly stands for itself. There is no branch in it: most bytes do, and few tell beforehand.
-fn stays(behind_blank: bool, byte: u8) -> bool
-    ensures itself { IsTrue result → (strict : Bool) (rest : List ℕ) → kept_byte strict behind_blank byte rest ≡ Some byte }
-    ensures no_tab { IsTrue result → is_blank byte ≡ (byte == 32) }
+/// Whether each byte of a chunk is certainly kept, and then whether the last one is a blank. There is no branch between
+/// the bytes.
+fn quiet_end(strict: bool, behind_blank: bool, chunk: &[u8]) -> Option<bool>
+    requires { length chunk.now ≡ CHUNK }
+    ensures { IfSome result (λ last. (rest : List ℕ) → canonical_from strict behind_blank (chunk.now ++ rest)
+        ≡ map (shown_byte strict) chunk.now ++ canonical_from strict last rest) }
 {
-    (byte != b'\t') & (byte != b'\r') & ((byte != b' ') | !behind_blank)
+    let mut quiet = true;
+    let mut last = behind_blank;
+    for k in 0..CHUNK {
+        quiet &= is_surely_kept(strict, last, chunk[k]);
+        last = blank(chunk[k]);
+    }
+    if quiet { Some(last) } else { None }
 }
 
-/// Whether a blank stands before an offset.
-fn blank_at(behind_blank: bool, rest: &[u8], at: usize) -> bool
-    requires { at ≤ length rest.now }
-    ensures { result ≡ behind_at behind_blank rest.now at }
+/// Whether a byte is kept, whatever stands behind it.
+#[inline(always)]
+fn is_surely_kept(strict: bool, behind_blank: bool, byte: u8) -> bool
+    ensures { IsTrue result → (rest : List ℕ)
+        → kept_byte strict behind_blank byte rest ≡ Some (shown_byte strict byte) }
 {
-    if at == 0 {
-        behind_blank
-    } else {
-        blank(rest[at - 1])
+    (byte != b'\r') & (strict | !(behind_blank & blank(byte)))
+}
+
+/// Moves a chunk in which each byte is kept, and answers where it ends.
+fn move_chunk(text: &mut [u8], strict: bool, done: usize, at: usize) -> usize
+    requires below { done ≤ at }
+    requires within { at + CHUNK ≤ length text.old }
+    ensures end { result ≡ done + CHUNK }
+    ensures front { take (done + CHUNK) text.new
+        ≡ take done text.old ++ map (shown_byte strict) (take CHUNK (drop at text.old)) }
+    ensures rest { drop (at + CHUNK) text.new ≡ drop (at + CHUNK) text.old }
+{
+    let mut chunk = [0u8; CHUNK];
+    chunk.copy_from_slice(&text[at..at + CHUNK]);
+    show_all(&mut chunk, strict);
+    text[done..done + CHUNK].copy_from_slice(&chunk);
+    done + CHUNK
+}
+
+fn show_all(chunk: &mut [u8], strict: bool)
+    ensures { chunk.new ≡ map (shown_byte strict) chunk.old }
+{
+    for byte in chunk.iter_mut() {
+        *byte = shown(strict, *byte);
     }
 }
 
-/// Moves the bytes from `from` to before `at` down to `done`, and puts a byte behind them; answers where it ended.
-fn move_down(text: &mut [u8], done: usize, from: usize, at: usize, kept: Option<u8>) -> usize
-    requires below { done ≤ from }
-    requires ordered { from ≤ at }
-    requires within { at ≤ length text.old }
-    requires room { IsSome kept → at < length text.old }
-    ensures end { result ≡ done + (at - from) + length (option_to_list kept) }
-    ensures front { take result text.new
-        ≡ (take done text.old ++ take (at - from) (drop from text.old)) ++ option_to_list kept }
-    ensures rest { drop (at + 1) text.new ≡ drop (at + 1) text.old }
+/// Moves the bytes from `at` to before `end`. Each is written, and the next one goes over it where it isn't kept.
+fn move_bytes(text: &mut [u8], strict: bool, made: Made, at: usize, end: usize) -> Made
+    requires below { made.done ≤ at }
+    requires ordered { at ≤ end }
+    requires within { end ≤ length text.old }
+    ensures below { result.done ≤ end }
+    ensures same { whole_form strict text.new result end ≡ whole_form strict text.old made at }
 {
-    text.copy_within(from..at, done);
-    let end = done + (at - from);
-    match kept {
-        Some(byte) => {
-            text[end] = byte;
-            end + 1
-        }
-        None => end,
+    let mut done = made.done;
+    let mut behind_blank = made.behind_blank;
+    for k in at..end {
+        let byte = text[k];
+        let kept = is_kept(strict, behind_blank, byte, &text[k + 1..]);
+        text[done] = shown(strict, byte);
+        done += kept as usize;
+        behind_blank = blank(byte);
     }
+    Made { done, behind_blank }
 }
 
-/// What stands for one byte.
-fn kept_of(strict: bool, behind_blank: bool, byte: u8, rest: &[u8]) -> Option<u8>
-    ensures { result ≡ kept_byte strict behind_blank byte rest.now }
+/// Whether something stands for a byte.
+#[inline(always)]
+fn is_kept(strict: bool, behind_blank: bool, byte: u8, rest: &[u8]) -> bool
+    ensures { kept_byte strict behind_blank byte rest.now ≡ (if result then Some (shown_byte strict byte) else None) }
 {
-    if byte == b'\r' && starts_line_end(rest) {
-        None
-    } else if !strict && blank(byte) {
-        if behind_blank { None } else { Some(b' ') }
-    } else {
-        Some(byte)
-    }
+    let is_dropped = !strict & behind_blank & blank(byte);
+    !is_dropped & !(byte == b'\r' && starts_line_end(rest))
+}
+
+/// What stands for a byte that is kept.
+#[inline(always)]
+fn shown(strict: bool, byte: u8) -> u8
+    ensures { result ≡ shown_byte strict byte }
+{
+    if !strict & blank(byte) { b' ' } else { byte }
 }
 
 fn starts_line_end(rest: &[u8]) -> bool
@@ -151,8 +155,9 @@ fn starts_line_end(rest: &[u8]) -> bool
 }
 
 /// Whether a byte is a space or a tab.
+#[inline(always)]
 pub fn blank(byte: u8) -> bool
     ensures { result ≡ is_blank byte }
 {
-    byte == b' ' || byte == b'\t'
+    (byte == b' ') | (byte == b'\t')
 }

@@ -1,36 +1,35 @@
-use Rattle.std.proofs.Common.{rules, ap, length, ◌+◌, ◌≤◌, arith, length-drop}
-use Rattle.check_lines.proofs.CanonLemmas.{Done, done_passed, done_moved, done_all, rest_of}
+use Rattle.std.proofs.Common.{◌≡◌, ◌≤◌, ◌+◌, ◌-◌, ◌∙◌, ap, sym, append-nil, length, take, ◌++◌, arith}
+use Rattle.check_lines.specs.Canon.{canonical}
+use Rattle.check_lines.specs.CanonMade.{whole_form}
+use Rattle.check_lines.specs.declared.canonical.TheConstants.{CHUNK}
+use Rattle.check_lines.proofs.CanonLemmas.{moved_quiet, form_at_end}
 use Rattle.check_lines.proofs.canonical.canon_front.Goals as goal
+use Rattle.check_lines.proofs.canonical.canon_front.Goals.{in-Some, in-None}
 
-pub overflow_add-at : goal.overflow_add-at
-overflow_add-at c =
-    let long = ap length (rest_of c.loop-at.text c.loop-at.at) in
-    let inside : c.loop-at.at + c.quiet_front-passed.result ≤ length c.args.text.now =
-    omega (arith, long, length-drop c.loop-at.at c.loop-at.text) in
-    search rules
-
-pub loop-at-preserved : goal.loop-at-preserved
-loop-at-preserved c =
-    rw c.blank_at-behind_blank.ensures
-    (done_passed c.args.strict c.args.text.now c.loop-at.text c.loop-at.done c.loop-at.from c.loop-at.at c.loop-at.behind_blank
-    c.quiet_front-passed.result _ _ c.loop-at.invariant (rest_of c.loop-at.text c.loop-at.at) c.quiet_front-passed.ensures.within
-    (c.quiet_front-passed.ensures.stay c.args.strict))
-
-pub loop-at-preserved-then-at-text : goal.loop-at-preserved-then-at-text
-loop-at-preserved-then-at-text c =
-    let at = c.loop-at.at + c.quiet_front-passed.result in
-    let passed : Done c.args.strict c.args.text.now c.loop-at.text c.loop-at.done c.loop-at.from at c.blank_at-behind_blank.result =
-    rw c.blank_at-behind_blank.ensures
-    (done_passed c.args.strict c.args.text.now c.loop-at.text c.loop-at.done c.loop-at.from c.loop-at.at c.loop-at.behind_blank
-    c.quiet_front-passed.result _ _ c.loop-at.invariant (rest_of c.loop-at.text c.loop-at.at) c.quiet_front-passed.ensures.within
-    (c.quiet_front-passed.ensures.stay c.args.strict)) in
-    rw c.blank-behind_blank.ensures
-    (done_moved c.args.strict c.args.text.now c.loop-at.text c.move_down-done.new.text c.loop-at.done c.loop-at.from at c.move_down-done.result
-    c.blank_at-behind_blank.result c.kept_of-kept.result _ passed c.if-at-text.true c.kept_of-kept.ensures
-    (rest_of c.loop-at.text (at + 1)) c.move_down-done.auto.text c.move_down-done.ensures.end c.move_down-done.ensures.front
-    c.move_down-done.ensures.rest)
+pub loop-text-preserved : goal.loop-text-preserved
+loop-text-preserved c =
+    let at = c.loop-text.at in
+    let count : at + 16 - at ≡ CHUNK = omega arith in
+    elim c.match-quiet_end.branch [
+      in-Some w ↦ rw (w.text-is, w.made-is, w.move_chunk.ensures.end) (record {
+        long = w.move_chunk.auto.text ∙ c.loop-text.invariant.long;
+        below = omega (arith, c.loop-text.invariant.below);
+        within = omega (arith, w.move_chunk.auto.text, c.loop-text-test.true);
+        same = moved_quiet c.args.strict c.loop-text.text w.move_chunk.new.text c.loop-text.made.done at CHUNK _ c.loop-text.made.behind_blank
+          w.in-Some.behind_blank count w.in-Some.ensures w.move_chunk.ensures.front w.move_chunk.ensures.rest ∙ c.loop-text.invariant.same;
+      })
+    | in-None w ↦ rw (w.text-is, w.made-is) (record {
+        long = w.move_bytes-made.auto.text ∙ c.loop-text.invariant.long;
+        below = w.move_bytes-made.ensures.below;
+        within = omega (arith, w.move_bytes-made.auto.text, c.loop-text-test.true);
+        same = w.move_bytes-made.ensures.same ∙ c.loop-text.invariant.same;
+      })
+    ]
 
 pub returns : goal.returns
 returns c =
-    done_all c.args.strict c.args.text.now c.loop-at.text c.move_down.new.text c.loop-at.done c.loop-at.from c.loop-at.at c.move_down.result
-    c.loop-at.behind_blank c.loop-at.invariant c.loop-at-test.false c.move_down.ensures.front
+    let new = c.move_bytes.new.text in
+    let made = c.move_bytes.result in
+    let ends : length new ≤ length c.loop-text.text = omega (arith, c.move_bytes.auto.text) in
+    let nothing = form_at_end c.args.strict made.behind_blank new (length c.loop-text.text) ends in
+    sym (append-nil (take made.done new)) ∙ ap (λ l. take made.done new ++ l) (sym nothing) ∙ c.move_bytes.ensures.same ∙ c.loop-text.invariant.same

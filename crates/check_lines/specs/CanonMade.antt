@@ -1,0 +1,8 @@
+-- How far the canonical form of a text has come, in the text's own memory.
+use Rattle.std.specs.Prelude.{ℕ, Bool, List, ◌++◌, take, drop}
+use Rattle.check_lines.specs.Canon.{canonical_from}
+use Rattle.check_lines.specs.declared.canonical.Made.{Made}
+
+-- what is made at the front, and the form of what is left from an offset on
+abbrev pub whole_form : Bool → List ℕ → Made → ℕ → List ℕ
+whole_form strict text made at = take made.done text ++ canonical_from strict made.behind_blank (drop at text)
