@@ -9,6 +9,8 @@ mod directive;
 mod fault;
 mod line;
 #[cfg(test)]
+mod plain;
+#[cfg(test)]
 mod tests;
 
 pub use canonical::{canon, canon_owned};

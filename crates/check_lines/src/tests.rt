@@ -1,4 +1,6 @@
 //! Cases of the public calls with ample memory.
+use crate::decision::decide;
+use crate::plain::{plain_canon, plain_decision};
 use crate::{CheckFail, CheckFault, CheckKind, Directive, canon, canon_owned, read_checks};
 use std::test::Fail;
 use tt_base::{Bytes, Items, Place};
@@ -136,4 +138,66 @@ fn a_body_has_up_to_65536_bytes(rt: HostRuntime) -> Result<(), Fail> {
     let refused = read_checks(alloc, text.as_slice());
     assert!(rt; refused.is_err());
     Ok(())
+}
+
+#[test]
+fn the_fast_canon_is_the_plain_one(rt: HostRuntime) -> Result<(), Fail> {
+    let alloc = rt.alloc();
+    let alphabet = [b' ', b'\t', b'\r', b'\n', b'a'];
+    for length in 0..6 {
+        for number in 0..3125usize {
+            let mut text = [b' '; 5];
+            let mut left = number;
+            for at in 0..5 {
+                text[at] = alphabet[left % 5];
+                left /= 5;
+            }
+            for strict in [false, true] {
+                let want = plain_canon(alloc, &text[..length], strict)?;
+                let out = canon(alloc, &text[..length], strict)?;
+                assert_eq!(rt;
+                    out.as_slice(),
+                    want.as_slice(),
+                    "{text:?} up to {length}, strict {strict}"
+                );
+            }
+        }
+    }
+    Ok(())
+}
+
+#[test]
+fn the_fast_decision_is_the_plain_one(rt: HostRuntime) {
+    let parts = [
+        b"COM:".as_slice(),
+        b"RUN:",
+        b"CHECK:",
+        b"CHECK-",
+        b"CHECK{",
+        b"CHECK",
+        b"CHEC",
+        b"x",
+        b"-",
+        b" ",
+    ];
+    for first in parts {
+        for second in parts {
+            for third in parts {
+                let mut line = [b'.'; 18];
+                put(&mut line, 0, first);
+                put(&mut line, first.len(), second);
+                put(&mut line, first.len() + second.len(), third);
+                assert_eq!(rt; decide(&line), plain_decision(false, 0, &line), "{line:?}");
+            }
+        }
+    }
+}
+
+/// Writes a part into a line, as far as it fits.
+fn put(line: &mut [u8], from: usize, part: &[u8]) {
+    for (at, byte) in part.iter().enumerate() {
+        if at < line.len() && from < line.len() - at {
+            line[from + at] = *byte;
+        }
+    }
 }
