@@ -1,3 +1,4 @@
 pub mod CanonLemmas
 pub mod ChecksLemmas
+pub mod CutLemmas
 pub mod DecisionLemmas

@@ -1,3 +1,4 @@
 pub mod Canon
 pub mod Checks
+pub mod Cut
 pub mod Decision
