@@ -2,3 +2,4 @@ pub mod CanonLemmas
 pub mod ChecksLemmas
 pub mod CutLemmas
 pub mod DecisionLemmas
+pub mod PlainLemmas

@@ -1,6 +1,6 @@
 //! Cases of the public calls with ample memory.
 use crate::decision::decide;
-use crate::plain::{plain_canon, plain_decision};
+use crate::plain::{plain_canon, plain_checks, plain_decision};
 use crate::{CheckFail, CheckFault, CheckKind, Directive, canon, canon_owned, read_checks};
 use std::test::Fail;
 use tt_base::{Bytes, Items, Place};
@@ -198,6 +198,40 @@ fn put(line: &mut [u8], from: usize, part: &[u8]) {
     for (at, byte) in part.iter().enumerate() {
         if at < line.len() && from < line.len() - at {
             line[from + at] = *byte;
+        }
+    }
+}
+
+#[test]
+fn the_fast_reading_is_the_plain_one(rt: HostRuntime) {
+    let alloc = rt.alloc();
+    let lines = [
+        "",
+        "x",
+        "CHECK: a",
+        " b CHECK:b ",
+        "RUN: CHECK: c",
+        "CHECK-NEXT: d",
+        "CHECK:",
+        "MYCHECK: e",
+    ];
+    for first in lines {
+        for second in lines {
+            for third in lines {
+                let mut text = [b'\n'; 44];
+                put(&mut text, 0, first.as_bytes());
+                put(&mut text, first.len() + 1, second.as_bytes());
+                put(&mut text, first.len() + second.len() + 2, third.as_bytes());
+                match (read_checks(alloc, &text), plain_checks(alloc, &text)) {
+                    (Ok(read), Ok(want)) => assert_eq!(rt;
+                        read.as_slice(),
+                        want.as_slice(),
+                        "{text:?}"
+                    ),
+                    (Err(read), Err(want)) => assert_eq!(rt; read, want, "{text:?}"),
+                    _ => assert!(rt; false, "{text:?} is read by one alone"),
+                }
+            }
         }
     }
 }
