@@ -1,6 +1,6 @@
 -- Canonical text, said of a text as a whole.
--- After LLVM Command Guide, FileCheck, --strict-whitespace, as Canon.antt: a text is cut, in the only way there is, into
--- pairs `\r\n`, maximal runs of blanks, and other single bytes, and something stands for each piece.
+-- After LLVM Command Guide, FileCheck, --strict-whitespace, as Canon.antt: a text is cut, in the only way there is,
+-- into pairs `\r\n`, maximal runs of blanks, and other single bytes, and something stands for each piece.
 use Rattle.std.specs.Prelude.{◌≡◌, ⊤, ℕ, Bool, true, false, ◌==◌, ◌&&◌, if◌then◌else◌, List, [], ◌∷◌, ◌++◌, All}
 use Rattle.check_lines.specs.Canon.{begins_with_newline, is_blank}
 
@@ -16,7 +16,8 @@ bytes_of pair = 13 ∷ 10 ∷ []
 bytes_of (run first others) = first ∷ others
 bytes_of (single byte) = byte ∷ []
 
--- what stands for a piece: a newline for a pair, one space for a run (with `strict` the run itself), and another byte itself
+-- what stands for a piece: a newline for a pair; one space for a run, or with `strict` the run itself; and another
+-- byte itself
 abbrev pub stands_for : Bool → Piece → List ℕ
 stands_for strict pair = 10 ∷ []
 stands_for strict (run first others) = if strict then first ∷ others else 32 ∷ []
@@ -37,7 +38,8 @@ abbrev pub begins_with_blank : List ℕ → Bool
 begins_with_blank [] = false
 begins_with_blank (byte ∷ rest) = is_blank byte
 
--- a piece before the text behind it: a run is of blanks and maximal; another byte is no blank, and not the `\r` of a pair
+-- a piece before the text behind it: a run is of blanks and maximal; another byte is no blank, and not the `\r` of
+-- a pair
 abbrev pub IsPiece : Piece → List ℕ → Type 0
 IsPiece pair behind = ⊤
 IsPiece (run first others) behind =

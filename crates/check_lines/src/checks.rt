@@ -12,7 +12,9 @@ use tt_base::{Items, Place, line_of};
 /// The directives of a check file's canonical text, in line order.
 pub fn read_checks(alloc: Global, text: &[u8]) -> Result<Items<Directive>, CheckFail>
     requires { length text.now ≤ 2 ^ 30 }
-    ensures { MatchResult result (λ directives. checks_in text.now ≡ Ok directives) (λ fail. IsRefusalOf (checks_in text.now) fail) }
+    ensures { MatchResult result
+        (λ directives. checks_in text.now ≡ Ok directives)
+        (λ fail. IsRefusalOf (checks_in text.now) fail) }
 {
     let directives = read_lines(alloc, text)?;
     if directives.is_empty() {
@@ -24,7 +26,9 @@ pub fn read_checks(alloc: Global, text: &[u8]) -> Result<Items<Directive>, Check
 /// What all lines hold.
 fn read_lines(alloc: Global, text: &[u8]) -> Result<Items<Directive>, CheckFail>
     requires { length text.now ≤ 2 ^ 30 }
-    ensures { MatchResult result (λ directives. all_lines text.now ≡ Ok directives) (λ fail. IsRefusalOf (all_lines text.now) fail) }
+    ensures { MatchResult result
+        (λ directives. all_lines text.now ≡ Ok directives)
+        (λ fail. IsRefusalOf (all_lines text.now) fail) }
 {
     let mut directives = Items::new(alloc);
     let mut number = 1;

@@ -1,4 +1,5 @@
-//! The slow programs: each computes its definition the plain way, and the tests compare the real ones with it.
+//! The slow programs: each computes its definition the plain way, and the tests compare the fast ones with
+//! it.
 ghost use Rattle.std.specs.Prelude.{◌≡◌, ◌++◌, ◌+◌, ◌<◌, ◌≤◌, ◌^◌, Ok, OnOk, IfOk, MatchResult, length};
 ghost use Rattle.std.specs.List.{position_or_len, slice_split};
 ghost use Rattle.tt_base.specs.Place.{is_newline};
@@ -80,7 +81,9 @@ pub fn plain_decision(behind_word: bool, at: usize, line: &[u8]) -> Option<Decis
 /// The directives of a check file's canonical text.
 pub fn plain_checks(alloc: Global, text: &[u8]) -> Result<Items<Directive>, CheckFail>
     requires { length text.now ≤ 2 ^ 30 }
-    ensures { MatchResult result (λ directives. checks_in text.now ≡ Ok directives) (λ fail. IsRefusalOf (checks_in text.now) fail) }
+    ensures { MatchResult result
+        (λ directives. checks_in text.now ≡ Ok directives)
+        (λ fail. IsRefusalOf (checks_in text.now) fail) }
 {
     let place = Place { line: 1, col: 1 };
     match plain_lines(alloc, 1, 0, text) {
@@ -137,7 +140,9 @@ fn plain_line_len(text: &[u8]) -> usize
 
 /// What a line holds, before what the later ones hold.
 fn in_front(one: Option<Directive>, later: Items<Directive>) -> Result<Items<Directive>, CheckFail>
-    ensures { MatchResult result (λ all. join_reading (Ok one) (Ok later) ≡ Ok all) (λ fail. IsRefusalOf (join_reading (Ok one) (Ok later)) fail) }
+    ensures { MatchResult result
+        (λ all. join_reading (Ok one) (Ok later) ≡ Ok all)
+        (λ fail. IsRefusalOf (join_reading (Ok one) (Ok later)) fail) }
 {
     match one {
         None => Ok(later),
