@@ -40,7 +40,8 @@ canonical_from-drop : (strict behind : Bool) (text : List ℕ) (at : ℕ) → at
     (canonical_from strict (is_blank (get_or text at 0)) (drop (at + 1) text))
 unfolding canonical_from
 canonical_from-drop strict behind text at within =
-    ap (canonical_from strict behind) (drop-cons text at 0 within ∙ ap (λ n. get_or text at 0 ∷ drop n text) (sym (add-one at)))
+    ap (canonical_from strict behind)
+    (drop-cons text at 0 within ∙ ap (λ n. get_or text at 0 ∷ drop n text) (sym (add-one at)))
 
 cons_option-append : (kept : Option ℕ) (rest : List ℕ) → cons_option kept rest ≡ option_to_list kept ++ rest
 cons_option-append None rest = refl
@@ -53,12 +54,14 @@ rest_of text at = take_all (length text - at) (drop at text) (omega (arith, leng
 -- the bytes so far stay as they are
 pub record Stays (behind : Bool) (text : List ℕ) (at : ℕ) (now : Bool) : Type 0 where
   pub behind_is : now ≡ behind_at behind text at
-  pub stay : (strict : Bool) → canonical_from strict behind text ≡ take at text ++ canonical_from strict now (drop at text)
+  pub stay : (strict : Bool)
+      → canonical_from strict behind text ≡ take at text ++ canonical_from strict now (drop at text)
 
 pub stays_none : (behind : Bool) (text : List ℕ) → Stays behind text 0 behind
 stays_none behind text = record { behind_is = refl; stay = λ strict. refl }
 
-pub stays_more : (behind : Bool) (text : List ℕ) (at : ℕ) (now after : Bool) → Stays behind text at now → at < length text
+pub stays_more : (behind : Bool) (text : List ℕ) (at : ℕ) (now after : Bool) → Stays behind text at now
+    → at < length text
     → ((strict : Bool) (rest : List ℕ) → kept_byte strict now (get_or text at 0) rest ≡ Some (get_or text at 0))
     → after ≡ is_blank (get_or text at 0)
     → Stays behind text (at + 1) after
@@ -70,7 +73,8 @@ stays_more behind text at now after stays inside itself is =
           let left = canonical_from strict after (drop (at + 1) text) in
           let here : canonical_from strict now (drop at text) ≡ byte ∷ left =
           canonical_from-drop strict now text at inside
-          ∙ ap (λ k. cons_option k (canonical_from strict (is_blank byte) (drop (at + 1) text))) (itself strict (drop (at + 1) text))
+          ∙ ap (λ k. cons_option k (canonical_from strict (is_blank byte) (drop (at + 1) text)))
+          (itself strict (drop (at + 1) text))
           ∙ ap (λ b. byte ∷ canonical_from strict b (drop (at + 1) text)) (sym is) in
           stays.stay strict ∙ ap (λ l. take at text ++ l) here ∙ sym (append_assoc (take at text) (byte ∷ []) left)
           ∙ ap (λ l. l ++ left) (sym (take_more text at 0 inside));
@@ -83,13 +87,15 @@ both_true false b h = cc
 -- the same, where a test so far and the test of the byte are one
 pub stays_while : (behind : Bool) (text : List ℕ) (at : ℕ) (now so_far test : Bool)
     → (so_far ≡ true → Stays behind text at now) → at < length text
-    → (IsTrue test → (strict : Bool) (rest : List ℕ) → kept_byte strict now (get_or text at 0) rest ≡ Some (get_or text at 0))
+    → (IsTrue test → (strict : Bool) (rest : List ℕ)
+    → kept_byte strict now (get_or text at 0) rest ≡ Some (get_or text at 0))
     → (IsTrue test → is_blank (get_or text at 0) ≡ eqb (get_or text at 0) 32)
     → so_far && test ≡ true → Stays behind text (at + 1) (eqb (get_or text at 0) 32)
 stays_while behind text at now so_far test stays inside itself no_tab both =
     let parts = both_true so_far test both in
     let passes : IsTrue test = parts.1 in
-    stays_more behind text at now (eqb (get_or text at 0) 32) (stays parts.0) inside (itself passes) (sym (no_tab passes))
+    stays_more behind text at now (eqb (get_or text at 0) 32) (stays parts.0) inside (itself passes)
+    (sym (no_tab passes))
 
 -- how far the form in place has come
 pub record Done (strict : Bool) (whole text : List ℕ) (done from at : ℕ) (behind : Bool) : Type 0 where
@@ -97,20 +103,24 @@ pub record Done (strict : Bool) (whole text : List ℕ) (done from at : ℕ) (be
   pub below : done ≤ from
   pub low : from ≤ at
   pub within : at ≤ length text
-  pub same : take done text ++ (part text from at ++ canonical_from strict behind (drop at text)) ≡ canonical strict whole
+  pub same : take done text ++ (part text from at ++ canonical_from strict behind (drop at text))
+      ≡ canonical strict whole
 
 pub done_none : (strict : Bool) (text : List ℕ) → Done strict text text 0 0 0 false
-done_none strict text = record { long = refl; below = omega arith; low = omega arith; within = omega arith; same = refl }
+done_none strict text =
+    record { long = refl; below = omega arith; low = omega arith; within = omega arith; same = refl }
 
 -- bytes that stay wait to be moved
-pub done_passed : (strict : Bool) (whole text : List ℕ) (done from at : ℕ) (behind : Bool) (n : ℕ) (now : Bool) (rest : List ℕ)
+pub done_passed : (strict : Bool) (whole text : List ℕ) (done from at : ℕ) (behind : Bool) (n : ℕ) (now : Bool)
+    (rest : List ℕ)
     → Done strict whole text done from at behind → rest ≡ drop at text → n ≤ length rest
     → canonical_from strict behind rest ≡ take n rest ++ canonical_from strict now (drop n rest)
     → Done strict whole text done from (at + n) now
 done_passed strict whole text done from at behind n now rest so_far is within stay =
     let long : length rest ≡ length text - at = ap length is ∙ length-drop at text in
     let left = canonical_from strict now (drop (at + n) text) in
-    let passed : canonical_from strict behind (drop at text) ≡ take n (drop at text) ++ canonical_from strict now (drop n (drop at text)) =
+    let passed : canonical_from strict behind (drop at text)
+    ≡ take n (drop at text) ++ canonical_from strict now (drop n (drop at text)) =
     subst (λ l. canonical_from strict behind l ≡ take n l ++ canonical_from strict now (drop n l)) is stay in
     let more : part text from (at + n) ++ left ≡ part text from at ++ canonical_from strict behind (drop at text) =
     ap (λ l. l ++ left) (part-more text from at n so_far.low)
@@ -130,23 +140,27 @@ at_most_one None = omega arith
 at_most_one (Some byte) = omega arith
 
 -- a byte that doesn't stay: what is kept of it stands behind what waited
-pub done_moved : (strict : Bool) (whole text moved : List ℕ) (done from at end : ℕ) (behind : Bool) (kept : Option ℕ) (rest : List ℕ)
+pub done_moved : (strict : Bool) (whole text moved : List ℕ) (done from at end : ℕ) (behind : Bool) (kept : Option ℕ)
+    (rest : List ℕ)
     → Done strict whole text done from at behind → at < length text
     → kept ≡ kept_byte strict behind (get_or text at 0) rest → rest ≡ drop (at + 1) text
     → length moved ≡ length text → end ≡ done + (at - from) + length (option_to_list kept)
     → take end moved ≡ (take done text ++ part text from at) ++ option_to_list kept
     → drop (at + 1) moved ≡ drop (at + 1) text
     → Done strict whole moved end (at + 1) (at + 1) (is_blank (get_or text at 0))
-done_moved strict whole text moved done from at end behind kept rest so_far inside kept_is rest_is long end_is front behind_it =
+done_moved strict whole text moved done from at end behind kept rest so_far inside kept_is rest_is long end_is front
+    behind_it =
     let byte = get_or text at 0 in
     let left = canonical_from strict (is_blank byte) (drop (at + 1) text) in
-    let is : kept_byte strict behind byte (drop (at + 1) text) ≡ kept = ap (kept_byte strict behind byte) (sym rest_is) ∙ sym kept_is in
+    let is : kept_byte strict behind byte (drop (at + 1) text) ≡ kept =
+    ap (kept_byte strict behind byte) (sym rest_is) ∙ sym kept_is in
     let here : canonical_from strict behind (drop at text) ≡ option_to_list kept ++ left =
     canonical_from-drop strict behind text at inside ∙ ap (λ k. cons_option k left) is ∙ cons_option-append kept left in
     let waiting : part moved (at + 1) (at + 1) ++ canonical_from strict (is_blank byte) (drop (at + 1) moved) ≡ left =
     ap (λ l. l ++ canonical_from strict (is_blank byte) (drop (at + 1) moved)) (part-none moved (at + 1))
     ∙ ap (canonical_from strict (is_blank byte)) behind_it in
-    let joined : ((take done text ++ part text from at) ++ option_to_list kept) ++ left ≡ take done text ++ (part text from at ++ (option_to_list kept ++ left)) =
+    let joined : ((take done text ++ part text from at) ++ option_to_list kept) ++ left
+    ≡ take done text ++ (part text from at ++ (option_to_list kept ++ left)) =
     simp append_assoc in
     record {
       long = long ∙ so_far.long;
@@ -164,7 +178,8 @@ pub done_all : (strict : Bool) (whole text moved : List ℕ) (done from at end :
     → take end moved ≡ canonical strict whole
 unfolding canonical_from
 done_all strict whole text moved done from at end behind so_far ends front =
-    let nothing : canonical_from strict behind (drop at text) ≡ [] = ap (canonical_from strict behind) (drop_all at text ends) in
+    let nothing : canonical_from strict behind (drop at text) ≡ [] =
+    ap (canonical_from strict behind) (drop_all at text ends) in
     front ∙ append-nil _ ∙ ap (λ l. take done text ++ l) (sym (append-nil (part text from at)))
     ∙ ap (λ l. take done text ++ (part text from at ++ l)) (sym nothing) ∙ so_far.same
 
@@ -175,7 +190,8 @@ pub put_front : (text : List ℕ) (done from at byte : ℕ) → done ≤ from �
 put_front text done from at byte below low inside =
     let n = at - from in
     let long : n ≤ length (drop from text) = omega (arith, length-drop from text) in
-    let same_length : length (paste text done (drop from text) n) ≡ length text = length-paste text done (drop from text) n (omega arith) long in
+    let same_length : length (paste text done (drop from text) n) ≡ length text =
+    length-paste text done (drop from text) n (omega arith) long in
     take-set_at (paste text done (drop from text) n) (done + n) (done + n + 1) byte refl (omega (arith, same_length))
     ∙ ap (λ l. l ++ byte ∷ []) (take-paste text done (drop from text) n (omega arith) long)
 

@@ -38,7 +38,8 @@ pub fn canon_owned(bytes: Bytes, strict: bool) -> Bytes
 fn canon_front(text: &mut [u8], strict: bool) -> usize
     ensures { take result text.new ≡ canonical strict text.old }
 {
-    // The bytes before `done` are canonical; those from `from` to before `at` stay, and wait to be moved down as one.
+    // The bytes before `done` are canonical; those from `from` to before `at` stay, and wait to be moved down
+    // as one.
     let mut done = 0;
     let mut from = 0;
     let mut at = 0;
@@ -63,7 +64,8 @@ fn canon_front(text: &mut [u8], strict: bool) -> usize
 fn quiet_front(behind_blank: bool, rest: &[u8]) -> usize
     ensures within { result ≤ length rest.now }
     ensures stay { (strict : Bool) → canonical_from strict behind_blank rest.now
-        ≡ take result rest.now ++ canonical_from strict (behind_at behind_blank rest.now result) (drop result rest.now) }
+        ≡ take result rest.now
+        ++ canonical_from strict (behind_at behind_blank rest.now result) (drop result rest.now) }
 {
     let mut at = 0;
     let mut behind = behind_blank;
@@ -92,9 +94,11 @@ fn quiet_front(behind_blank: bool, rest: &[u8]) -> usize
     at
 }
 
-/// Whether a byte certainly stands for itself. There is no branch in it: most bytes do, and few tell beforehand.
+/// Whether a byte certainly stands for itself. There is no branch in it: most bytes do, and few tell
+/// beforehand.
 fn stays(behind_blank: bool, byte: u8) -> bool
-    ensures itself { IsTrue result → (strict : Bool) (rest : List ℕ) → kept_byte strict behind_blank byte rest ≡ Some byte }
+    ensures itself { IsTrue result
+        → (strict : Bool) (rest : List ℕ) → kept_byte strict behind_blank byte rest ≡ Some byte }
     ensures no_tab { IsTrue result → is_blank byte ≡ (byte == 32) }
 {
     (byte != b'\t') & (byte != b'\r') & ((byte != b' ') | !behind_blank)
@@ -112,7 +116,8 @@ fn blank_at(behind_blank: bool, rest: &[u8], at: usize) -> bool
     }
 }
 
-/// Moves the bytes from `from` to before `at` down to `done`, and puts a byte behind them; answers where it ended.
+/// Moves the bytes from `from` to before `at` down to `done`, and puts a byte behind them; answers where it
+/// ended.
 fn move_down(text: &mut [u8], done: usize, from: usize, at: usize, kept: Option<u8>) -> usize
     requires below { done ≤ from }
     requires ordered { from ≤ at }

@@ -55,7 +55,8 @@ fn add_line(
     line: &[u8],
 ) -> Result<(), CheckFail>
     requires { start + length line.now ≤ 2 ^ 30 }
-    ensures ok { OnOk result (AddsLine directives.old directives.new (line_reading number start line.now)) }
+    ensures ok { OnOk result
+        (AddsLine directives.old directives.new (line_reading number start line.now)) }
     ensures err { IfErr result (λ fail. IsRefusalOf (line_reading number start line.now) fail) }
 {
     match read_line(number, start, line) {
