@@ -144,8 +144,9 @@ fn a_body_has_up_to_65536_bytes(rt: HostRuntime) -> Result<(), Fail> {
 fn the_fast_canon_is_the_plain_one(rt: HostRuntime) -> Result<(), Fail> {
     let alloc = rt.alloc();
     let alphabet = [b' ', b'\t', b'\r', b'\n', b'a'];
+    let texts_of = [1usize, 5, 25, 125, 625, 3125];
     for length in 0..6 {
-        for number in 0..3125usize {
+        for number in 0..texts_of[length] {
             let mut text = [b' '; 5];
             let mut left = number;
             for at in 0..5 {
