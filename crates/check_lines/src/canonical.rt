@@ -141,7 +141,7 @@ fn move_down(text: &mut [u8], done: usize, from: usize, at: usize, kept: Option<
 
 /// What stands for one byte.
 fn kept_of(strict: bool, behind_blank: bool, byte: u8, rest: &[u8]) -> Option<u8>
-    ensures { result ≡ kept_byte strict behind_blank byte rest.now }
+    ensures value { result ≡ kept_byte strict behind_blank byte rest.now }
 {
     if byte == b'\r' && starts_line_end(rest) {
         None

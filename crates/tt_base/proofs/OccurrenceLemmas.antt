@@ -2,7 +2,7 @@
 use Rattle.std.proofs.Common.{subst, ◌≡◌, ℕ, suc, ◌+◌, ◌-◌, ◌<◌, ◌≤◌, Bool, true, false, Option, None, Some, List, [], ◌∷◌, length, ◌⊎◌, inl, inr, add-one, refl, cond, drop-cons, ⊎_elim, get_or, take, drop, sym, ◌∙◌, ap, arith, length-drop}
 use Rattle.std.proofs.lemmas.List.{get_or-take, get_or-drop, length-take-le, length-take, take-take}
 use Rattle.std.proofs.lemmas.Grind.{same_number_lists}
-use Rattle.memchr.specs.Find.{OccursAt}
+use Rattle.memchr.specs.Find.{FindsNeedle, OccursAt}
 use Rattle.std.specs.Cmp.Lexicographic.{same_text, other_text}
 use Rattle.std.proofs.lemmas.Bool.{cases_lt}
 use Rattle.tt_base.specs.Occurrence.{StandsAt, IsFirstIn, begins_with, first_from}
@@ -43,6 +43,19 @@ module _ (text needle : List ℕ) (from to : ℕ) (ordered : from ≤ to) (withi
         slice_reads (at - from + j) (omega arith) ∙ same ∙ sym (stands_reads at j inside)
         ∙ ap (λ l. get_or l j 0) stands.1;
   }
+
+  -- what a search of the slice found, in the text
+  pub first_in_slice : (at : ℕ) → FindsNeedle (take (to - from) (drop from text)) needle 0 (Some at)
+      → IsFirstIn text needle from to (Some (from + at))
+  first_in_slice at found = (
+    omega arith,
+    stands_where_occurs at found.1,
+    λ before low high stands. found.0.before (before - from) (omega arith) (omega arith) (occurs_where_stands before low stands),
+  )
+
+  pub none_in_slice : FindsNeedle (take (to - from) (drop from text)) needle 0 None → IsFirstIn text needle from to None
+  none_in_slice found = λ at low high stands.
+      found (at - from) (omega arith) (omega (arith, length-slice)) (occurs_where_stands at low stands)
 
 module _ (text needle : List ℕ) (to : ℕ) (within : to ≤ length text) where
   begins_stands : (from : ℕ) (slice : List ℕ) → from ≤ to → slice ≡ take (to - from) (drop from text)

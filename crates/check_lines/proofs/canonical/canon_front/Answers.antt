@@ -32,7 +32,7 @@ loop-at-preserved-then-at-text c =
     rw c.blank-behind_blank.ensures
     (done_moved c.args.strict c.args.text.now c.loop-at.text c.move_down-done.new.text c.loop-at.done c.loop-at.from
     at c.move_down-done.result
-    c.blank_at-behind_blank.result c.kept_of-kept.result _ passed c.if-at-text.true c.kept_of-kept.ensures
+    c.blank_at-behind_blank.result c.kept_of-kept.result _ passed c.if-at-text.true c.kept_of-kept.ensures.value
     (rest_of c.loop-at.text (at + 1)) c.move_down-done.auto.text c.move_down-done.ensures.end
     c.move_down-done.ensures.front
     c.move_down-done.ensures.rest)
