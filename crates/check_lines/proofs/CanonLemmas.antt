@@ -9,7 +9,8 @@ use Rattle.std.proofs.lemmas.Grind.{take-set_at}
 use Rattle.std.proofs.Math.ListN.{set}
 use mir.Val.{bool_byte}
 use Rattle.std.specs.List.{cons_option}
-use Rattle.check_lines.specs.Canon.{canonical, canonical_from, is_blank, kept_byte, shown_byte}
+use Rattle.check_lines.specs.Canon.{canonical_from, is_blank, kept_byte}
+use Rattle.check_lines.specs.CanonMade.{shown_byte}
 
 -- what is left of a text, as the code slices it
 pub rest_of : (text : List ℕ) (at : ℕ) → take (length text - at) (drop at text) ≡ drop at text
@@ -19,7 +20,7 @@ rest_of text at = take_all (length text - at) (drop at text) (omega (arith, leng
 canonical_from-drop : (strict behind : Bool) (text : List ℕ) (at : ℕ) → at < length text
     → canonical_from strict behind (drop at text)
     ≡ cons_option (kept_byte strict behind (get_or text at 0) (drop (at + 1) text))
-      (canonical_from strict (is_blank (get_or text at 0)) (drop (at + 1) text))
+    (canonical_from strict (is_blank (get_or text at 0)) (drop (at + 1) text))
 unfolding canonical_from
 canonical_from-drop strict behind text at within =
     ap (canonical_from strict behind) (drop-cons text at 0 within ∙ ap (λ n. get_or text at 0 ∷ drop n text) (sym (add-one at)))
@@ -46,7 +47,7 @@ module _ (strict : Bool) (long : ℕ) (form text : List ℕ) (done at : ℕ) (be
   opened kept is =
       let later = canonical_from strict (is_blank (get_or text at 0)) (drop (at + 1) text) in
       canonical_from-drop strict behind text at inside
-        ∙ ap (λ o. cons_option o later) (ap (kept_byte strict behind (get_or text at 0)) (sym rest_is) ∙ is)
+      ∙ ap (λ o. cons_option o later) (ap (kept_byte strict behind (get_or text at 0)) (sym rest_is) ∙ is)
 
   -- a byte is written, and counts where it is kept
   pub done_next : (kept after : Bool) (shown : ℕ) → shown ≡ shown_byte strict (get_or text at 0) → after ≡ is_blank (get_or text at 0)
@@ -60,8 +61,8 @@ module _ (strict : Bool) (long : ℕ) (form text : List ℕ) (done at : ℕ) (be
         same_length = length-set _ _ _ ∙ so_far.same_length;
         below = omega (arith, so_far.below);
         same = rw after_is (ap (λ l. take (done + 1) (set text done shown) ++ l) (left shown) ∙ ap (λ l. l ++ later) written
-          ∙ append_assoc (take done text) (shown ∷ []) later ∙ ap (λ b. take done text ++ b ∷ later) shown_is
-          ∙ ap (λ l. take done text ++ l) (sym (opened _ kept_is)) ∙ so_far.same);
+            ∙ append_assoc (take done text) (shown ∷ []) later ∙ ap (λ b. take done text ++ b ∷ later) shown_is
+            ∙ ap (λ l. take done text ++ l) (sym (opened _ kept_is)) ∙ so_far.same);
       }
   done_next false after shown shown_is after_is kept_is =
       let later = canonical_from strict (is_blank (get_or text at 0)) (drop (at + 1) text) in
@@ -70,8 +71,8 @@ module _ (strict : Bool) (long : ℕ) (form text : List ℕ) (done at : ℕ) (be
         same_length = length-set _ _ _ ∙ so_far.same_length;
         below = omega (arith, so_far.below);
         same = rw after_is (ap (λ n. take n (set text done shown) ++ canonical_from strict (is_blank (get_or text at 0)) (drop (at + 1) (set text done shown))) count
-          ∙ ap (λ l. take done (set text done shown) ++ l) (left shown) ∙ ap (λ l. l ++ later) (take-set text done shown)
-          ∙ ap (λ l. take done text ++ l) (sym (opened _ kept_is)) ∙ so_far.same);
+            ∙ ap (λ l. take done (set text done shown) ++ l) (left shown) ∙ ap (λ l. l ++ later) (take-set text done shown)
+            ∙ ap (λ l. take done text ++ l) (sym (opened _ kept_is)) ∙ so_far.same);
       }
 
 -- at the end of a text nothing is left
@@ -99,10 +100,10 @@ quiet_next strict behind chunk k last so_far within kept = λ rest.
     let shown : map (shown_byte strict) (take (k + 1) chunk) ≡ map (shown_byte strict) (take k chunk) ++ shown_byte strict byte ∷ [] =
     ap (map (shown_byte strict)) (take_more chunk k 0 within) ∙ map-append (shown_byte strict) (take k chunk) (byte ∷ []) in
     so_far rest
-      ∙ ap (λ l. map (shown_byte strict) (take k chunk) ++ canonical_from strict last l) opened
-      ∙ ap (λ o. map (shown_byte strict) (take k chunk) ++ cons_option o (canonical_from strict (is_blank byte) left)) (kept left)
-      ∙ sym (append_assoc (map (shown_byte strict) (take k chunk)) (shown_byte strict byte ∷ []) (canonical_from strict (is_blank byte) left))
-      ∙ ap (λ l. l ++ canonical_from strict (is_blank byte) left) (sym shown)
+    ∙ ap (λ l. map (shown_byte strict) (take k chunk) ++ canonical_from strict last l) opened
+    ∙ ap (λ o. map (shown_byte strict) (take k chunk) ++ cons_option o (canonical_from strict (is_blank byte) left)) (kept left)
+    ∙ sym (append_assoc (map (shown_byte strict) (take k chunk)) (shown_byte strict byte ∷ []) (canonical_from strict (is_blank byte) left))
+    ∙ ap (λ l. l ++ canonical_from strict (is_blank byte) left) (sym shown)
 
 both_true : (a b : Bool) → a && b ≡ true → (a ≡ true) × (b ≡ true)
 both_true true b h = (refl, h)
@@ -122,7 +123,7 @@ pub quiet_all : (strict behind : Bool) (chunk : List ℕ) (k : ℕ) (last : Bool
     → (rest : List ℕ) → canonical_from strict behind (chunk ++ rest) ≡ map (shown_byte strict) chunk ++ canonical_from strict last rest
 quiet_all strict behind chunk k last so_far ends rest =
     so_far rest ∙ ap (λ l. map (shown_byte strict) l ++ canonical_from strict last (drop k chunk ++ rest)) (take_all k chunk ends)
-      ∙ ap (λ l. map (shown_byte strict) chunk ++ canonical_from strict last (l ++ rest)) (drop_all k chunk ends)
+    ∙ ap (λ l. map (shown_byte strict) chunk ++ canonical_from strict last (l ++ rest)) (drop_all k chunk ends)
 
 -- a byte of a chunk is shown where it stands
 pub shown_next : (f : ℕ → ℕ) (xs whole : List ℕ) (i b : ℕ) → i < length whole → length xs ≡ length whole
@@ -132,10 +133,9 @@ shown_next f xs whole i b within long front rest is =
     let here : i + 0 ≡ i = omega arith in
     let at : (l : List ℕ) → get_or (drop i l) 0 0 ≡ get_or l i 0 = λ l. get_or-drop i l 0 0 ∙ ap (λ k. get_or l k 0) here in
     let same : get_or xs i 0 ≡ get_or whole i 0 = sym (at xs) ∙ ap (λ l. get_or l 0 0) rest ∙ at whole in
-    let later : (l : List ℕ) → drop (i + 1) l ≡ drop 1 (drop i l) = λ l. sym (drop-drop 1 i l) in
-    (
+    let later : (l : List ℕ) → drop (i + 1) l ≡ drop 1 (drop i l) = λ l. sym (drop-drop 1 i l) in (
       take-set_at xs i (i + 1) b refl (omega arith) ∙ ap (λ l. l ++ b ∷ []) front ∙ ap (λ k. map f (take i whole) ++ k ∷ []) (is ∙ ap f same)
-        ∙ sym (ap (map f) (take_more whole i 0 within) ∙ map-append f (take i whole) (get_or whole i 0 ∷ [])),
+          ∙ sym (ap (map f) (take_more whole i 0 within) ∙ map-append f (take i whole) (get_or whole i 0 ∷ [])),
       drop-set-lt (i + 1) xs i b (omega arith) ∙ later xs ∙ ap (drop 1) rest ∙ sym (later whole),
     )
 
@@ -153,12 +153,12 @@ pub moved_rest : (text piece : List ℕ) (done at n k : ℕ) → done ≤ at →
     → drop (at + n) (put_mid done k text piece) ≡ drop (at + n) text
 moved_rest text piece done at n k below within long count =
     ap (drop (at + n)) (put_mid-paste done k text piece piece n refl (sym count) long)
-      ∙ paste_rest text piece done n (at + n) (omega arith) (omega arith) (omega arith)
+    ∙ paste_rest text piece done n (at + n) (omega arith) (omega arith) (omega arith)
 
 -- a quiet chunk was moved down
 pub moved_quiet : (strict : Bool) (text new : List ℕ) (done at n k : ℕ) (behind last : Bool) → k ≡ n
     → ((rest : List ℕ) → canonical_from strict behind (take k (drop at text) ++ rest)
-      ≡ map (shown_byte strict) (take k (drop at text)) ++ canonical_from strict last rest)
+    ≡ map (shown_byte strict) (take k (drop at text)) ++ canonical_from strict last rest)
     → take (done + n) new ≡ take done text ++ map (shown_byte strict) (take n (drop at text))
     → drop (at + n) new ≡ drop (at + n) text
     → take (done + n) new ++ canonical_from strict last (drop (at + n) new) ≡ take done text ++ canonical_from strict behind (drop at text)
@@ -166,11 +166,11 @@ moved_quiet strict text new done at n k behind last count quiet front rest =
     let left = drop (at + n) text in
     let cut : take k (drop at text) ++ left ≡ drop at text =
     ap (λ i. take i (drop at text) ++ left) count ∙ ap (λ l. take n (drop at text) ++ l) (sym (drop-drop n at text))
-      ∙ take-append-drop n (drop at text) in
+    ∙ take-append-drop n (drop at text) in
     let shown : map (shown_byte strict) (take k (drop at text)) ≡ map (shown_byte strict) (take n (drop at text)) =
     ap (λ i. map (shown_byte strict) (take i (drop at text))) count in
     let opened : canonical_from strict behind (drop at text) ≡ map (shown_byte strict) (take n (drop at text)) ++ canonical_from strict last left =
     ap (canonical_from strict behind) (sym cut) ∙ quiet left ∙ ap (λ l. l ++ canonical_from strict last left) shown in
     ap (λ l. take (done + n) new ++ canonical_from strict last l) rest ∙ ap (λ l. l ++ canonical_from strict last left) front
-      ∙ append_assoc (take done text) (map (shown_byte strict) (take n (drop at text))) (canonical_from strict last left)
-      ∙ ap (λ l. take done text ++ l) (sym opened)
+    ∙ append_assoc (take done text) (map (shown_byte strict) (take n (drop at text))) (canonical_from strict last left)
+    ∙ ap (λ l. take done text ++ l) (sym opened)

@@ -17,7 +17,7 @@ position_fits : (xs : List ℕ) → position_or_len is_newline xs ≤ length xs
 position_fits xs = prefix_len-le-length _ xs
 
 -- where the first line ends
-line_end_is : (text : List ℕ) (start : ℕ) → line_end text start ≡ start + position_or_len is_newline (drop start text)
+pub line_end_is : (text : List ℕ) (start : ℕ) → line_end text start ≡ start + position_or_len is_newline (drop start text)
 line_end_is text start =
     ap (λ n. start + n) (length-take-le (position_or_len is_newline (drop start text)) (drop start text) (position_fits (drop start text)))
 

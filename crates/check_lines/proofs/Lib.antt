@@ -1,3 +1,5 @@
 pub mod CanonLemmas
 pub mod ChecksLemmas
+pub mod CutLemmas
 pub mod DecisionLemmas
+pub mod PlainLemmas

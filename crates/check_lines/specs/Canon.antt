@@ -13,17 +13,13 @@ abbrev pub begins_with_newline : List ℕ → Bool
 begins_with_newline [] = false
 begins_with_newline (byte ∷ rest) = byte == 10
 
--- what stands for a byte that is kept: without `strict` a space for a blank, else the byte itself
-abbrev pub shown_byte : Bool → ℕ → ℕ
-shown_byte strict byte = if not strict && is_blank byte then 32 else byte
-
--- what stands for one byte, if anything: nothing for a `\r` before a newline, and without `strict` nothing for a blank
--- behind a blank
+-- what stands for one byte: nothing for a `\r` before a newline; without `strict` one space for the first blank of
+-- a run, and nothing for the others; else the byte itself
 abbrev pub kept_byte : Bool → Bool → ℕ → List ℕ → Option ℕ
 kept_byte strict behind_blank byte rest =
     if byte == 13 && begins_with_newline rest then None
-    else if not strict && behind_blank && is_blank byte then None
-    else Some (shown_byte strict byte)
+    else if not strict && is_blank byte then (if behind_blank then None else Some 32)
+    else Some byte
 
 -- the canonical form of a text, behind a blank or not
 unfoldable pub canonical_from : Bool → Bool → List ℕ → List ℕ

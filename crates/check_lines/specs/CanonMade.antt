@@ -1,7 +1,11 @@
 -- How far the canonical form of a text has come, in the text's own memory.
-use Rattle.std.specs.Prelude.{ℕ, Bool, List, ◌++◌, take, drop}
-use Rattle.check_lines.specs.Canon.{canonical_from}
+use Rattle.std.specs.Prelude.{ℕ, Bool, not, ◌&&◌, if◌then◌else◌, List, ◌++◌, take, drop}
+use Rattle.check_lines.specs.Canon.{canonical_from, is_blank}
 use Rattle.check_lines.specs.declared.canonical.Made.{Made}
+
+-- what stands for a byte that is kept: without `strict` a space for a blank, else the byte itself
+abbrev pub shown_byte : Bool → ℕ → ℕ
+shown_byte strict byte = if not strict && is_blank byte then 32 else byte
 
 -- what is made at the front, and the form of what is left from an offset on
 abbrev pub whole_form : Bool → List ℕ → Made → ℕ → List ℕ

@@ -35,7 +35,8 @@ has_part text part = is_some (first_from part 0 text)
 -- whether a body is of a form that is built: plain text of 1 to MAX_BODY bytes
 abbrev pub is_built : List ℕ → Bool
 is_built body =
-    not (length body == 0) && nat_le (length body) MAX_BODY && not (has_part body (codes "{{")) && not (has_part body (codes "[["))
+    not (length body == 0) && nat_le (length body) MAX_BODY && not
+    (has_part body (codes "{{")) && not (has_part body (codes "[["))
 
 abbrev pub fault_at : ℕ → ℕ → CheckKind → CheckFault
 fault_at line col kind = record { place = record { line = line; col = col }; kind = kind }
@@ -75,7 +76,8 @@ abbrev pub line_reading : ℕ → ℕ → List ℕ → Result (Option Directive)
 line_reading number start line = decided_line number start line (decision line)
 
 -- a line's reading before that of the lines behind it
-abbrev pub join_reading : Result (Option Directive) CheckFault → Result (List Directive) CheckFault → Result (List Directive) CheckFault
+abbrev pub join_reading : Result (Option Directive) CheckFault → Result (List Directive) CheckFault
+    → Result (List Directive) CheckFault
 join_reading (Err fault) later = Err fault
 join_reading (Ok None) later = later
 join_reading (Ok (Some one)) (Ok later) = Ok (one ∷ later)

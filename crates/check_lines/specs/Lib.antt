@@ -1,4 +1,5 @@
 pub mod Canon
 pub mod CanonMade
 pub mod Checks
+pub mod Cut
 pub mod Decision

@@ -1,7 +1,9 @@
 //! The form in which a check file and an input are compared.
-ghost use Rattle.std.specs.Prelude.{◌≡◌, ◌≤◌, ◌+◌, ◌++◌, ℕ, List, IfOk, IfSome, IsTrue, None, Some, if◌then◌else◌, drop, length, map, take};
-ghost use Rattle.check_lines.specs.CanonMade.{whole_form};
-ghost use Rattle.check_lines.specs.Canon.{begins_with_newline, canonical, canonical_from, is_blank, kept_byte, shown_byte};
+ghost use Rattle.std.specs.Prelude.{◌≡◌, ◌≤◌, ◌+◌, ◌++◌, ℕ, List, IfOk, IfSome, IsTrue};
+ghost use Rattle.std.specs.Prelude.{None, Some, if◌then◌else◌, drop, length, map, take};
+ghost use Rattle.check_lines.specs.Canon.{begins_with_newline, canonical, canonical_from, is_blank, kept_byte};
+ghost use Rattle.check_lines.specs.CanonMade.{shown_byte, whole_form};
+ghost use Rattle.check_lines.specs.Cut.{IsCut, IsOfCut, Piece};
 
 use std::alloc::Global;
 use tt_base::{Bytes, NoMemory};
@@ -12,10 +14,16 @@ const CHUNK: usize = 16;
 /// The canonical form of a text. Offsets and places that are told later count in this text, not in the file.
 pub fn canon(alloc: Global, text: &[u8], strict: bool) -> Result<Bytes, NoMemory>
     ensures exact { IfOk result (λ out. out ≡ canonical strict text.now) }
+    ensures cut { IfOk result (λ out. IsOfCut strict text.now out) }
 {
     let copy = Bytes::from_slice(alloc, text)?;
     Ok(canon_owned(copy, strict))
 }
+
+/// A law that nothing calls: a text has one cut alone.
+fn one_cut(text: &[u8])
+    ensures { (one other : List Piece) → IsCut text.now one → IsCut text.now other → one ≡ other }
+{}
 
 /// The canonical form of a text, in the text's own memory.
 pub fn canon_owned(bytes: Bytes, strict: bool) -> Bytes

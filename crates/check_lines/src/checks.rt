@@ -12,7 +12,9 @@ use tt_base::{Items, Place, line_of};
 /// The directives of a check file's canonical text, in line order.
 pub fn read_checks(alloc: Global, text: &[u8]) -> Result<Items<Directive>, CheckFail>
     requires { length text.now ≤ 2 ^ 30 }
-    ensures value { MatchResult result (λ directives. checks_in text.now ≡ Ok directives) (λ fail. IsRefusalOf (checks_in text.now) fail) }
+    ensures value { MatchResult result
+        (λ directives. checks_in text.now ≡ Ok directives)
+        (λ fail. IsRefusalOf (checks_in text.now) fail) }
     ensures within { IfOk result (All (EndsBy (length text.now))) }
 {
     let directives = read_lines(alloc, text)?;
@@ -25,7 +27,9 @@ pub fn read_checks(alloc: Global, text: &[u8]) -> Result<Items<Directive>, Check
 /// What all lines hold.
 fn read_lines(alloc: Global, text: &[u8]) -> Result<Items<Directive>, CheckFail>
     requires { length text.now ≤ 2 ^ 30 }
-    ensures value { MatchResult result (λ directives. all_lines text.now ≡ Ok directives) (λ fail. IsRefusalOf (all_lines text.now) fail) }
+    ensures value { MatchResult result
+        (λ directives. all_lines text.now ≡ Ok directives)
+        (λ fail. IsRefusalOf (all_lines text.now) fail) }
     ensures within { IfOk result (All (EndsBy (length text.now))) }
 {
     let mut directives = Items::new(alloc);
@@ -53,7 +57,8 @@ fn add_line(
     line: &[u8],
 ) -> Result<(), CheckFail>
     requires { start + length line.now ≤ 2 ^ 30 }
-    ensures ok { OnOk result (AddsLine directives.old directives.new (line_reading number start line.now)) }
+    ensures ok { OnOk result
+        (AddsLine directives.old directives.new (line_reading number start line.now)) }
     ensures err { IfErr result (λ fail. IsRefusalOf (line_reading number start line.now) fail) }
     ensures within { (limit : ℕ) → start + length line.now ≤ limit → All (EndsBy limit) directives.old
         → OnOk result (All (EndsBy limit) directives.new) }

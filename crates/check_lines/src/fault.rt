@@ -4,8 +4,8 @@ use tt_base::{NoMemory, Place};
 /// What is wrong with a check file.
 #[derive(Clone, Copy, Debug, PartialEq, Eq)]
 pub enum CheckKind {
-    /// A form that isn't built yet, as `CHECK-NEXT: a`, `CHECK{LITERAL}: a`, `CHECK: {{a}}` or `CHECK:` with nothing
-    /// behind it, at the prefix.
+    /// A form that isn't built yet, as `CHECK-NEXT: a`, `CHECK{LITERAL}: a`, `CHECK: {{a}}` or `CHECK:` with
+    /// nothing behind it, at the prefix.
     NotBuilt,
     /// No line holds a directive.
     NoChecks,
@@ -27,6 +27,11 @@ pub enum CheckFail {
 }
 
 impl From<NoMemory> for CheckFail {
+    ghost use Rattle.std.specs.Prelude.{◌≡◌};
+    ghost use Rattle.check_lines.specs.declared.fault.CheckFail.TheVariants.{NoMemory};
+
+    ghost from_gives = { λ _ fail. fail ≡ NoMemory };
+
     fn from(_: NoMemory) -> CheckFail {
         CheckFail::NoMemory
     }

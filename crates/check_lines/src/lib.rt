@@ -8,6 +8,10 @@ mod decision;
 mod directive;
 mod fault;
 mod line;
+#[cfg(test)]
+mod plain;
+#[cfg(test)]
+mod tests;
 
 pub use canonical::{canon, canon_owned};
 pub use checks::read_checks;

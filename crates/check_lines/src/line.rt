@@ -103,7 +103,7 @@ fn not_built(number: u32, head: usize) -> CheckFault
 
 /// Whether a body is plain text of 1 to `MAX_BODY` bytes.
 fn is_built(body: &[u8]) -> bool
-    ensures { result ≡ is_built body.now }
+    ensures value { result ≡ is_built body.now }
 {
     !body.is_empty() && body.len() <= MAX_BODY && !has_part(body, b"{{") && !has_part(body, b"[[")
 }

@@ -1,4 +1,5 @@
 //! Cases of the public calls with ample memory.
+use crate::plain::{plain_first, plain_place};
 use crate::{Bytes, Items, Place, find_in, line_of, place_of};
 use std::test::Fail;
 
@@ -33,4 +34,29 @@ fn lists_grow_and_searches_find(rt: HostRuntime) -> Result<(), Fail> {
     assert_eq!(rt; find_in(b"abab", b"ab", 1, 4), Some(2));
     assert_eq!(rt; find_in(b"abab", b"ab", 1, 3), None);
     Ok(())
+}
+
+#[test]
+fn the_fast_searches_are_the_plain_ones(rt: HostRuntime) {
+    let needles = [b"".as_slice(), b"a", b"\n", b"aa", b"a\n", b"\na", b"\n\n"];
+    for length in 0..6 {
+        for number in 0..32u8 {
+            let mut text = [b'a'; 5];
+            for at in 0..5 {
+                if number & (1 << at) != 0 {
+                    text[at] = b'\n';
+                }
+            }
+            let front = &text[..length];
+            assert_eq!(rt; place_of(&text, length), plain_place(front), "{front:?}");
+            for needle in needles {
+                let first = find_in(&text, needle, 0, length);
+                assert_eq!(rt;
+                    first,
+                    plain_first(needle, 0, front),
+                    "{needle:?} in {front:?}"
+                );
+            }
+        }
+    }
 }

@@ -11,14 +11,14 @@ loop-text-preserved c =
     let at = c.loop-text.at in
     let count : at + 16 - at ≡ CHUNK = omega arith in
     elim c.match-quiet_end.branch [
-      in-Some w ↦ rw (w.text-is, w.made-is, w.move_chunk.ensures.end) (record {
+      | in-Some w ↦ rw (w.text-is, w.made-is, w.move_chunk.ensures.end) (record {
         long = w.move_chunk.auto.text ∙ c.loop-text.invariant.long;
         below = omega (arith, c.loop-text.invariant.below);
         within = omega (arith, w.move_chunk.auto.text, c.loop-text-test.true);
         same = moved_quiet c.args.strict c.loop-text.text w.move_chunk.new.text c.loop-text.made.done at CHUNK _ c.loop-text.made.behind_blank
-          w.in-Some.behind_blank count w.in-Some.ensures w.move_chunk.ensures.front w.move_chunk.ensures.rest ∙ c.loop-text.invariant.same;
+            w.in-Some.behind_blank count w.in-Some.ensures w.move_chunk.ensures.front w.move_chunk.ensures.rest ∙ c.loop-text.invariant.same;
       })
-    | in-None w ↦ rw (w.text-is, w.made-is) (record {
+      | in-None w ↦ rw (w.text-is, w.made-is) (record {
         long = w.move_bytes-made.auto.text ∙ c.loop-text.invariant.long;
         below = w.move_bytes-made.ensures.below;
         within = omega (arith, w.move_bytes-made.auto.text, c.loop-text-test.true);

@@ -11,9 +11,11 @@ returns-in-Some c =
     let behind = c.loop-at.behind_word in
     record {
       value = sym (decided_here behind line at c.in-Some.decision c.loop-at-test.true
-          (ap (decided_at behind at) (sym (rest_of line at)) ∙ sym c.decided_at.ensures.value ∙ c.in-Some.is)) ∙ c.loop-at.invariant;
+          (ap (decided_at behind at) (sym (rest_of line at)) ∙ sym c.decided_at.ensures.value ∙ c.in-Some.is))
+          ∙ c.loop-at.invariant;
       within = subst (λ k. HasCheck line k c.in-Some.decision.mark) (sym c.in-Some.ensures.within.0)
-          (has_check_from line _ at c.in-Some.decision.mark (rest_of line at) c.loop-at-test.true c.in-Some.ensures.within.1);
+          (has_check_from line _ at c.in-Some.decision.mark (rest_of line at) c.loop-at-test.true
+          c.in-Some.ensures.within.1);
     }
 
 pub loop-at-preserved : goal.loop-at-preserved
@@ -23,7 +25,9 @@ loop-at-preserved c =
     let behind = c.loop-at.behind_word in
     rw c.is_word-behind_word.ensures
     (sym (decided_later behind line at c.loop-at-test.true
-    (ap (decided_at behind at) (sym (rest_of line at)) ∙ sym c.decided_at.ensures.value ∙ c.in-None.is)) ∙ c.loop-at.invariant)
+    (ap (decided_at behind at) (sym (rest_of line at)) ∙ sym c.decided_at.ensures.value ∙ c.in-None.is))
+    ∙ c.loop-at.invariant)
 
 pub returns-clause-value : goal.returns-clause-value
-returns-clause-value c = sym (decided_never c.loop-at.behind_word c.args.line.now c.loop-at.at c.loop-at-test.false) ∙ c.loop-at.invariant
+returns-clause-value c = sym (decided_never c.loop-at.behind_word c.args.line.now c.loop-at.at c.loop-at-test.false)
+    ∙ c.loop-at.invariant
