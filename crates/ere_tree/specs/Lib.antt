@@ -1,2 +1,4 @@
+pub mod Bytes
+pub mod Class
 pub mod Tree
 pub mod View

@@ -1,0 +1,45 @@
+-- The character classes of brackets: POSIX.1 XBD 9.3.5, with the bytes that XBD 7.3.1 gives them in the POSIX locale.
+use Rattle.std.specs.Prelude.{ℕ, Bool, Option, Some, None, List, ◌==◌, ◌&&◌, ◌||◌, not, codes, if◌then◌else◌}
+use Rattle.std.specs.Int.{is_in_range}
+
+-- `0` to `9`, `a` to `z`, `A` to `Z`
+abbrev pub is_digit : ℕ → Bool
+is_digit = is_in_range 48 57
+
+abbrev pub is_lower : ℕ → Bool
+is_lower = is_in_range 97 122
+
+abbrev pub is_upper : ℕ → Bool
+is_upper = is_in_range 65 90
+
+abbrev pub is_alpha : ℕ → Bool
+is_alpha b = is_upper b || is_lower b
+
+abbrev pub is_alnum : ℕ → Bool
+is_alnum b = is_digit b || is_alpha b
+
+-- digits, `A` to `F`, `a` to `f`
+abbrev pub is_xdigit : ℕ → Bool
+is_xdigit b = is_digit b || is_in_range 65 70 b || is_in_range 97 102 b
+
+-- tab and space
+abbrev pub is_blank : ℕ → Bool
+is_blank b = b == 9 || b == 32
+
+-- tab, newline, vertical tab, form feed, carriage return, space
+abbrev pub is_space : ℕ → Bool
+is_space b = is_in_range 9 13 b || b == 32
+
+-- the controls and delete
+abbrev pub is_cntrl : ℕ → Bool
+is_cntrl b = is_in_range 0 31 b || b == 127
+
+-- what is printed, with the space and without
+abbrev pub is_print : ℕ → Bool
+is_print = is_in_range 32 126
+
+abbrev pub is_graph : ℕ → Bool
+is_graph = is_in_range 33 126
+
+abbrev pub is_punct : ℕ → Bool
+is_punct b = is_graph b && not (is_alnum b)
