@@ -1,11 +1,11 @@
 -- Sets of bytes as lists: what is in them, and when two of them are one.
-use Rattle.std.proofs.Common.{◌≡◌, ◌≢◌, ℕ, zero, suc, ◌+◌, ◌-◌, ◌*◌, ◌^◌, ◌<◌, ◌/◌, ◌%◌, ◌⊎◌, ◌↔◌, inl, inr, Bool, true, false, cond, List, [], ◌∷◌, ◌++◌, IsTrue, ◌&&◌, ◌||◌, ◌==◌, not, bit_and, bit_or, slice_index, slice_set, length, w64, refl, sym, ap, subst, ◌∙◌, arith, lit<}
+use Rattle.std.proofs.Common.{◌≡◌, ◌≢◌, ℕ, zero, suc, ◌-◌, ◌*◌, ◌^◌, ◌<◌, ◌/◌, ◌%◌, ◌↔◌, inl, inr, Bool, true, false, cond, List, [], ◌∷◌, IsTrue, ◌&&◌, ◌||◌, ◌==◌, not, bit_and, bit_or, slice_index, slice_set, length, w64, refl, ap, subst, arith, lit<}
 use Rattle.std.specs.List.{Contains, filter}
 use Rattle.std.proofs.lemmas.List.Elements.{Contains-append_cases, Contains-append_left, Contains-append_right, filter-append}
-use Rattle.std.specs.Int.{bit_at, Width}
+use Rattle.std.specs.Int.{bit_at}
 use Rattle.std.proofs.lemmas.Bool.Decides.{eqb_tells, nat_tests}
 use Rattle.std.proofs.lemmas.List.{get_or-set_same, get_or-set_other}
-use Rattle.std.proofs.lemmas.Nat.Bits.{shr_and_one, bit_at_or, bit_at_and, bit_at_not, bit_at-lt, bit_at_set_same, bit_at_clear_same, bit_at_clear_other, bit_at_set_other}
+use Rattle.std.proofs.lemmas.Nat.Bits.{shr_and_one, bit_at_or, bit_at_not, bit_at-lt, bit_at_set_same, bit_at_clear_same, bit_at_clear_other, bit_at_set_other}
 use Rattle.ere_tree.specs.Bytes.{HasBytes}
 use Rattle.ere_tree.specs.View.{has_bit, members_of}
 use Rattle.ere_tree.specs.Tree.{numbers_below, bytes_passing}

@@ -1,6 +1,9 @@
 -- The character classes of brackets: POSIX.1 XBD 9.3.5, with the bytes that XBD 7.3.1 gives them in the POSIX locale.
-use Rattle.std.specs.Prelude.{ℕ, Bool, Option, Some, None, List, ◌==◌, ◌&&◌, ◌||◌, not, codes, if◌then◌else◌}
+use Rattle.std.specs.Prelude.{ℕ, Bool, Option, List, [], ◌∷◌, ◌==◌, ◌&&◌, ◌||◌, not, codes}
 use Rattle.std.specs.Int.{is_in_range}
+use Rattle.std.specs.List.{find}
+use Rattle.std.specs.Option.{option_map}
+use Rattle.std.specs.Str.{bytes_eq}
 
 -- `0` to `9`, `a` to `z`, `A` to `Z`
 abbrev pub is_digit : ℕ → Bool
@@ -43,3 +46,24 @@ is_graph = is_in_range 33 126
 
 abbrev pub is_punct : ℕ → Bool
 is_punct b = is_graph b && not (is_alnum b)
+
+-- the classes by their names
+abbrev pub classes : List (List ℕ × (ℕ → Bool))
+classes =
+    (codes "alnum", is_alnum) ∷
+    (codes "alpha", is_alpha) ∷
+    (codes "blank", is_blank) ∷
+    (codes "cntrl", is_cntrl) ∷
+    (codes "digit", is_digit) ∷
+    (codes "graph", is_graph) ∷
+    (codes "lower", is_lower) ∷
+    (codes "print", is_print) ∷
+    (codes "punct", is_punct) ∷
+    (codes "space", is_space) ∷
+    (codes "upper", is_upper) ∷
+    (codes "xdigit", is_xdigit) ∷
+    []
+
+-- the test of the class of this name
+abbrev pub class_of : List ℕ → Option (ℕ → Bool)
+class_of name = option_map (λ row. row.1) (find (λ row. bytes_eq name row.0) classes)

@@ -8,7 +8,7 @@ ghost use Rattle.ere_tree.specs.View.{has_bit, members_of};
 /// A set of bytes: bit `b % 64` of word `b / 64` says whether the byte `b` is in it.
 #[derive(Clone, Copy, Debug, PartialEq, Eq)]
 pub struct ByteSet {
-    bits: [u64; 4],
+    pub(crate) bits: [u64; 4],
 }
 
 impl ByteSet {

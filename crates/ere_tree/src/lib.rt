@@ -3,7 +3,9 @@
 #![tactic(auto)]
 
 mod byte_set;
+mod classes;
 mod ere;
 
 pub use byte_set::ByteSet;
+pub use classes::class;
 pub use ere::{ByteRun, Ere, EreList};
