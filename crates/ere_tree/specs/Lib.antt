@@ -1,4 +1,11 @@
+pub mod Bound
+pub mod Bracket
 pub mod Bytes
 pub mod Class
+pub mod Front
+pub mod Grammar
+pub mod Levels
+pub mod Shape
+pub mod Token
 pub mod Tree
 pub mod View

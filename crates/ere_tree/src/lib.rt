@@ -2,10 +2,22 @@
 //! parser, their classes, and the definitions of what they match. Everything about matching stands on this crate.
 #![tactic(auto)]
 
+mod bound;
+mod bracket;
 mod byte_set;
 mod classes;
 mod ere;
+mod fault;
+mod front;
+mod level;
+mod parser;
+#[cfg(test)]
+mod parser_tests;
+mod shape;
+mod token;
 
 pub use byte_set::ByteSet;
 pub use classes::class;
 pub use ere::{ByteRun, Ere, EreList};
+pub use fault::{EreFail, EreFault, EreKind};
+pub use parser::{MAX_DEPTH, MAX_SIZE, parse};

@@ -1,0 +1,86 @@
+-- Bracket expressions, as tests of bytes.
+-- After POSIX.1 XBD 9.3.5, RE bracket expression, in the POSIX locale. Own rules: no collating symbols and no
+-- equivalence classes, a class is no end of a range, a negated bracket leaves newline out.
+use Rattle.std.specs.Prelude.{ℕ, zero, suc, ◌+◌, ◌-◌, Bool, true, false, Option, Some, None, List, [], ◌∷◌, take, drop, length, slice_index, Result, Ok, Err, ◌==◌, ◌&&◌, ◌||◌, not, nat_le, if◌then◌else◌}
+use Rattle.std.specs.Int.{is_in_range}
+use Rattle.std.specs.List.{prefix_len}
+use Rattle.ere_tree.specs.Front.{begins}
+use Rattle.ere_tree.specs.Tree.{bytes_passing}
+use Rattle.ere_tree.specs.Class.{class_of}
+use Rattle.ere_tree.specs.declared.fault.EreFault.{EreFault}
+use Rattle.ere_tree.specs.declared.fault.EreKind.TheVariants.{UnclosedBracket, BadRange, UnknownClass, UnsupportedBracket}
+use Rattle.ere_tree.specs.declared.bracket.Element.{Element}
+use Rattle.ere_tree.specs.declared.bracket.Element.TheVariants.{Byte, Class, Unsupported}
+
+-- how long a class's name may be that begins here: no `:` and no `]` is in it
+abbrev pub name_len : List ℕ → ℕ
+name_len = prefix_len (λ b. not (b == 58) && not (b == 93))
+
+-- what the text begins with inside a bracket: `[.` or `[=`, a class `[:name:]`, or a byte
+unfoldable pub element : List ℕ → Element
+element text =
+    if begins 91 text && (begins 46 (drop 1 text) || begins 61 (drop 1 text)) then Unsupported
+    else if begins 91 text && begins 58 (drop 1 text) && begins 58 (drop (name_len (drop 2 text) + 2) text) &&
+    begins 93 (drop (name_len (drop 2 text) + 3) text)
+    then Class (name_len (drop 2 text))
+    else Byte (slice_index text 0)
+
+-- how many bytes it takes
+abbrev pub element_len : Element → ℕ
+element_len (Byte b) = 1
+element_len (Class count) = count + 4
+element_len Unsupported = 2
+
+-- whether the text goes on with a `-` that has an end of a range behind it
+unfoldable pub begins_range : List ℕ → Bool
+begins_range text = begins 45 text && not (begins 93 (drop 1 text)) && nat_le 2 (length text)
+
+abbrev pub fault : {A : Type 0} → ℕ → EreKind → Result A EreFault
+fault at kind = Err (record { at = at; kind = kind })
+
+-- the range between two ends, of which the second stands two bytes behind the first
+abbrev pub range : Element → Element → Result ((ℕ → Bool) × ℕ) EreFault
+range (Byte low) (Byte high) = if nat_le low high then Ok (is_in_range low high, 3) else fault 0 BadRange
+range (Byte low) (Class count) = fault 0 BadRange
+range (Byte low) Unsupported = fault 2 UnsupportedBracket
+range (Class count) high = fault 0 BadRange
+range Unsupported high = fault 0 UnsupportedBracket
+
+-- a member that is no range
+abbrev pub alone : List ℕ → Element → Result ((ℕ → Bool) × ℕ) EreFault
+alone text (Byte b) = Ok (is_in_range b b, 1)
+alone text (Class count) = elim (class_of (take count (drop 2 text))) [
+  | Some test ↦ Ok (test, count + 4)
+  | None ↦ fault 0 UnknownClass
+]
+alone text Unsupported = fault 0 UnsupportedBracket
+
+-- the member at the front of the text: which bytes are in it, and how many bytes it takes
+unfoldable pub member : List ℕ → Result ((ℕ → Bool) × ℕ) EreFault
+member text =
+    let first = element text in
+    let behind = drop (element_len first) text in
+    if begins_range behind then range first (element (drop 1 behind)) else alone text first
+
+-- the bytes of a bracket whose members pass the test
+abbrev pub bytes_of : Bool → (ℕ → Bool) → List ℕ
+bytes_of false test = bytes_passing test
+bytes_of true test = bytes_passing (λ b. not (test b) && not (b == 10))
+
+-- The bytes of a bracket, and its length up to the `]` that closes it, where its text goes on so at an offset,
+-- these bytes passed so far, and so many bytes belong to the member before. Behind `[` or `[^` a `]` is a member.
+unfoldable pub members : Bool → (ℕ → Bool) → Bool → ℕ → ℕ → List ℕ → Result (List ℕ × ℕ) EreFault
+members negated test first at skip [] = fault 0 UnclosedBracket
+members negated test first at (suc skip) (b ∷ rest) = members negated test first (suc at) skip rest
+members negated test first at zero (b ∷ rest) =
+    if b == 93 && not first then Ok (bytes_of negated test, at + 1)
+    else elim (member (b ∷ rest)) [
+      | Ok found ↦ members negated (λ c. test c || found.0 c) false (suc at) (found.1 - 1) rest
+      | Err refused ↦ fault (at + refused.at) refused.kind
+    ]
+
+-- the bracket that the text begins with: its bytes, and its length
+unfoldable pub bracket : List ℕ → Result (List ℕ × ℕ) EreFault
+bracket text =
+    if begins 94 (drop 1 text) then members true (λ b. false) true 2 0 (drop 2 text)
+    else members false (λ b. false) true 1 0 (drop 1 text)

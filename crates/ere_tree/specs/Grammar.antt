@@ -1,0 +1,186 @@
+-- The grammar of extended regular expressions: the tree of a text, or its first fault.
+-- After POSIX.1 XBD 9.4 and 9.5.3, with back-references, and with `()` as a group of the empty expression. Own rules:
+-- groups are nested at most 250 deep, and an expression's size is at most 100,000.
+use Rattle.std.specs.Prelude.{ℕ, zero, suc, ◌+◌, ◌-◌, Bool, true, false, Option, Some, None, List, [], ◌∷◌, map, length, Result, Ok, Err, ◌==◌, ◌&&◌, ◌||◌, not, nat_lt, nat_le, if◌then◌else◌}
+use Rattle.std.specs.List.{list_any}
+use Rattle.ere_tree.specs.Tree.{Tree, empty, plain, set, line_start, line_end, cat, alt, repeat, group, back, trees_of}
+use Rattle.ere_tree.specs.Shape.{size_of}
+use Rattle.ere_tree.specs.Bracket.{fault}
+use Rattle.ere_tree.specs.Token.{Atom, Token, byte, one_of, same_as, item, bar, open_group, close_group, token}
+use Rattle.ere_tree.specs.Token as tokens
+use Rattle.ere_tree.specs.declared.bound.Bound.{Bound}
+use Rattle.ere_tree.specs.declared.fault.EreFault.{EreFault}
+use Rattle.ere_tree.specs.declared.fault.EreKind.{EreKind}
+use Rattle.ere_tree.specs.declared.fault.EreKind.TheVariants.{EmptyAlternative, UnclosedGroup, StrayClose, BadReference, TooLarge, TooDeep}
+use Rattle.ere_tree.specs.declared.level.Last.{Last}
+use Rattle.ere_tree.specs.declared.level.Last.TheVariants.{Nothing, Bar, Part}
+
+-- What the text says from a place on: the rest of the branch there, and the branches behind it at the same level.
+-- They go up to the end, or up to a `)`, which may have a bound, and what the level outside goes on with.
+pub data Rest : Type 0 where
+  ends : List Tree → List (List Tree) → Rest
+  closes : List Tree → List (List Tree) → Option Bound → Rest → Rest
+
+-- a byte before the parts of a branch: bytes that follow each other are one plain part
+abbrev pub letter : ℕ → List Tree → List Tree
+letter b (plain bs ∷ parts) = plain (b ∷ bs) ∷ parts
+letter b parts = plain (b ∷ []) ∷ parts
+
+-- a branch of these parts: one part is that part
+abbrev pub branch_of : List Tree → Tree
+branch_of [] = empty
+branch_of (part ∷ []) = part
+branch_of (first ∷ second ∷ parts) = cat (trees_of (first ∷ second ∷ parts))
+
+-- alternatives: one branch is that branch
+abbrev pub either_of : List Tree → Tree
+either_of [] = empty
+either_of (branch ∷ []) = branch
+either_of (first ∷ second ∷ branches) = alt (trees_of (first ∷ second ∷ branches))
+
+-- a tree with the bound behind it
+abbrev pub repeated : Option Bound → Tree → Tree
+repeated None tree = tree
+repeated (Some bound) tree = repeat tree bound.least bound.most
+
+-- the tree of an atom
+abbrev pub atom_tree : Bool → Atom → Tree
+atom_tree fold (byte b) = plain (b ∷ [])
+atom_tree fold (one_of bytes) = set bytes
+atom_tree fold (same_as number) = back number fold
+
+-- whether the parts of a branch begin with an atom and its bound: a byte with no bound joins the bytes behind it
+abbrev pub with_item : Bool → Atom → Option Bound → List Tree → List Tree
+with_item fold (byte b) None parts = letter b parts
+with_item fold (byte b) (Some bound) parts = repeated (Some bound) (plain (b ∷ [])) ∷ parts
+with_item fold (one_of bytes) bound parts = repeated bound (set bytes) ∷ parts
+with_item fold (same_as number) bound parts = repeated bound (back number fold) ∷ parts
+
+-- a rest whose first branch is changed
+abbrev pub in_branch : (List Tree → List Tree) → Rest → Rest
+in_branch change (ends here others) = ends (change here) others
+in_branch change (closes here others bound outside) = closes (change here) others bound outside
+
+-- the rest behind a `|` and the branch that ends there
+abbrev pub behind_bar : Rest → Rest
+behind_bar (ends here others) = ends [] (here ∷ others)
+behind_bar (closes here others bound outside) = closes [] (here ∷ others) bound outside
+
+-- What stands from a `(` on: its group, as a part of the level outside. (The end closes no group: see `refusal_at_end`.)
+abbrev pub grouped : ℕ → Rest → Rest
+grouped number (ends here others) = ends (group number (either_of (map branch_of (here ∷ others))) ∷ []) []
+grouped number (closes here others bound outside) =
+    in_branch (λ parts. repeated bound (group number (either_of (map branch_of (here ∷ others)))) ∷ parts) outside
+
+-- what the text says from a token on
+abbrev pub from_token : Bool → ℕ → Token → Rest → Rest
+from_token fold number (item atom bound) rest = in_branch (with_item fold atom bound) rest
+from_token fold number tokens.line_start rest = in_branch (λ parts. line_start ∷ parts) rest
+from_token fold number tokens.line_end rest = in_branch (λ parts. line_end ∷ parts) rest
+from_token fold number bar rest = behind_bar rest
+from_token fold number open_group rest = grouped number rest
+from_token fold number (close_group bound) rest = closes [] [] bound rest
+
+-- A level: the whole text, or the group of this number, whose `(` stands at this offset. The whole has number 0.
+pub record Open : Type 0 where
+  pub at : ℕ
+  pub number : ℕ
+
+-- A place in a text: how many groups began before it, the level that it is in, the levels round that one, innermost
+-- first, and what stands directly before it in its level.
+pub record Place : Type 0 where
+  pub groups : ℕ
+  pub inner : Open
+  pub outer : List Open
+  pub last : Last
+
+-- whether the group of this number is closed before a place
+abbrev pub is_closed : Place → ℕ → Bool
+is_closed place number = nat_le number place.groups && not (place.inner.number == number) &&
+    not (list_any (λ level. level.number == number) place.outer)
+
+-- whether a branch may end here, and whether one may end at a `|`
+abbrev pub after_bar : Last → Bool
+after_bar Bar = true
+after_bar last = false
+
+abbrev pub after_part : Last → Bool
+after_part Part = true
+after_part last = false
+
+-- why a token is refused at a place
+abbrev pub refusal : Place → Token → Option EreKind
+refusal place (item (byte b) bound) = None
+refusal place (item (one_of bytes) bound) = None
+refusal place (item (same_as number) bound) = if is_closed place number then None else Some BadReference
+refusal place tokens.line_start = None
+refusal place tokens.line_end = None
+refusal place bar = if after_part place.last then None else Some EmptyAlternative
+refusal place open_group = if nat_lt (length place.outer) 250 then None else Some TooDeep
+refusal place (close_group bound) =
+    if nat_lt 0 (length place.outer) then (if after_bar place.last then Some EmptyAlternative else None)
+    else Some StrayClose
+
+-- why the text may not end at a place, which has this offset
+abbrev pub refusal_at_end : Place → ℕ → Option EreFault
+refusal_at_end place at =
+    if nat_lt 0 (length place.outer) then Some (record { at = place.inner.at; kind = UnclosedGroup })
+    else if after_bar place.last then Some (record { at = at; kind = EmptyAlternative })
+    else None
+
+-- the place where the text begins
+abbrev pub beginning : Place
+beginning = record { groups = 0; inner = record { at = 0; number = 0 }; outer = []; last = Nothing }
+
+-- the place behind a token that stands at an offset
+abbrev pub behind : Place → ℕ → Token → Place
+behind place at (item atom bound) = record place { last = Part }
+behind place at tokens.line_start = record place { last = Part }
+behind place at tokens.line_end = record place { last = Part }
+behind place at bar = record place { last = Bar }
+behind place at open_group = record {
+  groups = place.groups + 1;
+  inner = record { at = at; number = place.groups + 1 };
+  outer = place.inner ∷ place.outer;
+  last = Nothing;
+}
+behind place at (close_group bound) = elim (place.outer) [
+  | [] ↦ place
+  | level ∷ levels ↦ record { groups = place.groups; inner = level; outer = levels; last = Part }
+]
+
+abbrev pub map_ok : {A B : Type 0} → (A → B) → Result A EreFault → Result B EreFault
+map_ok change (Ok a) = Ok (change a)
+map_ok change (Err e) = Err e
+
+-- what the text says from a place with an offset on, where so many bytes belong to the token before; or its first fault
+unfoldable pub reading_from : Bool → Place → ℕ → ℕ → List ℕ → Result Rest EreFault
+reading_from fold place at skip [] = elim (refusal_at_end place at) [
+  | Some refused ↦ Err refused
+  | None ↦ Ok (ends [] [])
+]
+reading_from fold place at (suc skip) (b ∷ rest) = reading_from fold place (suc at) skip rest
+reading_from fold place at zero (b ∷ rest) = elim (token (b ∷ rest)) [
+  | Err refused ↦ fault (at + refused.at) refused.kind
+  | Ok found ↦ elim (refusal place found.0) [
+    | Some kind ↦ fault at kind
+    | None ↦ map_ok (from_token fold (place.groups + 1) found.0)
+        (reading_from fold (behind place at found.0) (suc at) (found.1 - 1) rest)
+  ]
+]
+
+-- the tree of a whole text
+abbrev pub whole : Rest → Tree
+whole (ends here others) = either_of (map branch_of (here ∷ others))
+whole (closes here others bound outside) = either_of (map branch_of (here ∷ others))
+
+-- a tree that isn't too large
+abbrev pub sized : Tree → Result Tree EreFault
+sized tree = if nat_le (size_of tree) 100000 then Ok tree else fault 0 TooLarge
+
+-- the tree that the text is read as, or its first fault
+unfoldable pub reading : Bool → List ℕ → Result Tree EreFault
+reading fold text = elim (reading_from fold beginning 0 0 text) [
+  | Ok rest ↦ sized (whole rest)
+  | Err refused ↦ Err refused
+]

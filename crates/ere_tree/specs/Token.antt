@@ -1,0 +1,55 @@
+-- An expression byte by byte: its tokens. An atom and the bound behind it are one token.
+-- After POSIX.1 XBD 9.4, with back-references `\1` to `\9`. Own rules: a `{` with no digit behind it is an ordinary
+-- byte, and any byte may stand behind a backslash.
+use Rattle.std.specs.Prelude.{ℕ, ◌+◌, ◌-◌, Bool, Option, Some, None, List, drop, length, slice_index, Result, Ok, Err, ◌==◌, not, is_some, nat_lt, nat_le, ◌&&◌, if◌then◌else◌}
+use Rattle.ere_tree.specs.Front.{begins, begins_with}
+use Rattle.ere_tree.specs.Tree.{bytes_passing}
+use Rattle.ere_tree.specs.Bound.{bound_at, begins_bound}
+use Rattle.ere_tree.specs.Bracket.{bracket, fault}
+use Rattle.ere_tree.specs.declared.bound.Bound.{Bound}
+use Rattle.ere_tree.specs.declared.fault.EreFault.{EreFault}
+use Rattle.ere_tree.specs.declared.fault.EreKind.TheVariants.{RepeatOfNothing, BadBound, TrailingBackslash}
+
+-- what may be repeated, but for a group
+pub data Atom : Type 0 where
+  byte : ℕ → Atom
+  one_of : List ℕ → Atom
+  same_as : ℕ → Atom
+
+pub data Token : Type 0 where
+  item : Atom → Option Bound → Token
+  line_start : Token
+  line_end : Token
+  bar : Token
+  open_group : Token
+  close_group : Option Bound → Token
+
+-- a token with the bound that stands behind its first bytes, where there is one, and how many bytes both take
+abbrev pub with_bound : (Option Bound → Token) → ℕ → List ℕ → Token × ℕ
+with_bound make count text = elim (bound_at (drop count text)) [
+  | Some found ↦ (make (Some found.0), count + found.1)
+  | None ↦ (make None, count)
+]
+
+-- what a backslash stands for with the byte behind it
+abbrev pub escaped : ℕ → Atom
+escaped b = if nat_le 49 b && nat_le b 57 then same_as (b - 48) else byte b
+
+-- the token at the front of a text that isn't empty, and how many bytes it takes
+unfoldable pub token : List ℕ → Result (Token × ℕ) EreFault
+token text =
+    if begins 94 text then Ok (line_start, 1)
+    else if begins 36 text then Ok (line_end, 1)
+    else if begins 124 text then Ok (bar, 1)
+    else if begins 40 text then Ok (open_group, 1)
+    else if begins 41 text then Ok (with_bound close_group 1 text)
+    else if begins_bound text then fault 0 (if is_some (bound_at text) then RepeatOfNothing else BadBound)
+    else if begins 46 text then Ok (with_bound (item (one_of (bytes_passing (λ b. not (b == 10))))) 1 text)
+    else if begins 91 text then elim (bracket text) [
+      | Ok found ↦ Ok (with_bound (item (one_of found.0)) found.1 text)
+      | Err refused ↦ Err refused
+    ]
+    else if begins 92 text then
+    (if nat_lt 1 (length text) then Ok (with_bound (item (escaped (slice_index text 1))) 2 text)
+    else fault 0 TrailingBackslash)
+    else Ok (with_bound (item (byte (slice_index text 0))) 1 text)
