@@ -1,1 +1,3 @@
+pub mod BoundLemmas
+pub mod FrontLemmas
 pub mod SetLemmas

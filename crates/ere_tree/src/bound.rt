@@ -1,5 +1,5 @@
 //! Bounds: how often an atom is repeated.
-ghost use Rattle.std.specs.Prelude.{◌≡◌, ◌≤◌, ◌<◌, ◌+◌, ◌×◌, IfSome, length, min};
+ghost use Rattle.std.specs.Prelude.{◌≡◌, ◌≤◌, ◌<◌, ◌+◌, ◌^◌, IfSome, IsTrue, length, min};
 ghost use Rattle.ere_tree.specs.Bound.{digit_count, number_at, braced, behind_comma, at_least, between, begins_bound, bound_at};
 
 use crate::front::{begins, begins_digit, behind};
@@ -11,6 +11,17 @@ pub(crate) struct Bound {
     pub(crate) most: Option<u32>,
 }
 
+#[tactic(
+    auto,
+    using(
+        crate::proofs::BoundLemmas::digit_here,
+        crate::proofs::BoundLemmas::no_digit_here,
+        crate::proofs::BoundLemmas::number_here,
+        crate::proofs::BoundLemmas::number_ends,
+        crate::proofs::BoundLemmas::number_at_end
+    ),
+    unfolding(crate::specs::Bound::number_at)
+)]
 /// How many digits the text begins with, and the number that they spell, or 256 where it is greater.
 fn digits(text: &[u8]) -> (usize, u32)
     ensures count { result.0 ≡ digit_count text.now }
@@ -55,7 +66,12 @@ fn closed_bound(least: u32, most: u32, taken: usize) -> Option<(Bound, usize)>
 }
 
 /// The end of a bound, behind `{m,`.
-fn end_of_bound(least: u32, taken: usize, text: &[u8]) -> Option<(Bound, usize)> {
+fn end_of_bound(least: u32, taken: usize, text: &[u8]) -> Option<(Bound, usize)>
+    requires small { least ≤ 256 }
+    requires fits { taken + length text.now < 2 ^ 64 }
+    ensures exact { result ≡ behind_comma least taken text.now }
+    ensures within { IfSome result (λ found. found.1 ≤ taken + length text.now) }
+{
     if begins(text, b'}') {
         return open_bound(least, taken + 1);
     }
@@ -70,8 +86,13 @@ fn end_of_bound(least: u32, taken: usize, text: &[u8]) -> Option<(Bound, usize)>
     }
 }
 
+#[tactic(auto, unfolding(crate::specs::Bound::braced))]
 /// The bound in braces that the text begins with behind its `{`.
-fn braces(text: &[u8]) -> Option<(Bound, usize)> {
+fn braces(text: &[u8]) -> Option<(Bound, usize)>
+    requires { length text.now + 1 < 2 ^ 64 }
+    ensures exact { result ≡ braced text.now }
+    ensures within { IfSome result (λ found. found.1 ≤ length text.now + 1) }
+{
     let (count, least) = digits(text);
     let rest = behind(text, count);
     if begins(rest, b'}') {
@@ -83,9 +104,11 @@ fn braces(text: &[u8]) -> Option<(Bound, usize)> {
     }
 }
 
+#[tactic(auto, unfolding(crate::specs::Bound::begins_bound))]
 /// Whether a bound begins here, good or bad.
 pub(crate) fn bound_begins(text: &[u8]) -> bool
-    ensures { result ≡ begins_bound text.now }
+    ensures exact { result ≡ begins_bound text.now }
+    ensures some { IsTrue result → 0 < length text.now }
 {
     begins(text, b'*')
         || begins(text, b'+')
@@ -93,6 +116,7 @@ pub(crate) fn bound_begins(text: &[u8]) -> bool
         || (begins(text, b'{') && begins_digit(behind(text, 1)))
 }
 
+#[tactic(auto, unfolding(crate::specs::Bound::bound_at))]
 /// The good bound at the front of the text, where there is one, and its length.
 pub(crate) fn find_bound(text: &[u8]) -> Option<(Bound, usize)>
     ensures exact { result ≡ bound_at text.now }

@@ -3,6 +3,7 @@ ghost use Rattle.std.specs.Prelude.{◌≡◌, ◌≤◌, ◌<◌, IsTrue, lengt
 ghost use Rattle.ere_tree.specs.Front.{begins, begins_with, is_decimal};
 
 /// Whether the text begins with this byte.
+#[tactic(auto, using(crate::proofs::FrontLemmas::begins_some, crate::proofs::FrontLemmas::begins_none))]
 pub(crate) fn begins(text: &[u8], byte: u8) -> bool
     ensures exact { result ≡ begins byte text.now }
     ensures some { IsTrue result → 0 < length text.now }
@@ -14,6 +15,7 @@ pub(crate) fn begins(text: &[u8], byte: u8) -> bool
 }
 
 /// Whether the text begins with a decimal digit.
+#[tactic(auto, using(crate::proofs::FrontLemmas::begins_some, crate::proofs::FrontLemmas::begins_none))]
 pub(crate) fn begins_digit(text: &[u8]) -> bool
     ensures exact { result ≡ begins_with is_decimal text.now }
     ensures some { IsTrue result → 0 < length text.now }
