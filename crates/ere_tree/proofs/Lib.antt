@@ -1,3 +1,4 @@
 pub mod BoundLemmas
+pub mod BracketLemmas
 pub mod FrontLemmas
 pub mod SetLemmas

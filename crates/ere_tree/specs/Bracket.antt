@@ -1,13 +1,17 @@
 -- Bracket expressions, as tests of bytes.
 -- After POSIX.1 XBD 9.3.5, RE bracket expression, in the POSIX locale. Own rules: no collating symbols and no
 -- equivalence classes, a class is no end of a range, a negated bracket leaves newline out.
-use Rattle.std.specs.Prelude.{ℕ, zero, suc, ◌+◌, ◌-◌, Bool, true, false, Option, Some, None, List, [], ◌∷◌, take, drop, length, slice_index, Result, Ok, Err, ◌==◌, ◌&&◌, ◌||◌, not, nat_le, if◌then◌else◌}
+use Rattle.std.specs.Prelude.{ℕ, zero, suc, ◌+◌, ◌-◌, Bool, true, false, ◌≡◌, Option, Some, None, List, [], ◌∷◌, take, drop, length, slice_index, Result, Ok, Err, ◌==◌, ◌&&◌, ◌||◌, not, nat_le, nat_lt, if◌then◌else◌}
 use Rattle.std.specs.Int.{is_in_range}
 use Rattle.std.specs.List.{prefix_len}
 use Rattle.ere_tree.specs.Front.{begins}
 use Rattle.ere_tree.specs.Tree.{bytes_passing}
 use Rattle.ere_tree.specs.Class.{class_of}
+use Rattle.ere_tree.specs.Bytes.{HasBytes}
+use Rattle.ere_tree.specs.View.{members_of}
+use Rattle.ere_tree.specs.declared.byte_set.ByteSet.{ByteSet}
 use Rattle.ere_tree.specs.declared.fault.EreFault.{EreFault}
+use Rattle.ere_tree.specs.declared.fault.EreKind.{EreKind}
 use Rattle.ere_tree.specs.declared.fault.EreKind.TheVariants.{UnclosedBracket, BadRange, UnknownClass, UnsupportedBracket}
 use Rattle.ere_tree.specs.declared.bracket.Element.{Element}
 use Rattle.ere_tree.specs.declared.bracket.Element.TheVariants.{Byte, Class, Unsupported}
@@ -16,14 +20,22 @@ use Rattle.ere_tree.specs.declared.bracket.Element.TheVariants.{Byte, Class, Uns
 abbrev pub name_len : List ℕ → ℕ
 name_len = prefix_len (λ b. not (b == 58) && not (b == 93))
 
--- what the text begins with inside a bracket: `[.` or `[=`, a class `[:name:]`, or a byte
+-- how long the name of the class is that the text begins with, where it begins with `[:name:]`
+unfoldable pub class_len : List ℕ → Option ℕ
+class_len text =
+    let count = name_len (drop 2 text) in
+    let behind = drop (count + 2) text in
+    if begins 91 text && begins 58 (drop 1 text) && begins 58 behind && begins 93 (drop 1 behind) then Some count
+    else None
+
+-- what the text begins with inside a bracket: `[.` or `[=`, a class, or a byte
 unfoldable pub element : List ℕ → Element
 element text =
     if begins 91 text && (begins 46 (drop 1 text) || begins 61 (drop 1 text)) then Unsupported
-    else if begins 91 text && begins 58 (drop 1 text) && begins 58 (drop (name_len (drop 2 text) + 2) text) &&
-    begins 93 (drop (name_len (drop 2 text) + 3) text)
-    then Class (name_len (drop 2 text))
-    else Byte (slice_index text 0)
+    else elim (class_len text) [
+      | Some count ↦ Class count
+      | None ↦ Byte (slice_index text 0)
+    ]
 
 -- how many bytes it takes
 abbrev pub element_len : Element → ℕ
@@ -33,10 +45,15 @@ element_len Unsupported = 2
 
 -- whether the text goes on with a `-` that has an end of a range behind it
 unfoldable pub begins_range : List ℕ → Bool
-begins_range text = begins 45 text && not (begins 93 (drop 1 text)) && nat_le 2 (length text)
+begins_range text = begins 45 text && nat_lt 1 (length text) && not (begins 93 (drop 1 text))
 
 abbrev pub fault : {A : Type 0} → ℕ → EreKind → Result A EreFault
 fault at kind = Err (record { at = at; kind = kind })
+
+-- what was found at an offset and goes on so, or the fault there
+abbrev pub and_then : {A B : Type 0} → ℕ → Result A EreFault → (A → Result B EreFault) → Result B EreFault
+and_then at (Ok found) go = go found
+and_then at (Err refused) go = fault (at + refused.at) refused.kind
 
 -- the range between two ends, of which the second stands two bytes behind the first
 abbrev pub range : Element → Element → Result ((ℕ → Bool) × ℕ) EreFault
@@ -46,13 +63,15 @@ range (Byte low) Unsupported = fault 2 UnsupportedBracket
 range (Class count) high = fault 0 BadRange
 range Unsupported high = fault 0 UnsupportedBracket
 
+-- the member of a class, where there is a class of its name
+abbrev pub class_member : Option (ℕ → Bool) → ℕ → Result ((ℕ → Bool) × ℕ) EreFault
+class_member (Some test) count = Ok (test, count + 4)
+class_member None count = fault 0 UnknownClass
+
 -- a member that is no range
 abbrev pub alone : List ℕ → Element → Result ((ℕ → Bool) × ℕ) EreFault
 alone text (Byte b) = Ok (is_in_range b b, 1)
-alone text (Class count) = elim (class_of (take count (drop 2 text))) [
-  | Some test ↦ Ok (test, count + 4)
-  | None ↦ fault 0 UnknownClass
-]
+alone text (Class count) = class_member (class_of (take count (drop 2 text))) count
 alone text Unsupported = fault 0 UnsupportedBracket
 
 -- the member at the front of the text: which bytes are in it, and how many bytes it takes
@@ -74,13 +93,22 @@ members negated test first at skip [] = fault 0 UnclosedBracket
 members negated test first at (suc skip) (b ∷ rest) = members negated test first (suc at) skip rest
 members negated test first at zero (b ∷ rest) =
     if b == 93 && not first then Ok (bytes_of negated test, at + 1)
-    else elim (member (b ∷ rest)) [
-      | Ok found ↦ members negated (λ c. test c || found.0 c) false (suc at) (found.1 - 1) rest
-      | Err refused ↦ fault (at + refused.at) refused.kind
-    ]
+    else and_then at (member (b ∷ rest))
+        (λ found. members negated (λ c. test c || found.0 c) false (suc at) (found.1 - 1) rest)
 
 -- the bracket that the text begins with: its bytes, and its length
 unfoldable pub bracket : List ℕ → Result (List ℕ × ℕ) EreFault
 bracket text =
     if begins 94 (drop 1 text) then members true (λ b. false) true 2 0 (drop 2 text)
     else members false (λ b. false) true 1 0 (drop 1 text)
+
+-- a set that was found is that of the test, and a refusal is the one told
+abbrev pub GivesTest : Result (ByteSet × ℕ) EreFault → Result ((ℕ → Bool) × ℕ) EreFault → Type 0
+GivesTest (Ok found) (Ok told) = HasBytes found.0.bits told.0 × (found.1 ≡ told.1)
+GivesTest (Ok found) (Err refused) = ⊥
+GivesTest (Err refused) told = told ≡ Err refused
+
+-- a set that was found, as its bytes
+abbrev pub as_bytes : Result (ByteSet × ℕ) EreFault → Result (List ℕ × ℕ) EreFault
+as_bytes (Ok found) = Ok (members_of found.0.bits, found.1)
+as_bytes (Err refused) = Err refused
