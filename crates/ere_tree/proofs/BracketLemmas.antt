@@ -75,15 +75,15 @@ members_agree negated f g first at zero (b ∷ rest) same =
     chosen_agree (b == 93 && not first) _ _ _ _
     (ap (λ bytes. Ok (bytes, at + 1)) (bytes_agree negated f g same))
     (ways_agree at (member (b ∷ rest)) _ _ (λ found.
-        members_agree negated (λ c. f c || found.0 c) (λ c. g c || found.0 c) false (suc at) (found.1 - 1) rest
-        (λ c low. ap (λ v. v || found.0 c) (same c low))))
+    members_agree negated (λ c. f c || found.0 c) (λ c. g c || found.0 c) false (suc at) (found.1 - 1) rest
+    (λ c low. ap (λ v. v || found.0 c) (same c low))))
 
 -- the bracket ends
 pub members_close : (negated : Bool) (test : ℕ → Bool) (first : Bool) (at : ℕ) (text : List ℕ) →
-    begins 93 text ≡ true → first ≡ false → members negated test first at 0 text ≡ Ok (bytes_of negated test, at + 1)
+    (begins 93 text && not first) ≡ true → members negated test first at 0 text ≡ Ok (bytes_of negated test, at + 1)
 unfolding members begins_with
-members_close negated test first at [] ends behind = cc
-members_close negated test first at (b ∷ rest) ends behind = rw (ends, behind) refl
+members_close negated test first at [] ends = cc
+members_close negated test first at (b ∷ rest) ends = rw ends refl
 
 -- a member is refused
 pub members_refused : (negated : Bool) (test : ℕ → Bool) (first : Bool) (at : ℕ) (text : List ℕ) (refused : EreFault) →
@@ -97,7 +97,7 @@ members_refused negated test first at (b ∷ rest) refused here some is = rw (he
 members_found : (negated : Bool) (test : ℕ → Bool) (first : Bool) (at : ℕ) (text : List ℕ) (found : (ℕ → Bool) × ℕ) →
     (begins 93 text && not first) ≡ false → member text ≡ Ok found → 0 < found.1 → found.1 ≤ length text →
     members negated test first at 0 text
-        ≡ members negated (λ c. test c || found.0 c) false (at + found.1) 0 (drop found.1 text)
+    ≡ members negated (λ c. test c || found.0 c) false (at + found.1) 0 (drop found.1 text)
 unfolding members begins_with
 members_found negated test first at [] found here is some fits = absurd (omega arith)
 members_found negated test first at (b ∷ rest) found here is some fits =
@@ -108,19 +108,18 @@ members_found negated test first at (b ∷ rest) found here is some fits =
     ∙ ap (λ n. members negated (λ c. test c || found.0 c) false (at + found.1) 0 (drop n (b ∷ rest))) (sym more))
 
 -- and the set so far has its bytes
-pub members_given : (negated : Bool) (old one new : List ℕ) (first : Bool) (at taken : ℕ) (text : List ℕ)
-    (told : Result ((ℕ → Bool) × ℕ) EreFault) (set : ByteSet) → told ≡ member text → set.bits ≡ one →
-    GivesTest (Ok (set, taken)) told → HasBytes new (λ b. has_bit old b || has_bit one b) →
+pub members_given : (negated : Bool) (old new : List ℕ) (first : Bool) (at taken : ℕ) (text : List ℕ)
+    (told : Result ((ℕ → Bool) × ℕ) EreFault) (set : ByteSet) → told ≡ member text →
+    GivesTest (Ok (set, taken)) told → HasBytes new (λ b. has_bit old b || has_bit set.bits b) →
     (begins 93 text && not first) ≡ false → 0 < taken → taken ≤ length text →
     members negated (has_bit old) first at 0 text ≡ members negated (has_bit new) false (at + taken) 0 (drop taken text)
-members_given negated old one new first at taken text (Err refused) set is bits given joined here some fits = absurd given
-members_given negated old one new first at taken text (Ok found) set is bits given joined here some fits =
+members_given negated old new first at taken text (Err refused) set is given joined here some fits = absurd given
+members_given negated old new first at taken text (Ok found) set is given joined here some fits =
     let same : found.1 ≡ taken = sym given.1 in
     members_found negated (has_bit old) first at text found here (sym is) (omega arith) (omega arith)
     ∙ ap (λ n. members negated (λ c. has_bit old c || found.0 c) false (at + n) 0 (drop n text)) same
     ∙ sym (members_agree negated (has_bit new) (λ c. has_bit old c || found.0 c) false (at + taken) 0 (drop taken text)
-        (λ b low. joined b low ∙ ap (λ (bits : List ℕ). has_bit old b || has_bit bits b) (sym bits)
-            ∙ ap (λ v. has_bit old b || v) (given.0 b low)))
+    (λ b low. joined b low ∙ ap (λ v. has_bit old b || v) (given.0 b low)))
 
 pub members_end : (negated : Bool) (test : ℕ → Bool) (first : Bool) (at : ℕ) (text : List ℕ) → length text ≡ 0 →
     members negated test first at 0 text ≡ fault 0 UnclosedBracket

@@ -94,7 +94,7 @@ members negated test first at (suc skip) (b ∷ rest) = members negated test fir
 members negated test first at zero (b ∷ rest) =
     if b == 93 && not first then Ok (bytes_of negated test, at + 1)
     else and_then at (member (b ∷ rest))
-        (λ found. members negated (λ c. test c || found.0 c) false (suc at) (found.1 - 1) rest)
+    (λ found. members negated (λ c. test c || found.0 c) false (suc at) (found.1 - 1) rest)
 
 -- the bracket that the text begins with: its bytes, and its length
 unfoldable pub bracket : List ℕ → Result (List ℕ × ℕ) EreFault

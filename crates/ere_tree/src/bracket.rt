@@ -1,7 +1,8 @@
 //! Bracket expressions.
-ghost use Rattle.std.specs.Prelude.{◌≡◌, ◌≤◌, ◌<◌, ◌+◌, ◌^◌, true, false, IfOk, IfErr, IfSome, IsTrue, length, drop};
+ghost use Rattle.std.specs.Prelude.{◌≡◌, ◌≤◌, ◌<◌, ◌+◌, ◌^◌, ◌&&◌, not, true, false, IfOk, IfErr, IfSome, IsTrue, length, drop};
 ghost use Rattle.std.specs.Int.{is_in_range};
 ghost use Rattle.ere_tree.specs.Bracket.{name_len, class_len, element, element_len, begins_range, range, alone, member, bytes_of, members, bracket, GivesTest, as_bytes};
+ghost use Rattle.ere_tree.specs.Front.{begins};
 ghost use Rattle.ere_tree.specs.Bytes.{HasBytes};
 ghost use Rattle.ere_tree.specs.View.{has_bit, members_of};
 
@@ -87,8 +88,7 @@ fn range_begins(text: &[u8]) -> bool
 }
 
 fn refused(at: usize, kind: EreKind) -> EreFault
-    ensures at { result.at ≡ at }
-    ensures kind { result.kind ≡ kind }
+    ensures { result ≡ record { at = at; kind = kind } }
 {
     EreFault { at, kind }
 }
@@ -172,6 +172,14 @@ fn set_of(negated: bool, set: &ByteSet) -> ByteSet
     }
 }
 
+/// Whether the bracket ends here. Its first member may be a `]`.
+fn closes(text: &[u8], first: bool) -> bool
+    ensures exact { result ≡ (begins 93 text.now && not first) }
+    ensures some { IsTrue result → 0 < length text.now }
+{
+    begins(text, b']') && !first
+}
+
 /// The bytes of the bracket whose members begin at an offset, and the bracket's length.
 fn members_at(text: &[u8], start: usize, negated: bool) -> Result<(ByteSet, usize), EreFault>
     requires { start ≤ length text.now }
@@ -185,7 +193,7 @@ fn members_at(text: &[u8], start: usize, negated: bool) -> Result<(ByteSet, usiz
     let mut at = start;
     while at < text.len() {
         let rest = behind(text, at);
-        if begins(rest, b']') && !first {
+        if closes(rest, first) {
             return Ok((set_of(negated, &set), at + 1));
         }
         match member_at(rest) {
@@ -194,7 +202,12 @@ fn members_at(text: &[u8], start: usize, negated: bool) -> Result<(ByteSet, usiz
                 first = false;
                 at += taken;
             }
-            Err(fault) => return Err(refused(at + fault.at, fault.kind)),
+            Err(fault) => {
+                return Err(EreFault {
+                    at: at + fault.at,
+                    kind: fault.kind,
+                });
+            }
         }
     }
     Err(refused(0, EreKind::UnclosedBracket))

@@ -7,7 +7,7 @@ abbrev pub invariant-loop-at : goal.invariant-loop-at
 invariant-loop-at l = record {
   within : l.at ≤ length l.text;
   rest : members l.negated (has_bit l.set.bits) l.first l.at 0 (drop l.at l.text)
-    ≡ members l.negated (λ _. false) true l.start 0 (drop l.start l.text);
+      ≡ members l.negated (λ _. false) true l.start 0 (drop l.start l.text);
 }
 
 abbrev pub decreases-loop-at : goal.decreases-loop-at
