@@ -7,5 +7,6 @@ pub mod Grammar
 pub mod Levels
 pub mod Shape
 pub mod Token
+pub mod TokenView
 pub mod Tree
 pub mod View

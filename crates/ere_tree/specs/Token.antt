@@ -24,16 +24,39 @@ pub data Token : Type 0 where
   open_group : Token
   close_group : Option Bound → Token
 
--- a token with the bound that stands behind its first bytes, where there is one, and how many bytes both take
-abbrev pub with_bound : (Option Bound → Token) → ℕ → List ℕ → Token × ℕ
-with_bound make count text = elim (bound_at (drop count text)) [
-  | Some found ↦ (make (Some found.0), count + found.1)
-  | None ↦ (make None, count)
+-- the bound that stands behind so many bytes, where there is one, and how many bytes there are with it
+unfoldable pub bound_behind : ℕ → List ℕ → Option Bound × ℕ
+bound_behind count text = elim (bound_at (drop count text)) [
+  | Some found ↦ (Some found.0, count + found.1)
+  | None ↦ (None, count)
 ]
+
+-- a token with the bound behind its first bytes
+abbrev pub with_bound : (Option Bound → Token) → ℕ → List ℕ → Token × ℕ
+with_bound make count text = (make (bound_behind count text).0, (bound_behind count text).1)
 
 -- what a backslash stands for with the byte behind it
 abbrev pub escaped : ℕ → Atom
 escaped b = if nat_le 49 b && nat_le b 57 then same_as (b - 48) else byte b
+
+-- the token of a byte behind a backslash
+abbrev pub escape_at : List ℕ → Result (Token × ℕ) EreFault
+escape_at text =
+    if nat_lt 1 (length text) then Ok (with_bound (item (escaped (slice_index text 1))) 2 text)
+    else fault 0 TrailingBackslash
+
+-- the token of a bracket that was read
+abbrev pub bracket_item : List ℕ → Result (List ℕ × ℕ) EreFault → Result (Token × ℕ) EreFault
+bracket_item text (Ok found) = Ok (with_bound (item (one_of found.0)) found.1 text)
+bracket_item text (Err refused) = Err refused
+
+-- the token of an atom and its bound
+unfoldable pub atom_at : List ℕ → Result (Token × ℕ) EreFault
+atom_at text =
+    if begins 46 text then Ok (with_bound (item (one_of (bytes_passing (λ b. not (b == 10))))) 1 text)
+    else if begins 91 text then bracket_item text (bracket text)
+    else if begins 92 text then escape_at text
+    else Ok (with_bound (item (byte (slice_index text 0))) 1 text)
 
 -- the token at the front of a text that isn't empty, and how many bytes it takes
 unfoldable pub token : List ℕ → Result (Token × ℕ) EreFault
@@ -44,12 +67,4 @@ token text =
     else if begins 40 text then Ok (open_group, 1)
     else if begins 41 text then Ok (with_bound close_group 1 text)
     else if begins_bound text then fault 0 (if is_some (bound_at text) then RepeatOfNothing else BadBound)
-    else if begins 46 text then Ok (with_bound (item (one_of (bytes_passing (λ b. not (b == 10))))) 1 text)
-    else if begins 91 text then elim (bracket text) [
-      | Ok found ↦ Ok (with_bound (item (one_of found.0)) found.1 text)
-      | Err refused ↦ Err refused
-    ]
-    else if begins 92 text then
-    (if nat_lt 1 (length text) then Ok (with_bound (item (escaped (slice_index text 1))) 2 text)
-    else fault 0 TrailingBackslash)
-    else Ok (with_bound (item (byte (slice_index text 0))) 1 text)
+    else atom_at text

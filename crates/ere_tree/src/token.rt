@@ -1,4 +1,10 @@
 //! An expression byte by byte: its tokens.
+ghost use Rattle.std.specs.Prelude.{◌≡◌, ◌≤◌, ◌<◌, ◌+◌, IfOk, IfErr, is_some, if◌then◌else◌, length};
+ghost use Rattle.ere_tree.specs.Bracket.{bracket};
+ghost use Rattle.ere_tree.specs.Bound.{bound_at};
+ghost use Rattle.ere_tree.specs.Token.{bound_behind, with_bound, item, escaped, escape_at, bracket_item, atom_at, token};
+ghost use Rattle.ere_tree.specs.TokenView.{atom_view, token_view, as_token};
+
 use crate::bound::{Bound, bound_begins, find_bound};
 use crate::bracket::bracket_at;
 use crate::byte_set::ByteSet;
@@ -25,24 +31,39 @@ pub(crate) enum Token {
 }
 
 /// The bound that stands behind so many bytes, where there is one, and the length with it.
-fn bound_behind(text: &[u8], count: usize) -> (Option<Bound>, usize) {
+#[tactic(auto, unfolding(crate::specs::Token::bound_behind))]
+fn with_bound(text: &[u8], count: usize) -> (Option<Bound>, usize)
+    requires { count ≤ length text.now }
+    ensures exact { result ≡ bound_behind count text.now }
+    ensures some { count ≤ result.1 }
+    ensures within { result.1 ≤ length text.now }
+{
     match find_bound(behind(text, count)) {
         Some((bound, taken)) => (Some(bound), count + taken),
         None => (None, count),
     }
 }
 
-fn item_of(atom: Atom, text: &[u8], count: usize) -> (Token, usize) {
-    let (bound, taken) = bound_behind(text, count);
+fn item_of(atom: Atom, text: &[u8], count: usize) -> (Token, usize)
+    requires { count ≤ length text.now }
+    ensures exact { (token_view result.0, result.1) ≡ with_bound (item (atom_view atom)) count text.now }
+    ensures some { count ≤ result.1 }
+    ensures within { result.1 ≤ length text.now }
+{
+    let (bound, taken) = with_bound(text, count);
     (Token::Item(atom, bound), taken)
 }
 
-fn refused(kind: EreKind) -> EreFault {
+fn refused(kind: EreKind) -> EreFault
+    ensures { result ≡ record { at = 0; kind = kind } }
+{
     EreFault { at: 0, kind }
 }
 
 /// What a backslash stands for with the byte behind it.
-fn escape(byte: u8) -> Atom {
+fn escape(byte: u8) -> Atom
+    ensures { atom_view result ≡ escaped byte }
+{
     if byte >= b'1' && byte <= b'9' {
         Atom::SameAs(u32::from(byte - b'0'))
     } else {
@@ -50,7 +71,13 @@ fn escape(byte: u8) -> Atom {
     }
 }
 
-fn escaped_at(text: &[u8]) -> Result<(Token, usize), EreFault> {
+fn escaped_at(text: &[u8]) -> Result<(Token, usize), EreFault>
+    requires { 0 < length text.now }
+    ensures exact { as_token result ≡ escape_at text.now }
+    ensures some { IfOk result (λ found. 0 < found.1) }
+    ensures within { IfOk result (λ found. found.1 ≤ length text.now) }
+    ensures place { IfErr result (λ fault. fault.at < length text.now) }
+{
     if text.len() > 1 {
         Ok(item_of(escape(text[1]), text, 2))
     } else {
@@ -58,18 +85,31 @@ fn escaped_at(text: &[u8]) -> Result<(Token, usize), EreFault> {
     }
 }
 
-fn bracket_item(text: &[u8]) -> Result<(Token, usize), EreFault> {
+fn bracketed_at(text: &[u8]) -> Result<(Token, usize), EreFault>
+    requires { 0 < length text.now }
+    ensures exact { as_token result ≡ bracket_item text.now (bracket text.now) }
+    ensures some { IfOk result (λ found. 0 < found.1) }
+    ensures within { IfOk result (λ found. found.1 ≤ length text.now) }
+    ensures place { IfErr result (λ fault. fault.at < length text.now) }
+{
     match bracket_at(text) {
         Ok((set, count)) => Ok(item_of(Atom::OneOf(set), text, count)),
         Err(fault) => Err(fault),
     }
 }
 
-fn atom_item(text: &[u8]) -> Result<(Token, usize), EreFault> {
+#[tactic(auto, using(crate::proofs::SetLemmas::bytes_passing_agree), unfolding(crate::specs::Token::atom_at))]
+fn atom_item(text: &[u8]) -> Result<(Token, usize), EreFault>
+    requires { 0 < length text.now }
+    ensures exact { as_token result ≡ atom_at text.now }
+    ensures some { IfOk result (λ found. 0 < found.1) }
+    ensures within { IfOk result (λ found. found.1 ≤ length text.now) }
+    ensures place { IfErr result (λ fault. fault.at < length text.now) }
+{
     if begins(text, b'.') {
         Ok(item_of(Atom::OneOf(ByteSet::all_but_newline()), text, 1))
     } else if begins(text, b'[') {
-        bracket_item(text)
+        bracketed_at(text)
     } else if begins(text, b'\\') {
         escaped_at(text)
     } else {
@@ -77,15 +117,24 @@ fn atom_item(text: &[u8]) -> Result<(Token, usize), EreFault> {
     }
 }
 
-fn stray_bound(text: &[u8]) -> EreFault {
+fn stray_bound(text: &[u8]) -> EreFault
+    ensures { result ≡ record { at = 0; kind = if is_some (bound_at text.now) then EreKind.RepeatOfNothing else EreKind.BadBound } }
+{
     match find_bound(text) {
         Some(_) => refused(EreKind::RepeatOfNothing),
         None => refused(EreKind::BadBound),
     }
 }
 
+#[tactic(auto, unfolding(crate::specs::Token::token))]
 /// The token at the front of a text that isn't empty, and its length. The place of a fault counts from there.
-pub(crate) fn token_at(text: &[u8]) -> Result<(Token, usize), EreFault> {
+pub(crate) fn token_at(text: &[u8]) -> Result<(Token, usize), EreFault>
+    requires { 0 < length text.now }
+    ensures exact { as_token result ≡ token text.now }
+    ensures some { IfOk result (λ found. 0 < found.1) }
+    ensures within { IfOk result (λ found. found.1 ≤ length text.now) }
+    ensures place { IfErr result (λ fault. fault.at < length text.now) }
+{
     if begins(text, b'^') {
         Ok((Token::LineStart, 1))
     } else if begins(text, b'$') {
@@ -95,7 +144,7 @@ pub(crate) fn token_at(text: &[u8]) -> Result<(Token, usize), EreFault> {
     } else if begins(text, b'(') {
         Ok((Token::OpenGroup, 1))
     } else if begins(text, b')') {
-        let (bound, taken) = bound_behind(text, 1);
+        let (bound, taken) = with_bound(text, 1);
         Ok((Token::CloseGroup(bound), taken))
     } else if bound_begins(text) {
         Err(stray_bound(text))
