@@ -1,4 +1,5 @@
 pub mod Bytes
 pub mod Class
+pub mod Shape
 pub mod Tree
 pub mod View

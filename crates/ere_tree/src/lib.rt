@@ -4,8 +4,12 @@
 
 mod byte_set;
 mod classes;
+mod copy;
 mod ere;
+mod hit;
+mod shape;
 
 pub use byte_set::ByteSet;
 pub use classes::class;
 pub use ere::{ByteRun, Ere, EreList};
+pub use hit::{Cap, Caps, Hit};
