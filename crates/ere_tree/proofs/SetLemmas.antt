@@ -3,7 +3,7 @@ use Rattle.std.proofs.Common.{◌≡◌, ◌≢◌, ℕ, zero, suc, ◌-◌, ◌
 use Rattle.std.specs.List.{Contains, filter}
 use Rattle.std.proofs.lemmas.List.Elements.{Contains-append_cases, Contains-append_left, Contains-append_right, filter-append}
 use Rattle.std.specs.Int.{bit_at}
-use Rattle.std.proofs.lemmas.Bool.Decides.{eqb_tells, nat_tests}
+use Rattle.std.proofs.lemmas.Bool.Decides.{eqb_tells, nat_tests, same_from_decides}
 use Rattle.std.proofs.lemmas.List.{get_or-set_same, get_or-set_other}
 use Rattle.std.proofs.lemmas.Nat.Bits.{shr_and_one, bit_at_or, bit_at_not, bit_at-lt, bit_at_set_same, bit_at_clear_same, bit_at_clear_other, bit_at_set_other}
 use Rattle.ere_tree.specs.Bytes.{HasBytes}
@@ -69,6 +69,12 @@ passing_tells f b has = below_tells f 256 b has
 pub passing_has : (f : ℕ → Bool) (b : ℕ) → b < 256 → IsTrue (f b) → Contains (bytes_passing f) b
 unfolding bytes_passing
 passing_has f b low passes = below_kept f 256 b low passes
+
+-- sets that are equal agree on every byte
+pub passing_agree : (f g : ℕ → Bool) → bytes_passing f ≡ bytes_passing g → (b : ℕ) → b < 256 → f b ≡ g b
+passing_agree f g same b low = same_from_decides {P = Contains (bytes_passing f) b} (f b) (g b)
+    (passing_has f b low, (λ inside. (passing_tells f b inside).1))
+    ((λ passes. rw same (passing_has g b low passes)), (λ inside. (passing_tells g b (rw same at inside)).1))
 
 -- one bit, as a test
 

@@ -1,13 +1,17 @@
 -- The grammar of extended regular expressions: the tree of a text, or its first fault.
 -- After POSIX.1 XBD 9.4 and 9.5.3, with back-references, and with `()` as a group of the empty expression. Own rules:
 -- groups are nested at most 250 deep, and an expression's size is at most 100,000.
-use Rattle.std.specs.Prelude.{ℕ, zero, suc, ◌+◌, ◌-◌, Bool, true, false, Option, Some, None, List, [], ◌∷◌, map, length, Result, Ok, Err, ◌==◌, ◌&&◌, ◌||◌, not, nat_lt, nat_le, if◌then◌else◌}
+use Rattle.std.specs.Prelude.{◌≡◌, ℕ, zero, suc, ◌+◌, ◌-◌, Bool, true, false, Option, Some, None, List, [], ◌∷◌, map, length, Result, Ok, Err, ◌==◌, ◌&&◌, ◌||◌, not, nat_lt, nat_le, if◌then◌else◌}
 use Rattle.std.specs.List.{list_any}
 use Rattle.ere_tree.specs.Tree.{Tree, empty, plain, set, line_start, line_end, cat, alt, repeat, group, back, trees_of}
 use Rattle.ere_tree.specs.Shape.{size_of}
-use Rattle.ere_tree.specs.Bracket.{fault}
+use Rattle.ere_tree.specs.Bracket.{fault, and_then}
 use Rattle.ere_tree.specs.Token.{Atom, Token, byte, one_of, same_as, item, bar, open_group, close_group, token}
 use Rattle.ere_tree.specs.Token as tokens
+use Rattle.ere_tree.specs.View.{view}
+use Rattle.ere_tree.specs.declared.ere.Ere.{Ere}
+use Rattle.ere_tree.specs.declared.fault.EreFail.{EreFail}
+use Rattle.ere_tree.specs.declared.fault.EreFail.TheVariants.{Bad, NoMemory}
 use Rattle.ere_tree.specs.declared.bound.Bound.{Bound}
 use Rattle.ere_tree.specs.declared.fault.EreFault.{EreFault}
 use Rattle.ere_tree.specs.declared.fault.EreKind.{EreKind}
@@ -153,21 +157,23 @@ abbrev pub map_ok : {A B : Type 0} → (A → B) → Result A EreFault → Resul
 map_ok change (Ok a) = Ok (change a)
 map_ok change (Err e) = Err e
 
+-- a reading that goes on unless a token is refused at an offset
+abbrev pub unless : {A : Type 0} → ℕ → Option EreKind → Result A EreFault → Result A EreFault
+unless at (Some kind) read = fault at kind
+unless at None read = read
+
+-- the end of a text, unless it is refused
+abbrev pub ended : Option EreFault → Result Rest EreFault
+ended (Some refused) = Err refused
+ended None = Ok (ends [] [])
+
 -- what the text says from a place with an offset on, where so many bytes belong to the token before; or its first fault
 unfoldable pub reading_from : Bool → Place → ℕ → ℕ → List ℕ → Result Rest EreFault
-reading_from fold place at skip [] = elim (refusal_at_end place at) [
-  | Some refused ↦ Err refused
-  | None ↦ Ok (ends [] [])
-]
+reading_from fold place at skip [] = ended (refusal_at_end place at)
 reading_from fold place at (suc skip) (b ∷ rest) = reading_from fold place (suc at) skip rest
-reading_from fold place at zero (b ∷ rest) = elim (token (b ∷ rest)) [
-  | Err refused ↦ fault (at + refused.at) refused.kind
-  | Ok found ↦ elim (refusal place found.0) [
-    | Some kind ↦ fault at kind
-    | None ↦ map_ok (from_token fold (place.groups + 1) found.0)
-        (reading_from fold (behind place at found.0) (suc at) (found.1 - 1) rest)
-  ]
-]
+reading_from fold place at zero (b ∷ rest) = and_then at (token (b ∷ rest)) (λ found.
+    unless at (refusal place found.0) (map_ok (from_token fold (place.groups + 1) found.0)
+    (reading_from fold (behind place at found.0) (suc at) (found.1 - 1) rest)))
 
 -- the tree of a whole text
 abbrev pub whole : Rest → Tree
@@ -180,7 +186,10 @@ sized tree = if nat_le (size_of tree) 100000 then Ok tree else fault 0 TooLarge
 
 -- the tree that the text is read as, or its first fault
 unfoldable pub reading : Bool → List ℕ → Result Tree EreFault
-reading fold text = elim (reading_from fold beginning 0 0 text) [
-  | Ok rest ↦ sized (whole rest)
-  | Err refused ↦ Err refused
-]
+reading fold text = and_then 0 (reading_from fold beginning 0 0 text) (λ rest. sized (whole rest))
+
+-- what a parser answered is what the text is read as, unless memory ran out
+abbrev pub Reads : Result Ere EreFail → Result Tree EreFault → Type 0
+Reads (Ok ere) read = read ≡ Ok (view ere)
+Reads (Err NoMemory) read = Unit {0}
+Reads (Err (Bad refused)) read = read ≡ Err refused

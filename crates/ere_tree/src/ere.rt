@@ -32,6 +32,13 @@ impl ByteRun {
     {
         self.held.as_slice()
     }
+
+    /// The bytes, given back without taking memory.
+    pub fn into_vec(self) -> Vec<u8>
+        ensures { result.items ≡ self }
+    {
+        self.held
+    }
 }
 
 /// The parts of a concatenation, or the alternatives of an alternation, from the left.

@@ -6,9 +6,11 @@ mod bound;
 mod bracket;
 mod byte_set;
 mod classes;
+mod copy;
 mod ere;
 mod fault;
 mod front;
+mod hit;
 mod level;
 mod parser;
 #[cfg(test)]
@@ -20,4 +22,5 @@ pub use byte_set::ByteSet;
 pub use classes::class;
 pub use ere::{ByteRun, Ere, EreList};
 pub use fault::{EreFail, EreFault, EreKind};
+pub use hit::{Cap, Caps, Hit};
 pub use parser::{MAX_DEPTH, MAX_SIZE, parse};

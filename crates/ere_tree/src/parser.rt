@@ -1,12 +1,17 @@
 //! The parser of expressions.
+ghost use Rattle.std.specs.Prelude.{◌≡◌, IfOk, OnOk, reverse};
+ghost use Rattle.ere_tree.specs.Grammar.{is_closed, refusal, refusal_at_end, atom_tree, sized, reading, Reads};
+ghost use Rattle.ere_tree.specs.Levels.{levels_view, place_of, new_level, in_inner, with_item, opened, closed, taken, tree_of};
+ghost use Rattle.ere_tree.specs.TokenView.{atom_view, token_view};
+ghost use Rattle.ere_tree.specs.View.{view};
+
 use crate::bound::Bound;
-use crate::byte_set::ByteSet;
 use crate::ere::{ByteRun, Ere};
 use crate::fault::{EreFail, EreFault, EreKind};
 use crate::front::behind;
-use crate::level::{Last, Level, repeated};
+use crate::level::{Last, Level, repeat};
 use crate::token::{Atom, Token, token_at};
-use std::alloc::Global;
+use std::alloc::{AllocError, Global};
 use std::mem;
 
 /// How deep groups may be nested.
@@ -23,23 +28,16 @@ struct Reader {
     outer: Vec<Level>,
 }
 
-fn no_memory<T>() -> Result<T, EreFail> {
-    Err(EreFail::NoMemory)
-}
-
-/// A byte, as an expression.
-fn plain_byte(alloc: Global, byte: u8) -> Result<Ere, EreFail> {
-    let mut bytes = Vec::new(alloc);
-    match bytes.push(byte) {
-        Ok(()) => Ok(Ere::Plain(ByteRun::from_vec(bytes))),
-        Err(_) => no_memory(),
-    }
-}
-
 /// The expression of an atom.
-fn atom_ere(alloc: Global, atom: Atom, fold: bool) -> Result<Ere, EreFail> {
+fn atom_ere(alloc: Global, atom: Atom, fold: bool) -> Result<Ere, AllocError>
+    ensures { IfOk result (λ ere. view ere ≡ atom_tree fold (atom_view atom)) }
+{
     match atom {
-        Atom::Byte(byte) => plain_byte(alloc, byte),
+        Atom::Byte(byte) => {
+            let mut bytes = Vec::new(alloc);
+            bytes.push(byte)?;
+            Ok(Ere::Plain(ByteRun::from_vec(bytes)))
+        }
         Atom::OneOf(set) => Ok(Ere::Set(set)),
         Atom::SameAs(number) => Ok(Ere::Ref { number, fold }),
     }
@@ -108,45 +106,49 @@ impl Reader {
         atom: Atom,
         bound: Option<Bound>,
         fold: bool,
-    ) -> Result<(), EreFail> {
-        if let (Atom::Byte(byte), None) = (atom, bound) {
-            return self.inner.add_letter(byte);
+    ) -> Result<(), AllocError>
+        ensures { OnOk result (levels_view self.new ≡ in_inner (with_item fold (atom_view atom) bound) (levels_view self.old)) }
+    {
+        match (atom, bound) {
+            (Atom::Byte(byte), None) => self.inner.add_letter(byte),
+            (atom, bound) => {
+                let ere = repeat(alloc, atom_ere(alloc, atom, fold)?, bound)?;
+                self.inner.add_part(alloc, ere)
+            }
         }
-        let ere = repeated(alloc, atom_ere(alloc, atom, fold)?, bound)?;
-        self.inner.add_part(alloc, ere)
     }
 
     /// Begins a group whose `(` stands at this offset.
-    fn open(&mut self, alloc: Global, at: usize) -> Result<(), EreFail> {
+    fn open(&mut self, alloc: Global, at: usize) -> Result<(), AllocError>
+        ensures { OnOk result (levels_view self.new ≡ opened at (levels_view self.old)) }
+    {
         let Some(number) = self.groups.checked_add(1) else {
-            return no_memory();
+            return Err(AllocError);
         };
         let round = mem::replace(&mut self.inner, Level::new(alloc, at, number));
         self.groups = number;
-        match self.outer.push(round) {
-            Ok(()) => Ok(()),
-            Err(_) => no_memory(),
-        }
+        self.outer.push(round)?;
+        Ok(())
     }
 
     /// Ends the group at hand.
-    fn close(&mut self, alloc: Global, bound: Option<Bound>) -> Result<(), EreFail> {
+    fn close(&mut self, alloc: Global, bound: Option<Bound>) -> Result<(), AllocError>
+        ensures { OnOk result (levels_view self.new ≡ closed bound (levels_view self.old)) }
+    {
         let Some(round) = self.outer.pop() else {
             return Ok(());
         };
-        let group = mem::replace(&mut self.inner, round);
-        let number = group.number;
-        match Box::new(alloc, group.finish(alloc)?) {
-            Ok(inner) => {
-                let ere = repeated(alloc, Ere::Group { number, inner }, bound)?;
-                self.inner.add_part(alloc, ere)
-            }
-            Err(_) => no_memory(),
-        }
+        let level = mem::replace(&mut self.inner, round);
+        let number = level.number;
+        let inner = Box::new(alloc, level.finish(alloc)?)?;
+        let group = repeat(alloc, Ere::Group { number, inner }, bound)?;
+        self.inner.add_part(alloc, group)
     }
 
     /// Reads a token that isn't refused.
-    fn take(&mut self, alloc: Global, at: usize, token: Token, fold: bool) -> Result<(), EreFail> {
+    fn take(&mut self, alloc: Global, at: usize, token: Token, fold: bool) -> Result<(), AllocError>
+        ensures { OnOk result (levels_view self.new ≡ taken fold at (token_view token) (levels_view self.old)) }
+    {
         match token {
             Token::Item(atom, bound) => self.add_item(alloc, atom, bound, fold),
             Token::LineStart => self.inner.add_part(alloc, Ere::LineStart),
@@ -175,14 +177,18 @@ impl Reader {
     }
 
     /// The whole expression.
-    fn finish(self, alloc: Global) -> Result<Ere, EreFail> {
+    fn finish(self, alloc: Global) -> Result<Ere, AllocError>
+        ensures { IfOk result (λ ere. view ere ≡ tree_of (levels_view self).inner) }
+    {
         let Reader { inner, .. } = self;
         inner.finish(alloc)
     }
 }
 
 /// The expression, where its size is within the limit.
-fn sized(ere: Ere) -> Result<Ere, EreFail> {
+fn within_size(ere: Ere) -> Result<Ere, EreFail>
+    ensures { Reads result (sized (view ere)) }
+{
     if ere.size() <= MAX_SIZE {
         Ok(ere)
     } else {
@@ -193,9 +199,8 @@ fn sized(ere: Ere) -> Result<Ere, EreFail> {
     }
 }
 
-/// Reads a text as an expression. `fold` goes into each reference. An expression with more than `u32::MAX` groups is
-/// answered as one that memory doesn't hold.
-pub fn parse(alloc: Global, bytes: &[u8], fold: bool) -> Result<Ere, EreFail> {
+/// Reads tokens up to the end.
+fn read_all(alloc: Global, bytes: &[u8], fold: bool) -> Result<Reader, EreFail> {
     let mut reader = Reader::new(alloc);
     let mut at: usize = 0;
     while at < bytes.len() {
@@ -208,13 +213,24 @@ pub fn parse(alloc: Global, bytes: &[u8], fold: bool) -> Result<Ere, EreFail> {
                 if let Some(kind) = reader.refusal(&token) {
                     return Err(EreFail::Bad(EreFault { at, kind }));
                 }
-                reader.take(alloc, at, token, fold)?;
+                if reader.take(alloc, at, token, fold).is_err() {
+                    return Err(EreFail::NoMemory);
+                }
                 at += taken;
             }
         }
     }
-    if let Some(fault) = reader.refusal_at_end(at) {
-        return Err(EreFail::Bad(fault));
+    match reader.refusal_at_end(at) {
+        Some(fault) => Err(EreFail::Bad(fault)),
+        None => Ok(reader),
     }
-    sized(reader.finish(alloc)?)
+}
+
+/// Reads a text as an expression. `fold` goes into each reference. An expression with more than `u32::MAX` groups is
+/// answered as one that memory doesn't hold.
+pub fn parse(alloc: Global, bytes: &[u8], fold: bool) -> Result<Ere, EreFail> {
+    match read_all(alloc, bytes, fold)?.finish(alloc) {
+        Ok(ere) => within_size(ere),
+        Err(_) => Err(EreFail::NoMemory),
+    }
 }

@@ -6,8 +6,10 @@ ghost use Rattle.ere_tree.specs.Tree.{trees_of};
 ghost use Rattle.ere_tree.specs.View.{view};
 
 use crate::ere::{Ere, EreList};
+use std::mem;
 
 impl Ere {
+    #[tactic(auto, using(crate::proofs::ShapeLemmas::stopped_product))]
     /// The size with each bound unfolded. A size past `u64::MAX` is answered as `u64::MAX`.
     #[cycle(size)]
     pub fn size(&self) -> u64
@@ -73,24 +75,48 @@ impl Ere {
         requires { greatest_number (view self.old) + by < 2 ^ 31 }
         ensures { view self.new ≡ shifted by (view self.old) }
     {
+        let raised = mem::replace(self, Ere::Empty).raised(by);
+        *self = raised;
+    }
+
+    #[cycle(shift)]
+    fn raised(self, by: u32) -> Ere
+        requires { greatest_number (view self) + by < 2 ^ 31 }
+        ensures { view result ≡ shifted by (view self) }
+    {
         match self {
-            Ere::Empty => {}
-            Ere::Plain(_) => {}
-            Ere::Set(_) => {}
-            Ere::LineStart => {}
-            Ere::LineEnd => {}
-            Ere::Cat(parts) => parts.shift_all(by),
-            Ere::Alt(choices) => choices.shift_all(by),
-            Ere::Repeat {
-                inner,
-                least: _,
-                most: _,
-            } => inner.shift(by),
-            Ere::Group { number, inner } => {
-                *number += by;
-                inner.shift(by);
+            Ere::Empty => Ere::Empty,
+            Ere::Plain(run) => Ere::Plain(run),
+            Ere::Set(set) => Ere::Set(set),
+            Ere::LineStart => Ere::LineStart,
+            Ere::LineEnd => Ere::LineEnd,
+            Ere::Cat(mut parts) => {
+                parts.shift(by);
+                Ere::Cat(parts)
             }
-            Ere::Ref { number, .. } => *number += by,
+            Ere::Alt(mut choices) => {
+                choices.shift(by);
+                Ere::Alt(choices)
+            }
+            Ere::Repeat {
+                mut inner,
+                least,
+                most,
+            } => {
+                inner.shift(by);
+                Ere::Repeat { inner, least, most }
+            }
+            Ere::Group { number, mut inner } => {
+                inner.shift(by);
+                Ere::Group {
+                    number: number + by,
+                    inner,
+                }
+            }
+            Ere::Ref { number, fold } => Ere::Ref {
+                number: number + by,
+                fold,
+            },
         }
     }
 }
@@ -141,7 +167,7 @@ impl EreList {
     }
 
     #[cycle(shift)]
-    fn shift_all(&mut self, by: u32)
+    fn shift(&mut self, by: u32)
         requires { greatest_number_of (trees_of (map view self.old.held.items)) + by < 2 ^ 31 }
         ensures { trees_of (map view self.new.held.items) ≡ all_shifted by (trees_of (map view self.old.held.items)) }
     {
