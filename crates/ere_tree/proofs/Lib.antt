@@ -1,6 +1,7 @@
 pub mod BoundLemmas
 pub mod BracketLemmas
 pub mod FrontLemmas
+pub mod LevelLemmas
 pub mod SetLemmas
 pub mod ShapeLemmas
 pub mod ViewLemmas

@@ -98,10 +98,13 @@ pub record Place : Type 0 where
   pub outer : List Open
   pub last : Last
 
+-- whether a place is in the group of this number
+abbrev pub is_open : Place → ℕ → Bool
+is_open place number = (place.inner.number == number) || list_any (λ level. level.number == number) place.outer
+
 -- whether the group of this number is closed before a place
 abbrev pub is_closed : Place → ℕ → Bool
-is_closed place number = nat_le number place.groups && not (place.inner.number == number) &&
-    not (list_any (λ level. level.number == number) place.outer)
+is_closed place number = nat_le number place.groups && not (is_open place number)
 
 -- whether a branch may end here, and whether one may end at a `|`
 abbrev pub after_bar : Last → Bool

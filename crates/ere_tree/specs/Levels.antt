@@ -64,6 +64,10 @@ tree_of level = either_of (level.branches ++ branch_of (parts_of level) ∷ [])
 abbrev pub in_inner : (Level → Level) → Levels → Levels
 in_inner change levels = record levels { inner = change levels.inner }
 
+-- where the text begins
+abbrev pub beginning_levels : Levels
+beginning_levels = record { groups = 0; inner = new_level 0 0; outer = [] }
+
 -- behind a `(`
 abbrev pub opened : ℕ → Levels → Levels
 opened at levels = record {

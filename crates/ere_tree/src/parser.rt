@@ -1,7 +1,8 @@
 //! The parser of expressions.
-ghost use Rattle.std.specs.Prelude.{◌≡◌, IfOk, OnOk, reverse};
-ghost use Rattle.ere_tree.specs.Grammar.{is_closed, refusal, refusal_at_end, atom_tree, sized, reading, Reads};
-ghost use Rattle.ere_tree.specs.Levels.{levels_view, place_of, new_level, in_inner, with_item, opened, closed, taken, tree_of};
+ghost use Rattle.std.specs.Prelude.{◌≡◌, ◌==◌, IfOk, OnOk, reverse};
+ghost use Rattle.std.specs.List.{list_any};
+ghost use Rattle.ere_tree.specs.Grammar.{is_open, refusal, refusal_at_end, atom_tree, sized, reading, Reads};
+ghost use Rattle.ere_tree.specs.Levels.{levels_view, place_of, beginning_levels, in_inner, with_item, opened, closed, taken, tree_of};
 ghost use Rattle.ere_tree.specs.TokenView.{atom_view, token_view};
 ghost use Rattle.ere_tree.specs.View.{view};
 
@@ -43,8 +44,17 @@ fn atom_ere(alloc: Global, atom: Atom, fold: bool) -> Result<Ere, AllocError>
     }
 }
 
+/// Whether a level has this number.
+fn any_of_number(levels: &[Level], number: u32) -> bool
+    ensures { result ≡ list_any (λ level. level.number == number) levels.now }
+{
+    levels.iter().any(|level| level.number == number)
+}
+
 impl Reader {
-    fn new(alloc: Global) -> Reader {
+    fn new(alloc: Global) -> Reader
+        ensures { levels_view result ≡ beginning_levels }
+    {
         Reader {
             groups: 0,
             inner: Level::new(alloc, 0, 0),
@@ -52,21 +62,18 @@ impl Reader {
         }
     }
 
+    #[tactic(auto, using(crate::proofs::LevelLemmas::any_of_levels))]
     /// Whether the group of this number is open.
-    fn is_open(&self, number: u32) -> bool {
-        if self.inner.number == number {
-            return true;
-        }
-        for level in self.outer.iter() {
-            if level.number == number {
-                return true;
-            }
-        }
-        false
+    fn is_open(&self, number: u32) -> bool
+        ensures { result ≡ is_open (place_of (levels_view self.now)) number }
+    {
+        self.inner.number == number || any_of_number(self.outer.as_slice(), number)
     }
 
     /// Why the token is refused here, if it is.
-    fn refusal(&self, token: &Token) -> Option<EreKind> {
+    fn refusal(&self, token: &Token) -> Option<EreKind>
+        ensures { result ≡ refusal (place_of (levels_view self.now)) (token_view token.now) }
+    {
         match token {
             Token::Item(Atom::SameAs(number), _) => {
                 if *number <= self.groups && !self.is_open(*number) {
@@ -160,7 +167,9 @@ impl Reader {
     }
 
     /// Why the text may not end here, if it may not.
-    fn refusal_at_end(&self, at: usize) -> Option<EreFault> {
+    fn refusal_at_end(&self, at: usize) -> Option<EreFault>
+        ensures { result ≡ refusal_at_end (place_of (levels_view self.now)) at }
+    {
         if !self.outer.is_empty() {
             return Some(EreFault {
                 at: self.inner.at,
