@@ -183,13 +183,18 @@ abbrev pub whole : Rest → Tree
 whole (ends here others) = either_of (map branch_of (here ∷ others))
 whole (closes here others bound outside) = either_of (map branch_of (here ∷ others))
 
+-- the tree that the text is read as, however large, or its first fault
+unfoldable pub tree_read : Bool → List ℕ → Result Tree EreFault
+tree_read fold text = map_ok whole (reading_from fold beginning 0 0 text)
+
 -- a tree that isn't too large
-abbrev pub sized : Tree → Result Tree EreFault
-sized tree = if nat_le (size_of tree) 100000 then Ok tree else fault 0 TooLarge
+abbrev pub sized : Result Tree EreFault → Result Tree EreFault
+sized (Ok tree) = if nat_le (size_of tree) 100000 then Ok tree else fault 0 TooLarge
+sized (Err refused) = Err refused
 
 -- the tree that the text is read as, or its first fault
 unfoldable pub reading : Bool → List ℕ → Result Tree EreFault
-reading fold text = and_then 0 (reading_from fold beginning 0 0 text) (λ rest. sized (whole rest))
+reading fold text = sized (tree_read fold text)
 
 -- what a parser answered is what the text is read as, unless memory ran out
 abbrev pub Reads : Result Ere EreFail → Result Tree EreFault → Type 0

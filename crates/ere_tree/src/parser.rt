@@ -1,7 +1,7 @@
 //! The parser of expressions.
-ghost use Rattle.std.specs.Prelude.{◌≡◌, ◌==◌, IfOk, OnOk, reverse};
+ghost use Rattle.std.specs.Prelude.{◌≡◌, ◌==◌, IfOk, OnOk};
 ghost use Rattle.std.specs.List.{list_any};
-ghost use Rattle.ere_tree.specs.Grammar.{is_open, refusal, refusal_at_end, atom_tree, sized, reading, Reads};
+ghost use Rattle.ere_tree.specs.Grammar.{is_open, refusal, refusal_at_end, atom_tree, sized, tree_read, reading, Reads};
 ghost use Rattle.ere_tree.specs.Levels.{levels_view, place_of, beginning_levels, in_inner, with_item, opened, closed, taken, tree_of};
 ghost use Rattle.ere_tree.specs.TokenView.{atom_view, token_view};
 ghost use Rattle.ere_tree.specs.View.{view};
@@ -196,7 +196,7 @@ impl Reader {
 
 /// The expression, where its size is within the limit.
 fn within_size(ere: Ere) -> Result<Ere, EreFail>
-    ensures { Reads result (sized (view ere)) }
+    ensures { Reads result (sized (Ok (view ere))) }
 {
     if ere.size() <= MAX_SIZE {
         Ok(ere)
@@ -208,38 +208,48 @@ fn within_size(ere: Ere) -> Result<Ere, EreFail>
     }
 }
 
-/// Reads tokens up to the end.
-fn read_all(alloc: Global, bytes: &[u8], fold: bool) -> Result<Reader, EreFail> {
+/// The expression of a text, however large.
+fn read_all(alloc: Global, bytes: &[u8], fold: bool) -> Result<Ere, EreFail>
+    ensures { Reads result (tree_read fold bytes.now) }
+{
     let mut reader = Reader::new(alloc);
     let mut at: usize = 0;
     while at < bytes.len() {
         match token_at(behind(bytes, at)) {
-            Err(fault) => return Err(EreFail::Bad(EreFault {
-                at: at + fault.at,
-                kind: fault.kind,
-            })),
+            Err(fault) => {
+                return Err(EreFail::Bad(EreFault {
+                    at: at + fault.at,
+                    kind: fault.kind,
+                }));
+            }
             Ok((token, taken)) => {
                 if let Some(kind) = reader.refusal(&token) {
                     return Err(EreFail::Bad(EreFault { at, kind }));
                 }
-                if reader.take(alloc, at, token, fold).is_err() {
+                if let Err(_) = reader.take(alloc, at, token, fold) {
                     return Err(EreFail::NoMemory);
                 }
                 at += taken;
             }
         }
     }
-    match reader.refusal_at_end(at) {
-        Some(fault) => Err(EreFail::Bad(fault)),
-        None => Ok(reader),
+    if let Some(fault) = reader.refusal_at_end(at) {
+        return Err(EreFail::Bad(fault));
+    }
+    match reader.finish(alloc) {
+        Ok(ere) => Ok(ere),
+        Err(_) => Err(EreFail::NoMemory),
     }
 }
 
 /// Reads a text as an expression. `fold` goes into each reference. An expression with more than `u32::MAX` groups is
 /// answered as one that memory doesn't hold.
-pub fn parse(alloc: Global, bytes: &[u8], fold: bool) -> Result<Ere, EreFail> {
-    match read_all(alloc, bytes, fold)?.finish(alloc) {
+#[tactic(auto, unfolding(crate::specs::Grammar::reading))]
+pub fn parse(alloc: Global, bytes: &[u8], fold: bool) -> Result<Ere, EreFail>
+    ensures { Reads result (reading fold bytes.now) }
+{
+    match read_all(alloc, bytes, fold) {
         Ok(ere) => within_size(ere),
-        Err(_) => Err(EreFail::NoMemory),
+        Err(fail) => Err(fail),
     }
 }
