@@ -1,8 +1,8 @@
 -- Digits and the numbers that they spell.
-use Rattle.std.proofs.Common.{◌≡◌, ℕ, zero, suc, ◌+◌, ◌-◌, ◌*◌, ◌<◌, ◌≤◌, Bool, true, false, cond, List, [], ◌∷◌, length, take, drop, get_or, min, refl, sym, ap, ◌∙◌, arith, drop-cons, add-one}
+use Rattle.std.proofs.Common.{◌≡◌, ℕ, suc, ◌+◌, ◌-◌, ◌*◌, ◌<◌, ◌≤◌, true, false, List, [], ◌∷◌, length, take, drop, get_or, min, refl, arith, drop-cons, add-one}
 use Rattle.std.proofs.lemmas.List.Sums.{prefix_len-drop_all}
 use Rattle.ere_tree.specs.Front.{is_decimal}
-use Rattle.ere_tree.specs.Bound.{digit_count, number_from, number_at}
+use Rattle.ere_tree.specs.Bound.{digit_count, number_from}
 
 -- numbers that are one up to 256 stay so behind further digits
 pub capped : (m n : ℕ) (digits : List ℕ) → min 256 m ≡ min 256 n →

@@ -1,15 +1,13 @@
 -- Brackets: classes, and members one after the other.
-use Rattle.std.proofs.Common.{◌≡◌, ℕ, zero, suc, ◌+◌, ◌-◌, ◌<◌, ◌≤◌, Bool, true, false, cond, not, ◌&&◌, ◌||◌, ◌==◌, List, [], ◌∷◌, Option, Some, None, Result, Ok, Err, IsTrue, length, take, drop, refl, sym, ap, ◌∙◌, subst, arith, add-one}
+use Rattle.std.proofs.Common.{◌≡◌, ℕ, zero, suc, ◌+◌, ◌-◌, ◌<◌, ◌≤◌, Bool, true, false, cond, not, ◌&&◌, ◌||◌, ◌==◌, List, [], ◌∷◌, Option, Some, None, Result, Ok, Err, IsTrue, length, drop, refl, sym, ap, ◌∙◌, subst, arith}
 use Rattle.std.specs.Option.{option_map}
 use Rattle.ere_tree.specs.Front.{begins, begins_with}
 use Rattle.ere_tree.specs.Tree.{bytes_passing}
-use Rattle.ere_tree.specs.Class.{class_of}
 use Rattle.ere_tree.specs.Bytes.{HasBytes}
 use Rattle.ere_tree.specs.View.{has_bit, members_of}
 use Rattle.ere_tree.specs.Bracket.{class_member, member, members, bytes_of, fault, and_then, GivesTest}
 use Rattle.ere_tree.specs.declared.byte_set.ByteSet.{ByteSet}
 use Rattle.ere_tree.specs.declared.fault.EreFault.{EreFault}
-use Rattle.ere_tree.specs.declared.fault.EreKind.{EreKind}
 use Rattle.ere_tree.specs.declared.fault.EreKind.TheVariants.{UnknownClass, UnclosedBracket}
 use Rattle.ere_tree.proofs.SetLemmas.{bytes_passing_agree, passing_tells, passing_has}
 

@@ -1,5 +1,5 @@
 -- What was read, and what the rest of the text adds to it, is what the whole text says.
-use Rattle.std.proofs.Common.{◌≡◌, ℕ, zero, suc, ◌+◌, ◌-◌, ◌<◌, ◌≤◌, Bool, true, false, cond, not, ◌&&◌, ◌||◌, ◌==◌, List, [], ◌∷◌, ◌++◌, map, reverse, Option, Some, None, Result, Ok, Err, length, take, drop, refl, sym, ap, ◌∙◌, arith, append_assoc}
+use Rattle.std.proofs.Common.{◌≡◌, ℕ, ◌+◌, Bool, true, false, ◌||◌, ◌==◌, List, [], ◌∷◌, ◌++◌, map, reverse, Option, Some, None, refl, sym, ap, ◌∙◌, append_assoc}
 use Rattle.std.specs.List.{list_any}
 use Rattle.std.proofs.lemmas.List.{map-append, reverse-append}
 use Rattle.std.proofs.lemmas.List.Folds.{list_any-append}
@@ -8,14 +8,14 @@ use Rattle.ere_tree.specs.Token.{Token, Atom, byte, one_of, same_as, item, bar, 
 use Rattle.ere_tree.specs.Token as tokens
 use Rattle.ere_tree.specs.Grammar.{Rest, ends, closes, letter, branch_of, either_of, repeated, in_branch, behind_bar, grouped, from_token, whole, Open, Place, refusal, behind, beginning}
 use Rattle.ere_tree.specs.Grammar as grammar
-use Rattle.ere_tree.specs.Levels.{Level, Levels, run_parts, parts_of, new_level, with_letter, with_part, with_bar, with_branch_ended, tree_of, in_inner, beginning_levels, opened, closed, with_item, taken, open_of, place_of, level_view}
+use Rattle.ere_tree.specs.Levels.{Level, Levels, run_parts, parts_of, new_level, with_letter, with_part, with_bar, tree_of, in_inner, beginning_levels, closed, with_item, taken, open_of, place_of, level_view}
 use Rattle.ere_tree.specs.declared.bound.Bound.{Bound}
 use Rattle.ere_tree.specs.declared.level.Level as held
 
 -- whether a level has a number doesn't hang on the order
 pub any_of_levels : (n : ℕ) (levels : List held.Level) →
     list_any (λ (level : Open). level.number == n) (map open_of (reverse (map level_view levels)))
-        ≡ list_any (λ (level : held.Level). level.number == n) levels
+    ≡ list_any (λ (level : held.Level). level.number == n) levels
 any_of_levels n [] = refl
 any_of_levels n (first ∷ levels) =
     let p : Open → Bool = λ level. level.number == n in
@@ -94,7 +94,7 @@ finished-bar : (level : Level) (here : List Tree) (others : List (List Tree)) �
 finished-bar level here others =
     ap either_of (append_assoc level.branches (branch_of (parts_of level) ∷ []) (map branch_of (here ∷ others)))
     ∙ ap (λ parts. either_of (level.branches ++ map branch_of ((level.parts ++ parts) ∷ here ∷ others)))
-        (sym (letters-end level.run))
+    (sym (letters-end level.run))
 
 pub finished-end : (level : Level) → finished level [] [] ≡ tree_of level
 finished-end level =
@@ -159,13 +159,13 @@ open_joined at number level outer (closes here others bound outside) =
 
 close_joined : (bound : Option Bound) (inner level : Level) (outer : List Level) (rest : Rest) →
     joined (with_part (repeated bound (group inner.number (tree_of inner))) level) outer rest
-        ≡ joined inner (level ∷ outer) (closes [] [] bound rest)
+    ≡ joined inner (level ∷ outer) (closes [] [] bound rest)
 close_joined bound inner level outer rest =
     ap (λ tree. joined (with_part (repeated bound (group inner.number tree)) level) outer rest) (sym (finished-end inner))
 
 item_joined : (fold : Bool) (atom : Atom) (bound : Option Bound) (level : Level) (outer : List Level) (rest : Rest) →
     joined (with_item fold atom bound level) outer rest
-        ≡ joined level outer (in_branch (grammar.with_item fold atom bound) rest)
+    ≡ joined level outer (in_branch (grammar.with_item fold atom bound) rest)
 item_joined fold (byte b) None level outer rest = letter_joined b level outer rest
 item_joined fold (byte b) (Some bound) level outer rest =
     part_joined (repeated (Some bound) (plain (b ∷ []))) level outer rest refl
@@ -177,7 +177,7 @@ item_joined fold (same_as number) bound level outer rest =
 close_joined_all : (fold : Bool) (at : ℕ) (bound : Option Bound) (groups : ℕ) (inner : Level) (outer : List Level) (rest : Rest) →
     refusal (place_of (record { groups = groups; inner = inner; outer = outer })) (close_group bound) ≡ None →
     all_joined (closed bound (record { groups = groups; inner = inner; outer = outer })) rest
-        ≡ joined inner outer (closes [] [] bound rest)
+    ≡ joined inner outer (closes [] [] bound rest)
 close_joined_all fold at bound groups inner [] rest is = cc
 close_joined_all fold at bound groups inner (level ∷ outer) rest is = close_joined bound inner level outer rest
 
@@ -197,7 +197,7 @@ token_joined fold at (close_group bound) levels rest is =
 close_place : (at : ℕ) (bound : Option Bound) (groups : ℕ) (inner : Level) (outer : List Level) →
     refusal (place_of (record { groups = groups; inner = inner; outer = outer })) (close_group bound) ≡ None →
     place_of (closed bound (record { groups = groups; inner = inner; outer = outer }))
-        ≡ behind (place_of (record { groups = groups; inner = inner; outer = outer })) at (close_group bound)
+    ≡ behind (place_of (record { groups = groups; inner = inner; outer = outer })) at (close_group bound)
 close_place at bound groups inner [] is = cc
 close_place at bound groups inner (level ∷ outer) is = refl
 

@@ -1,10 +1,10 @@
 -- The grammar, a token at a time.
-use Rattle.std.proofs.Common.{◌≡◌, ℕ, zero, suc, ◌+◌, ◌-◌, ◌<◌, ◌≤◌, Bool, true, false, List, [], ◌∷◌, Option, Some, None, Result, Ok, Err, length, take, drop, map, nat_lt, refl, sym, ap, ◌∙◌, arith}
+use Rattle.std.proofs.Common.{◌≡◌, ℕ, zero, suc, ◌+◌, ◌-◌, ◌<◌, ◌≤◌, Bool, true, List, [], ◌∷◌, Some, None, Result, Ok, Err, length, drop, map, nat_lt, refl, sym, ap, ◌∙◌, arith}
 use Rattle.std.proofs.lemmas.Bool.Decides.{nat_tests}
 use Rattle.ere_tree.specs.Tree.{Tree}
-use Rattle.ere_tree.specs.Bracket.{fault, and_then}
+use Rattle.ere_tree.specs.Bracket.{fault}
 use Rattle.ere_tree.specs.Token.{Token, token}
-use Rattle.ere_tree.specs.Grammar.{Rest, ends, Place, refusal, refusal_at_end, behind, beginning, from_token, map_ok, unless, ended, reading_from, tree_read, whole}
+use Rattle.ere_tree.specs.Grammar.{Rest, ends, Place, refusal, refusal_at_end, behind, beginning, from_token, map_ok, ended, reading_from, tree_read, whole}
 use Rattle.ere_tree.specs.Levels.{Level, Levels, open_of, place_of, taken, tree_of, beginning_levels}
 use Rattle.ere_tree.specs.declared.fault.EreFault.{EreFault}
 use Rattle.ere_tree.specs.declared.fault.EreKind.{EreKind}
@@ -40,7 +40,7 @@ reading_denied fold place at (b ∷ rest) found kind some is denied = rw (is, de
 reading_taken : (fold : Bool) (place : Place) (at : ℕ) (text : List ℕ) (found : Token × ℕ) →
     token text ≡ Ok found → refusal place found.0 ≡ None → 0 < found.1 → found.1 ≤ length text →
     reading_from fold place at 0 text ≡ map_ok (from_token fold (place.groups + 1) found.0)
-        (reading_from fold (behind place at found.0) (at + found.1) 0 (drop found.1 text))
+    (reading_from fold (behind place at found.0) (at + found.1) 0 (drop found.1 text))
 unfolding reading_from
 reading_taken fold place at [] found is here some fits = absurd (omega arith)
 reading_taken fold place at (b ∷ rest) found is here some fits =
@@ -75,10 +75,10 @@ pub said_behind : (fold : Bool) (levels : Levels) (at : ℕ) (text : List ℕ) (
 said_behind fold levels at text found is here some fits =
     let next : Levels = taken fold at found.0 levels in
     ap (λ place. map_ok (all_joined next) (reading_from fold place (at + found.1) 0 (drop found.1 text)))
-        (token_place fold at found.0 levels here)
+    (token_place fold at found.0 levels here)
     ∙ changed_twice (from_token fold (levels.groups + 1) found.0) (all_joined levels) (all_joined next)
-        (reading_from fold (behind (place_of levels) at found.0) (at + found.1) 0 (drop found.1 text))
-        (λ rest. token_joined fold at found.0 levels rest here)
+    (reading_from fold (behind (place_of levels) at found.0) (at + found.1) 0 (drop found.1 text))
+    (λ rest. token_joined fold at found.0 levels rest here)
     ∙ ap (map_ok (all_joined levels)) (sym (reading_taken fold (place_of levels) at text found is here some fits))
 
 pub said_refused : (fold : Bool) (levels : Levels) (at : ℕ) (text : List ℕ) (refused : EreFault) →

@@ -1,6 +1,6 @@
 -- Bounds: how often an atom is repeated.
 -- After POSIX.1 XBD 9.4.6, EREs matching multiple characters. RE_DUP_MAX is 255, the least that POSIX.1 allows.
-use Rattle.std.specs.Prelude.{ℕ, ◌+◌, ◌-◌, ◌*◌, Bool, Option, Some, None, List, [], ◌∷◌, take, drop, ◌==◌, ◌&&◌, ◌||◌, nat_le, if◌then◌else◌}
+use Rattle.std.specs.Prelude.{ℕ, ◌+◌, ◌-◌, ◌*◌, Bool, Option, Some, None, List, [], ◌∷◌, take, drop, ◌&&◌, ◌||◌, nat_le, if◌then◌else◌}
 use Rattle.std.specs.List.{prefix_len}
 use Rattle.ere_tree.specs.Front.{begins, begins_with, is_decimal}
 use Rattle.ere_tree.specs.declared.bound.Bound.{Bound}

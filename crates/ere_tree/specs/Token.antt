@@ -1,8 +1,8 @@
 -- An expression byte by byte: its tokens. An atom and the bound behind it are one token.
 -- After POSIX.1 XBD 9.4, with back-references `\1` to `\9`. Own rules: a `{` with no digit behind it is an ordinary
 -- byte, and any byte may stand behind a backslash.
-use Rattle.std.specs.Prelude.{ℕ, ◌+◌, ◌-◌, Bool, Option, Some, None, List, drop, length, slice_index, Result, Ok, Err, ◌==◌, not, is_some, nat_lt, nat_le, ◌&&◌, if◌then◌else◌}
-use Rattle.ere_tree.specs.Front.{begins, begins_with}
+use Rattle.std.specs.Prelude.{ℕ, ◌+◌, ◌-◌, Option, Some, None, List, drop, length, slice_index, Result, Ok, Err, ◌==◌, not, is_some, nat_lt, nat_le, ◌&&◌, if◌then◌else◌}
+use Rattle.ere_tree.specs.Front.{begins}
 use Rattle.ere_tree.specs.Tree.{bytes_passing}
 use Rattle.ere_tree.specs.Bound.{bound_at, begins_bound}
 use Rattle.ere_tree.specs.Bracket.{bracket, fault}

@@ -1,4 +1,4 @@
-use Rattle.std.proofs.Common.{◌≡◌, ◌+◌, ◌<◌, ℕ, Ok, false, true, length, drop, refl, sym, ap, ◌∙◌, arith, length-drop, Err, ◌≤◌, ◌-◌}
+use Rattle.std.proofs.Common.{◌≡◌, ◌+◌, Ok, false, true, length, drop, refl, sym, ap, ◌∙◌, arith, length-drop, Err, ◌≤◌, ◌-◌}
 use Rattle.std.proofs.lemmas.List.{drop-drop}
 use Rattle.ere_tree.specs.View.{has_bit}
 use Rattle.ere_tree.specs.Bracket.{member, members}

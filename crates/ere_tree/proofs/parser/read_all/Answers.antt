@@ -1,4 +1,4 @@
-use Rattle.std.proofs.Common.{◌≡◌, ◌≤◌, ◌<◌, ◌-◌, ◌+◌, Ok, Err, Some, None, length, drop, refl, sym, ap, ◌∙◌, arith, length-drop}
+use Rattle.std.proofs.Common.{◌≡◌, ◌≤◌, ◌+◌, Ok, length, drop, sym, ap, ◌∙◌, arith, length-drop}
 use Rattle.std.proofs.lemmas.List.{drop-drop}
 use Rattle.ere_tree.specs.Levels.{levels_view, taken}
 use Rattle.ere_tree.specs.TokenView.{token_view}
@@ -20,7 +20,7 @@ returns-in-Err c =
     sym c.loop-at.invariant.rest
     ∙ ap (said c.args.fold levels c.loop-at.at) (sym c.behind.ensures)
     ∙ said_refused c.args.fold levels c.loop-at.at c.behind.result.now c.in-Err.fault (omega arith)
-        (sym c.in-Err.ensures.exact)
+    (sym c.in-Err.ensures.exact)
 
 pub returns-in-Some : goal.returns-in-Some
 returns-in-Some c =
@@ -30,7 +30,7 @@ returns-in-Some c =
     sym c.loop-at.invariant.rest
     ∙ ap (said c.args.fold levels c.loop-at.at) (sym c.behind.ensures)
     ∙ said_denied c.args.fold levels c.loop-at.at c.behind.result.now (token_view c.in-Ok.token, c.in-Ok.taken)
-        c.in-Some.kind (omega arith) (sym c.in-Ok.ensures.exact) (sym c.in-Some.ensures)
+    c.in-Some.kind (omega arith) (sym c.in-Ok.ensures.exact) (sym c.in-Some.ensures)
 
 pub loop-at-preserved : goal.loop-at-preserved
 loop-at-preserved c =
@@ -44,29 +44,29 @@ loop-at-preserved c =
     record {
       within = omega arith;
       rest =
-        ap (λ levels. said c.args.fold levels (at + c.in-Ok.taken) (drop (at + c.in-Ok.taken) bytes))
-            c.in_default-take.ensures
-        ∙ ap (said c.args.fold (taken c.args.fold at (token_view c.in-Ok.token) old) (at + c.in-Ok.taken))
-            (sym (ap (drop c.in-Ok.taken) c.behind.ensures ∙ drop-drop c.in-Ok.taken at bytes))
-        ∙ said_behind c.args.fold old at rest (token_view c.in-Ok.token, c.in-Ok.taken)
-            (sym c.in-Ok.ensures.exact) (sym c.in_default.ensures) c.in-Ok.ensures.some fits
-        ∙ ap (said c.args.fold old at) c.behind.ensures
-        ∙ c.loop-at.invariant.rest;
+          ap (λ levels. said c.args.fold levels (at + c.in-Ok.taken) (drop (at + c.in-Ok.taken) bytes))
+          c.in_default-take.ensures
+          ∙ ap (said c.args.fold (taken c.args.fold at (token_view c.in-Ok.token) old) (at + c.in-Ok.taken))
+          (sym (ap (drop c.in-Ok.taken) c.behind.ensures ∙ drop-drop c.in-Ok.taken at bytes))
+          ∙ said_behind c.args.fold old at rest (token_view c.in-Ok.token, c.in-Ok.taken)
+          (sym c.in-Ok.ensures.exact) (sym c.in_default.ensures) c.in-Ok.ensures.some fits
+          ∙ ap (said c.args.fold old at) c.behind.ensures
+          ∙ c.loop-at.invariant.rest;
     }
 
 pub returns-in-Some-refusal_at_end : goal.returns-in-Some-refusal_at_end
 returns-in-Some-refusal_at_end c =
     let none : length (drop c.loop-at.at c.args.bytes.now) ≡ 0 =
-        omega (arith, length-drop c.loop-at.at c.args.bytes.now) in
+    omega (arith, length-drop c.loop-at.at c.args.bytes.now) in
     sym c.loop-at.invariant.rest
     ∙ said_refused_at_end c.args.fold (levels_view c.loop-at.reader) c.loop-at.at (drop c.loop-at.at c.args.bytes.now)
-        c.in-Some-refusal_at_end.fault none (sym c.in-Some-refusal_at_end.ensures)
+    c.in-Some-refusal_at_end.fault none (sym c.in-Some-refusal_at_end.ensures)
 
 pub returns-in-Ok-finish : goal.returns-in-Ok-finish
 returns-in-Ok-finish c =
     let none : length (drop c.loop-at.at c.args.bytes.now) ≡ 0 =
-        omega (arith, length-drop c.loop-at.at c.args.bytes.now) in
+    omega (arith, length-drop c.loop-at.at c.args.bytes.now) in
     sym c.loop-at.invariant.rest
     ∙ said_at_end c.args.fold (levels_view c.loop-at.reader) c.loop-at.at (drop c.loop-at.at c.args.bytes.now)
-        none (sym c.in_default-refusal_at_end.ensures)
+    none (sym c.in_default-refusal_at_end.ensures)
     ∙ ap Ok (sym c.in-Ok-finish.ensures)
