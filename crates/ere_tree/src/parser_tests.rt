@@ -1,26 +1,27 @@
-//! Texts with their trees, texts with their faults, and hostile texts.
+//! Texts with their trees or their faults, and hostile texts.
 use crate::byte_set::ByteSet;
 use crate::ere::{Ere, EreList};
-use crate::fault::{EreFail, EreFault, EreKind};
+use crate::fault::{EreFail, EreFault};
 use crate::parser::parse;
 use std::alloc::Global;
+use std::process::Abort;
 use std::test::Fail;
 
-/// Up to twelve bytes of the set, and `..` where there are more.
+/// The bytes of the set, or how many there are of more than 13.
 fn show_set(alloc: Global, set: &ByteSet, out: &mut String) -> Result<(), Fail> {
-    out.push('[')?;
+    let mut bytes = String::new(alloc);
     let mut count: u32 = 0;
     for byte in 0..=255 {
-        if set.has(byte) && count < 13 {
-            if count < 12 {
-                out.push(char::from(byte))?;
-            } else {
-                out.push_str("..")?;
-            }
+        if set.has(byte) && count < 256 {
+            bytes.push(char::from(byte))?;
             count += 1;
         }
     }
-    out.push(']')?;
+    if count <= 13 {
+        out.push_str(format!(in alloc; "[{bytes}]")?.as_str())?;
+    } else {
+        out.push_str(format!(in alloc; "[{count}]")?.as_str())?;
+    }
     Ok(())
 }
 
@@ -28,9 +29,11 @@ fn show_set(alloc: Global, set: &ByteSet, out: &mut String) -> Result<(), Fail> 
 fn show(alloc: Global, ere: &Ere, out: &mut String) -> Result<(), Fail> {
     match ere {
         Ere::Empty => out.push_str("empty")?,
-        Ere::Plain(run) => for byte in run.as_slice() {
-            out.push(char::from(*byte))?;
-        },
+        Ere::Plain(run) => {
+            for byte in run.as_slice() {
+                out.push(char::from(*byte))?;
+            }
+        }
         Ere::Set(set) => show_set(alloc, set, out)?,
         Ere::LineStart => out.push('^')?,
         Ere::LineEnd => out.push('$')?,
@@ -46,7 +49,9 @@ fn show(alloc: Global, ere: &Ere, out: &mut String) -> Result<(), Fail> {
             show(alloc, inner, out)?;
             out.push(')')?;
         }
-        Ere::Ref { number, fold } => out.push_str(format!(in alloc; "={number}{fold}")?.as_str())?,
+        Ere::Ref { number, fold } => {
+            out.push_str(format!(in alloc; "ref {number} {fold}")?.as_str())?;
+        }
     }
     Ok(())
 }
@@ -54,144 +59,139 @@ fn show(alloc: Global, ere: &Ere, out: &mut String) -> Result<(), Fail> {
 #[cycle(show)]
 fn show_all(alloc: Global, name: &str, list: &EreList, out: &mut String) -> Result<(), Fail> {
     out.push_str(name)?;
+    out.push('(')?;
     for one in list.as_slice() {
         out.push(' ')?;
         show(alloc, one, out)?;
     }
-    out.push('.')?;
+    out.push_str(" )")?;
+    Ok(())
+}
+
+/// The tree of a text, or its fault.
+fn told(alloc: Global, text: &[u8]) -> Result<String, Fail> {
+    let mut out = String::new(alloc);
+    match parse(alloc, text, false) {
+        Ok(ere) => show(alloc, &ere, &mut out)?,
+        Err(EreFail::Bad(EreFault { at, kind })) => {
+            out.push_str(format!(in alloc; "{kind:?} {at}")?.as_str())?;
+        }
+        Err(EreFail::NoMemory) => out.push_str("no memory")?,
+    }
+    Ok(out)
+}
+
+/// A text and its tree in each line.
+const READ: &str = " => empty
+() => #1(empty)
+a{x => a{x
+{ => {
+{a}]} => {a}]}
+ab => ab
+ab* => cat( a 0-None(b) )
+a*b+c? => cat( 0-None(a) 1-None(b) 0-Some(1)(c) )
+a{2}b{2,}c{0,255} => cat( 2-Some(2)(a) 2-None(b) 0-Some(255)(c) )
+a{007} => 7-Some(7)(a)
+a|b => alt( a b )
+a|b|c => alt( a b c )
+(a|b)c => cat( #1(alt( a b )) c )
+(a)(b(c))(d) => cat( #1(a) #2(cat( b #3(c) )) #4(d) )
+(a)* => 0-None(#1(a))
+()* => 0-None(#1(empty))
+(a)\\1 => cat( #1(a) ref 1 false )
+(a)\\1{2}b => cat( #1(a) 2-Some(2)(ref 1 false) b )
+^a$ => cat( ^ a $ )
+a\\.b\\*\\0 => a.b*0
+\\\\* => 0-None(\\)
+.a => cat( [255] a )
+[^a] => [254]
+[]a-] => [-]a]
+[^]a] => [253]
+[a-c-e] => [-abce]
+[a-c--0] => [-./0abc]
+[--/] => [-./]
+[[:digit:]-] => [-0123456789]
+[[:digit:]x] => [0123456789x]
+[[:xdigit:][:punct:]] => [54]
+[a[:] => [:[a]
+[a\\] => [\\a]
+[X-[] => [XYZ[]
+[[:al]b => cat( [:[al] b )";
+
+/// A text and its fault in each line.
+const REFUSED: &str = "a{2,1} => BadBound 1
+(|a) => EmptyAlternative 1
+a** => RepeatOfNothing 2
+[[.a.]] => UnsupportedBracket 1
+\\1(a) => BadReference 0
+a) => StrayClose 1
+[^[:digit:]-z] => BadRange 2
+a|) => StrayClose 2
+a| => EmptyAlternative 2
+a||b => EmptyAlternative 2
+| => EmptyAlternative 0
+(a|) => EmptyAlternative 3
+(a| => UnclosedGroup 0
+( => UnclosedGroup 0
+(a(b)(c => UnclosedGroup 5
+(a** => RepeatOfNothing 3
+{2} => RepeatOfNothing 0
+^* => RepeatOfNothing 1
+(*a) => RepeatOfNothing 1
+a|*b => RepeatOfNothing 2
+a{1}{2} => RepeatOfNothing 4
+a{256} => BadBound 1
+a{4294967297} => BadBound 1
+a{2 => BadBound 1
+a{2,x} => BadBound 1
+a{2,3x => BadBound 1
+{256} => BadBound 0
+a){2,1} => StrayClose 1
+(a\\1) => BadReference 2
+(a)\\2 => BadReference 3
+a\\ => TrailingBackslash 1
+a[b => UnclosedBracket 1
+[] => UnclosedBracket 0
+[^] => UnclosedBracket 0
+[[:digit:] => UnclosedBracket 0
+[a- => UnclosedBracket 0
+[z-a] => BadRange 1
+[a-[:digit:]] => BadRange 1
+[a--] => BadRange 1
+[b[:word:]] => UnknownClass 2
+[[::]] => UnknownClass 1
+[a-[=a=]] => UnsupportedBracket 3
+((a{255}){255}){255} => TooLarge 0
+((a{255}){255}){255}( => UnclosedGroup 20";
+
+fn check_lines(rt: &impl Abort, alloc: Global, lines: &str) -> Result<(), Fail> {
+    for line in lines.lines() {
+        let (text, wanted) = line.split_once(" => ").ok_or("a line without an arrow")?;
+        assert_eq!(rt; told(alloc, text.as_bytes())?.as_str(), wanted, "of {text:?}");
+    }
     Ok(())
 }
 
 #[test]
 fn texts_are_read_as_their_trees(rt: HostRuntime) -> Result<(), Fail> {
-    let cases = [
-        ("", "empty"),
-        ("()", "#1(empty)"),
-        ("a{x", "a{x"),
-        ("{", "{"),
-        ("{a}]}", "{a}]}"),
-        ("ab", "ab"),
-        ("ab*", "cat a 0-None(b)."),
-        ("a*b+c?", "cat 0-None(a) 1-None(b) 0-Some(1)(c)."),
-        (
-            "a{2}b{2,}c{0,255}",
-            "cat 2-Some(2)(a) 2-None(b) 0-Some(255)(c).",
-        ),
-        ("a{007}", "7-Some(7)(a)"),
-        ("a|b", "alt a b."),
-        ("a|b|c", "alt a b c."),
-        ("(a|b)c", "cat #1(alt a b.) c."),
-        ("(a)(b(c))(d)", "cat #1(a) #2(cat b #3(c).) #4(d)."),
-        ("(a)*", "0-None(#1(a))"),
-        ("()*", "0-None(#1(empty))"),
-        ("(a)\\1", "cat #1(a) =1false."),
-        ("(a)\\1{2}b", "cat #1(a) 2-Some(2)(=1false) b."),
-        ("^a$", "cat ^ a $."),
-        ("a\\.b\\*\\0", "a.b*0"),
-        ("\\\\*", "0-None(\\)"),
-        ("[]a-]", "[-]a]"),
-        ("[a-c-e]", "[-abce]"),
-        ("[a-c--0]", "[-./0abc]"),
-        ("[--/]", "[-./]"),
-        ("[[:digit:]-]", "[-0123456789]"),
-        ("[[:digit:]x]", "[0123456789x]"),
-        ("[a[:]", "[:[a]"),
-        ("[a\\]", "[\\a]"),
-        ("[!-[]", "[!\"#$%&'()*+,..]"),
-        (
-            "[^ -~]*x",
-            "cat 0-None([\u{0}\u{1}\u{2}\u{3}\u{4}\u{5}\u{6}\u{7}\u{8}\u{9}\u{b}\u{c}..]) x.",
-        ),
-        ("[[:al]b", "cat [:[al] b."),
-    ];
-    let alloc = rt.alloc();
-    for (text, shown) in cases {
-        let ere = parse(alloc, text.as_bytes(), false).expect(&rt, text);
-        let mut out = String::new(alloc);
-        show(alloc, &ere, &mut out)?;
-        assert_eq!(rt; out.as_str(), shown, "of {text:?}");
-    }
-    Ok(())
-}
-
-/// What is wrong with the text, and where.
-fn refused(alloc: Global, text: &[u8]) -> Option<(EreKind, usize)> {
-    match parse(alloc, text, false) {
-        Err(EreFail::Bad(EreFault { at, kind })) => Some((kind, at)),
-        _ => None,
-    }
+    check_lines(&rt, rt.alloc(), READ)
 }
 
 #[test]
-fn the_first_fault_is_told_with_its_place(rt: HostRuntime) {
-    let cases = [
-        ("a{2,1}", EreKind::BadBound, 1),
-        ("(|a)", EreKind::EmptyAlternative, 1),
-        ("a**", EreKind::RepeatOfNothing, 2),
-        ("[[.a.]]", EreKind::UnsupportedBracket, 1),
-        ("\\1(a)", EreKind::BadReference, 0),
-        ("a)", EreKind::StrayClose, 1),
-        ("[^[:digit:]-z]", EreKind::BadRange, 2),
-        ("a|)", EreKind::StrayClose, 2),
-        ("a|", EreKind::EmptyAlternative, 2),
-        ("a||b", EreKind::EmptyAlternative, 2),
-        ("|", EreKind::EmptyAlternative, 0),
-        ("(a|)", EreKind::EmptyAlternative, 3),
-        ("(a|", EreKind::UnclosedGroup, 0),
-        ("(", EreKind::UnclosedGroup, 0),
-        ("(a(b)(c", EreKind::UnclosedGroup, 5),
-        ("(a**", EreKind::RepeatOfNothing, 3),
-        ("{2}", EreKind::RepeatOfNothing, 0),
-        ("^*", EreKind::RepeatOfNothing, 1),
-        ("(*a)", EreKind::RepeatOfNothing, 1),
-        ("a|*b", EreKind::RepeatOfNothing, 2),
-        ("a{1}{2}", EreKind::RepeatOfNothing, 4),
-        ("a{256}", EreKind::BadBound, 1),
-        ("a{4294967297}", EreKind::BadBound, 1),
-        ("a{2", EreKind::BadBound, 1),
-        ("a{2,x}", EreKind::BadBound, 1),
-        ("a{2,3x", EreKind::BadBound, 1),
-        ("{256}", EreKind::BadBound, 0),
-        ("a){2,1}", EreKind::StrayClose, 1),
-        ("(a\\1)", EreKind::BadReference, 2),
-        ("(a)\\2", EreKind::BadReference, 3),
-        ("a\\", EreKind::TrailingBackslash, 1),
-        ("a[b", EreKind::UnclosedBracket, 1),
-        ("[]", EreKind::UnclosedBracket, 0),
-        ("[^]", EreKind::UnclosedBracket, 0),
-        ("[[:digit:]", EreKind::UnclosedBracket, 0),
-        ("[a-", EreKind::UnclosedBracket, 0),
-        ("[z-a]", EreKind::BadRange, 1),
-        ("[a-[:digit:]]", EreKind::BadRange, 1),
-        ("[a--]", EreKind::BadRange, 1),
-        ("[b[:word:]]", EreKind::UnknownClass, 2),
-        ("[[::]]", EreKind::UnknownClass, 1),
-        ("[a-[=a=]]", EreKind::UnsupportedBracket, 3),
-        ("((a{255}){255}){255}", EreKind::TooLarge, 0),
-        ("((a{255}){255}){255}(", EreKind::UnclosedGroup, 20),
-    ];
-    for (text, kind, at) in cases {
-        assert_eq!(rt;
-            refused(rt.alloc(), text.as_bytes()),
-            Some((kind, at)),
-            "of {text:?}"
-        );
-    }
+fn the_first_fault_is_told_with_its_place(rt: HostRuntime) -> Result<(), Fail> {
+    check_lines(&rt, rt.alloc(), REFUSED)
 }
 
 #[test]
 fn hostile_texts_are_answered(rt: HostRuntime) -> Result<(), Fail> {
     let alloc = rt.alloc();
     let opens = vec![in alloc; b'('; 100_000]?;
-    assert_eq!(rt; refused(alloc, &opens), Some((EreKind::TooDeep, 250)));
+    assert_eq!(rt; told(alloc, &opens)?.as_str(), "TooDeep 250");
     let brackets = vec![in alloc; b'['; 65_536]?;
-    assert_eq!(rt;
-        refused(alloc, &brackets),
-        Some((EreKind::UnclosedBracket, 0))
-    );
+    assert_eq!(rt; told(alloc, &brackets)?.as_str(), "UnclosedBracket 0");
     for first in 0..=255 {
-        let _one = parse(alloc, &[first], false);
         for second in 0..=255 {
+            let _one = parse(alloc, &[first], false);
             let _pair = parse(alloc, &[first, second], false);
         }
     }
