@@ -8,6 +8,8 @@ mod copy;
 mod ere;
 mod hit;
 mod shape;
+#[cfg(test)]
+mod tests;
 
 pub use byte_set::ByteSet;
 pub use classes::class;

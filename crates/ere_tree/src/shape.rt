@@ -9,25 +9,21 @@ use crate::ere::{Ere, EreList};
 use std::mem;
 
 impl Ere {
-    #[tactic(auto, using(crate::proofs::ShapeLemmas::stopped_product))]
     /// The size with each bound unfolded. A size past `u64::MAX` is answered as `u64::MAX`.
     #[cycle(size)]
+    #[tactic(auto, using(crate::proofs::ShapeLemmas::stopped_product))]
     pub fn size(&self) -> u64
         ensures { result ≡ min (size_of (view self.now)) (2 ^ 64 - 1) }
     {
         match self {
-            Ere::Empty => 1,
+            Ere::Empty | Ere::Set(_) | Ere::LineStart | Ere::LineEnd | Ere::Ref { .. } => 1,
             Ere::Plain(run) => run.as_slice().len() as u64,
-            Ere::Set(_) => 1,
-            Ere::LineStart => 1,
-            Ere::LineEnd => 1,
             Ere::Cat(parts) => parts.total_size(),
             Ere::Alt(choices) => choices.total_size().saturating_add(1),
             Ere::Repeat { inner, least, most } => copies(*least, *most)
                 .saturating_mul(inner.size())
                 .saturating_add(1),
             Ere::Group { inner, .. } => inner.size().saturating_add(1),
-            Ere::Ref { .. } => 1,
         }
     }
 
@@ -37,16 +33,12 @@ impl Ere {
         ensures { result ≡ greatest_group (view self.now) }
     {
         match self {
-            Ere::Empty => 0,
-            Ere::Plain(_) => 0,
-            Ere::Set(_) => 0,
-            Ere::LineStart => 0,
-            Ere::LineEnd => 0,
+            Ere::Empty | Ere::Plain(_) | Ere::Set(_) => 0,
+            Ere::LineStart | Ere::LineEnd | Ere::Ref { .. } => 0,
             Ere::Cat(parts) => parts.greatest_group(),
             Ere::Alt(choices) => choices.greatest_group(),
             Ere::Repeat { inner, .. } => inner.groups(),
             Ere::Group { number, inner } => inner.groups().max(*number),
-            Ere::Ref { .. } => 0,
         }
     }
 
@@ -56,11 +48,8 @@ impl Ere {
         ensures { result ≡ has_refs (view self.now) }
     {
         match self {
-            Ere::Empty => false,
-            Ere::Plain(_) => false,
-            Ere::Set(_) => false,
-            Ere::LineStart => false,
-            Ere::LineEnd => false,
+            Ere::Empty | Ere::Plain(_) | Ere::Set(_) => false,
+            Ere::LineStart | Ere::LineEnd => false,
             Ere::Cat(parts) => parts.have_refs(),
             Ere::Alt(choices) => choices.have_refs(),
             Ere::Repeat { inner, .. } => inner.has_refs(),
@@ -113,10 +102,10 @@ impl Ere {
                     inner,
                 }
             }
-            Ere::Ref { number, fold } => Ere::Ref {
-                number: number + by,
-                fold,
-            },
+            Ere::Ref { number, fold } => {
+                let number = number + by;
+                Ere::Ref { number, fold }
+            }
         }
     }
 }
