@@ -49,7 +49,6 @@ fn a_or_many_b(alloc: Global) -> Result<Ere, AllocError>
     either(alloc, plain(alloc, b"a")?, group)
 }
 
-#[tactic(auto, using(crate::proofs::ViewLemmas::view_Alt))]
 fn either(alloc: Global, first: Ere, second: Ere) -> Result<Ere, AllocError>
     ensures { IfOk result (λ tree. view tree ≡ alt (then (view first) (then (view second) none))) }
 {
