@@ -1,7 +1,8 @@
 //! The shape of an expression: its size, its groups, its references.
 ghost use Rattle.std.specs.Prelude.{◌≡◌, ◌+◌, ◌-◌, ◌^◌, ◌<◌, min, map};
-ghost use Rattle.ere_tree.specs.Shape.{copies, size_of, size_of_all, greatest_group, greatest_group_of, has_refs, any_has_refs};
-ghost use Rattle.ere_tree.specs.Shape.{greatest_number, greatest_number_of, shifted, all_shifted};
+ghost use Rattle.ere_tree.specs.Shape.{copies, size_of, size_of_all, greatest_group, greatest_group_of};
+ghost use Rattle.ere_tree.specs.Shape.{has_refs, any_has_refs, greatest_number, greatest_number_of};
+ghost use Rattle.ere_tree.specs.Shape.{shifted, all_shifted};
 ghost use Rattle.ere_tree.specs.Tree.{trees_of};
 ghost use Rattle.ere_tree.specs.View.{view};
 
@@ -158,7 +159,8 @@ impl EreList {
     #[cycle(shift)]
     fn shift(&mut self, by: u32)
         requires { greatest_number_of (trees_of (map view self.old.held.items)) + by < 2 ^ 31 }
-        ensures { trees_of (map view self.new.held.items) ≡ all_shifted by (trees_of (map view self.old.held.items)) }
+        ensures { trees_of (map view self.new.held.items)
+            ≡ all_shifted by (trees_of (map view self.old.held.items)) }
     {
         for one in self.held.iter_mut() {
             one.shift(by);

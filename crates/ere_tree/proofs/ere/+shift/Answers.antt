@@ -9,7 +9,8 @@ use Rattle.ere_tree.proofs.ere.+shift.Goals as goal
 pub Ere::raised-returns-in-Repeat : goal.Ere::raised-returns-in-Repeat
 Ere::raised-returns-in-Repeat t c =
     let inside = c.shift-in-Repeat.ensures ∙ ap (λ e. shifted c.args.by (view e)) c.deref_mut.ensures.value in
-    let made = view_Repeat (with_value c.in-Repeat.inner c.shift-in-Repeat.new.self) c.in-Repeat.least c.in-Repeat.most in
+    let made = view_Repeat (with_value c.in-Repeat.inner c.shift-in-Repeat.new.self)
+    c.in-Repeat.least c.in-Repeat.most in
     let before = ap view c.in-Repeat.is ∙ view_Repeat c.in-Repeat.inner c.in-Repeat.least c.in-Repeat.most in
     rw (made, before, inside)
 
