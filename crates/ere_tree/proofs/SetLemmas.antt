@@ -155,7 +155,10 @@ complement_has xs p q r s b low = at_word
     ≡ (not (bit_at (slice_index xs w) (b % 64) == 1) && not (b == 10)))
     b low
     (λ e. let same : b % 64 ≡ b = omega arith in
-    rw (clear_bit (2 ^ 64 - 1 - slice_index xs 0) (b % 64) (omega arith), not_bit (slice_index xs 0) (b % 64) p (omega arith))
+    rw (
+      clear_bit (2 ^ 64 - 1 - slice_index xs 0) (b % 64) (omega arith),
+      not_bit (slice_index xs 0) (b % 64) p (omega arith),
+    )
     (ap (λ (n : ℕ). not (bit_at (slice_index xs 0) (b % 64) == 1) && not (n == 10)) same))
     (λ e. rw (not_bit (slice_index xs 1) (b % 64) q (omega arith)) (grind (arith, nat_tests)))
     (λ e. rw (not_bit (slice_index xs 2) (b % 64) r (omega arith)) (grind (arith, nat_tests)))

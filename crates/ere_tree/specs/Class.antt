@@ -5,23 +5,27 @@ use Rattle.std.specs.List.{find}
 use Rattle.std.specs.Option.{option_map}
 use Rattle.std.specs.Str.{bytes_eq}
 
--- `0` to `9`, `a` to `z`, `A` to `Z`
+-- `0` to `9`
 abbrev pub is_digit : ℕ → Bool
 is_digit = is_in_range 48 57
 
+-- `a` to `z`
 abbrev pub is_lower : ℕ → Bool
 is_lower = is_in_range 97 122
 
+-- `A` to `Z`
 abbrev pub is_upper : ℕ → Bool
 is_upper = is_in_range 65 90
 
+-- the letters
 abbrev pub is_alpha : ℕ → Bool
 is_alpha b = is_upper b || is_lower b
 
+-- the digits and the letters
 abbrev pub is_alnum : ℕ → Bool
 is_alnum b = is_digit b || is_alpha b
 
--- digits, `A` to `F`, `a` to `f`
+-- the digits, `A` to `F` and `a` to `f`
 abbrev pub is_xdigit : ℕ → Bool
 is_xdigit b = is_digit b || is_in_range 65 70 b || is_in_range 97 102 b
 
@@ -29,21 +33,23 @@ is_xdigit b = is_digit b || is_in_range 65 70 b || is_in_range 97 102 b
 abbrev pub is_blank : ℕ → Bool
 is_blank b = b == 9 || b == 32
 
--- tab, newline, vertical tab, form feed, carriage return, space
+-- tab, newline, vertical tab, form feed, carriage return and space
 abbrev pub is_space : ℕ → Bool
 is_space b = is_in_range 9 13 b || b == 32
 
--- the controls and delete
+-- the controls, delete among them
 abbrev pub is_cntrl : ℕ → Bool
 is_cntrl b = is_in_range 0 31 b || b == 127
 
--- what is printed, with the space and without
+-- what is printed, the space among it
 abbrev pub is_print : ℕ → Bool
 is_print = is_in_range 32 126
 
+-- what is printed, but for the space
 abbrev pub is_graph : ℕ → Bool
 is_graph = is_in_range 33 126
 
+-- what is neither a space nor a digit or letter, and printed
 abbrev pub is_punct : ℕ → Bool
 is_punct b = is_graph b && not (is_alnum b)
 

@@ -41,6 +41,7 @@ abbrev mutual
   greatest_group (group number t) = max number (greatest_group t)
   greatest_group (back number fold) = 0
 
+  -- the greatest of all of them
   pub greatest_group_of : Trees → ℕ
   greatest_group_of none = 0
   greatest_group_of (then t ts) = max (greatest_group t) (greatest_group_of ts)
@@ -59,6 +60,7 @@ abbrev mutual
   has_refs (group number t) = has_refs t
   has_refs (back number fold) = true
 
+  -- whether one of them holds a reference
   pub any_has_refs : Trees → Bool
   any_has_refs none = false
   any_has_refs (then t ts) = has_refs t || any_has_refs ts
@@ -77,6 +79,7 @@ abbrev mutual
   greatest_number (group number t) = max number (greatest_number t)
   greatest_number (back number fold) = number
 
+  -- the greatest of all of them
   pub greatest_number_of : Trees → ℕ
   greatest_number_of none = 0
   greatest_number_of (then t ts) = max (greatest_number t) (greatest_number_of ts)
@@ -95,6 +98,7 @@ abbrev mutual
   shifted by (group number t) = group (number + by) (shifted by t)
   shifted by (back number fold) = back (number + by) fold
 
+  -- all of them, raised by the same number
   pub all_shifted : ℕ → Trees → Trees
   all_shifted by none = none
   all_shifted by (then t ts) = then (shifted by t) (all_shifted by ts)

@@ -1,7 +1,8 @@
 //! The character classes of brackets, as `[:alpha:]`, each a table of words.
 ghost use Rattle.std.specs.Prelude.{◌≡◌};
 ghost use Rattle.std.specs.Option.{option_map};
-ghost use Rattle.ere_tree.specs.Class.{class_of, is_alnum, is_alpha, is_blank, is_cntrl, is_digit, is_graph, is_lower, is_print, is_punct, is_space, is_upper, is_xdigit};
+ghost use Rattle.ere_tree.specs.Class.{class_of, is_alnum, is_alpha, is_blank, is_cntrl, is_digit, is_graph};
+ghost use Rattle.ere_tree.specs.Class.{is_lower, is_print, is_punct, is_space, is_upper, is_xdigit};
 ghost use Rattle.ere_tree.specs.Tree.{bytes_passing};
 ghost use Rattle.ere_tree.specs.View.{members_of};
 
@@ -98,9 +99,10 @@ fn xdigit() -> ByteSet
     table!(0x03ff_0000_0000_0000, 0x0000_007e_0000_007e)
 }
 
-/// The bytes of the class of this name, as `alpha`. There is none of another name.
+/// The bytes of the class of this name, without brackets and colons, as `alpha`.
 pub fn class(name: &[u8]) -> Option<ByteSet>
-    ensures { option_map (λ set. members_of set.bits) result ≡ option_map bytes_passing (class_of name.now) }
+    ensures { option_map (λ set. members_of set.bits) result
+        ≡ option_map bytes_passing (class_of name.now) }
 {
     if name == b"alnum".as_slice() {
         Some(alnum())

@@ -16,6 +16,8 @@ mod parser;
 #[cfg(test)]
 mod parser_tests;
 mod shape;
+#[cfg(test)]
+mod tests;
 mod token;
 
 pub use byte_set::ByteSet;

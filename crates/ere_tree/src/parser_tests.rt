@@ -167,7 +167,11 @@ a[b => UnclosedBracket 1
 fn check_lines(rt: &impl Abort, alloc: Global, lines: &str) -> Result<(), Fail> {
     for line in lines.lines() {
         let (text, wanted) = line.split_once(" => ").ok_or("a line without an arrow")?;
-        assert_eq!(rt; told(alloc, text.as_bytes())?.as_str(), wanted, "of {text:?}");
+        assert_eq!(rt;
+            told(alloc, text.as_bytes())?.as_str(),
+            wanted,
+            "of {text:?}"
+        );
     }
     Ok(())
 }

@@ -1,7 +1,8 @@
 //! The shape of an expression: its size, its groups, its references.
 ghost use Rattle.std.specs.Prelude.{◌≡◌, ◌+◌, ◌-◌, ◌^◌, ◌<◌, min, map};
-ghost use Rattle.ere_tree.specs.Shape.{copies, size_of, size_of_all, greatest_group, greatest_group_of, has_refs, any_has_refs};
-ghost use Rattle.ere_tree.specs.Shape.{greatest_number, greatest_number_of, shifted, all_shifted};
+ghost use Rattle.ere_tree.specs.Shape.{copies, size_of, size_of_all, greatest_group, greatest_group_of};
+ghost use Rattle.ere_tree.specs.Shape.{has_refs, any_has_refs, greatest_number, greatest_number_of};
+ghost use Rattle.ere_tree.specs.Shape.{shifted, all_shifted};
 ghost use Rattle.ere_tree.specs.Tree.{trees_of};
 ghost use Rattle.ere_tree.specs.View.{view};
 
@@ -9,25 +10,21 @@ use crate::ere::{Ere, EreList};
 use std::mem;
 
 impl Ere {
-    #[tactic(auto, using(crate::proofs::ShapeLemmas::stopped_product))]
     /// The size with each bound unfolded. A size past `u64::MAX` is answered as `u64::MAX`.
     #[cycle(size)]
+    #[tactic(auto, using(crate::proofs::ShapeLemmas::stopped_product))]
     pub fn size(&self) -> u64
         ensures { result ≡ min (size_of (view self.now)) (2 ^ 64 - 1) }
     {
         match self {
-            Ere::Empty => 1,
+            Ere::Empty | Ere::Set(_) | Ere::LineStart | Ere::LineEnd | Ere::Ref { .. } => 1,
             Ere::Plain(run) => run.as_slice().len() as u64,
-            Ere::Set(_) => 1,
-            Ere::LineStart => 1,
-            Ere::LineEnd => 1,
             Ere::Cat(parts) => parts.total_size(),
             Ere::Alt(choices) => choices.total_size().saturating_add(1),
             Ere::Repeat { inner, least, most } => copies(*least, *most)
                 .saturating_mul(inner.size())
                 .saturating_add(1),
             Ere::Group { inner, .. } => inner.size().saturating_add(1),
-            Ere::Ref { .. } => 1,
         }
     }
 
@@ -37,16 +34,12 @@ impl Ere {
         ensures { result ≡ greatest_group (view self.now) }
     {
         match self {
-            Ere::Empty => 0,
-            Ere::Plain(_) => 0,
-            Ere::Set(_) => 0,
-            Ere::LineStart => 0,
-            Ere::LineEnd => 0,
+            Ere::Empty | Ere::Plain(_) | Ere::Set(_) => 0,
+            Ere::LineStart | Ere::LineEnd | Ere::Ref { .. } => 0,
             Ere::Cat(parts) => parts.greatest_group(),
             Ere::Alt(choices) => choices.greatest_group(),
             Ere::Repeat { inner, .. } => inner.groups(),
             Ere::Group { number, inner } => inner.groups().max(*number),
-            Ere::Ref { .. } => 0,
         }
     }
 
@@ -56,11 +49,8 @@ impl Ere {
         ensures { result ≡ has_refs (view self.now) }
     {
         match self {
-            Ere::Empty => false,
-            Ere::Plain(_) => false,
-            Ere::Set(_) => false,
-            Ere::LineStart => false,
-            Ere::LineEnd => false,
+            Ere::Empty | Ere::Plain(_) | Ere::Set(_) => false,
+            Ere::LineStart | Ere::LineEnd => false,
             Ere::Cat(parts) => parts.have_refs(),
             Ere::Alt(choices) => choices.have_refs(),
             Ere::Repeat { inner, .. } => inner.has_refs(),
@@ -113,10 +103,10 @@ impl Ere {
                     inner,
                 }
             }
-            Ere::Ref { number, fold } => Ere::Ref {
-                number: number + by,
-                fold,
-            },
+            Ere::Ref { number, fold } => {
+                let number = number + by;
+                Ere::Ref { number, fold }
+            }
         }
     }
 }
@@ -169,7 +159,8 @@ impl EreList {
     #[cycle(shift)]
     fn shift(&mut self, by: u32)
         requires { greatest_number_of (trees_of (map view self.old.held.items)) + by < 2 ^ 31 }
-        ensures { trees_of (map view self.new.held.items) ≡ all_shifted by (trees_of (map view self.old.held.items)) }
+        ensures { trees_of (map view self.new.held.items)
+            ≡ all_shifted by (trees_of (map view self.old.held.items)) }
     {
         for one in self.held.iter_mut() {
             one.shift(by);
