@@ -66,7 +66,7 @@ bytes_agree true f g same = bytes_passing_agree (λ b. not (f b) && not (b == 10
 -- tests that agree on every byte read alike
 pub members_agree : (negated : Bool) (f g : ℕ → Bool) (first : Bool) (at skip : ℕ) (text : List ℕ) →
     ((b : ℕ) → b < 256 → f b ≡ g b) → members negated f first at skip text ≡ members negated g first at skip text
-unfolding members
+unfolding members begins_with
 members_agree negated f g first at skip [] same = refl
 members_agree negated f g first at (suc skip) (b ∷ rest) same = members_agree negated f g first (suc at) skip rest same
 members_agree negated f g first at zero (b ∷ rest) same =

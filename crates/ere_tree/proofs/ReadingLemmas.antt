@@ -4,7 +4,8 @@ use Rattle.std.proofs.lemmas.Bool.Decides.{nat_tests}
 use Rattle.ere_tree.specs.Tree.{Tree}
 use Rattle.ere_tree.specs.Bracket.{fault}
 use Rattle.ere_tree.specs.Token.{Token, token}
-use Rattle.ere_tree.specs.Grammar.{Rest, ends, Place, refusal, refusal_at_end, behind, beginning, from_token, map_ok, ended, reading_from, tree_read, whole}
+use Rattle.ere_tree.specs.Grammar.{Rest, ends, from_token, map_ok, ended, reading_from, tree_read, whole}
+use Rattle.ere_tree.specs.Place.{Place, refusal, refusal_at_end, behind, beginning}
 use Rattle.ere_tree.specs.Levels.{Level, Levels, open_of, place_of, taken, tree_of, beginning_levels}
 use Rattle.ere_tree.specs.declared.fault.EreFault.{EreFault}
 use Rattle.ere_tree.specs.declared.fault.EreKind.{EreKind}

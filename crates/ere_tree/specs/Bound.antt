@@ -1,9 +1,10 @@
 -- Bounds: how often an atom is repeated.
 -- After POSIX.1 XBD 9.4.6, EREs matching multiple characters. RE_DUP_MAX is 255, the least that POSIX.1 allows.
-use Rattle.std.specs.Prelude.{ℕ, ◌+◌, ◌-◌, ◌*◌, Bool, Option, Some, None, List, [], ◌∷◌, take, drop, ◌&&◌, ◌||◌, nat_le, if◌then◌else◌}
+use Rattle.std.specs.Prelude.{codes, ℕ, ◌+◌, ◌-◌, ◌*◌, Bool, Option, Some, None, List, [], ◌∷◌, take, drop, ◌&&◌, ◌||◌, nat_le, if◌then◌else◌}
 use Rattle.std.specs.List.{prefix_len}
-use Rattle.ere_tree.specs.Front.{begins, begins_with, is_decimal}
+use Rattle.ere_tree.specs.Front.{begins_with, starts, is_decimal}
 use Rattle.ere_tree.specs.declared.bound.Bound.{Bound}
+use Rattle.ere_tree.specs.declared.bound.TheConstants.{MAX_BOUND}
 
 -- how many digits the text begins with
 abbrev pub digit_count : List ℕ → ℕ
@@ -20,17 +21,17 @@ number_at text = number_from 0 (take (digit_count text) text)
 
 -- these repetitions, where both numbers are within the limit and in order, and the bytes that their bound takes
 abbrev pub at_least : ℕ → ℕ → Option (Bound × ℕ)
-at_least least taken = if nat_le least 255 then Some (record { least = least; most = None }, taken) else None
+at_least least taken = if nat_le least MAX_BOUND then Some (record { least = least; most = None }, taken) else None
 
 abbrev pub between : ℕ → ℕ → ℕ → Option (Bound × ℕ)
 between least most taken =
-    if nat_le least most && nat_le most 255 then Some (record { least = least; most = Some most }, taken) else None
+    if nat_le least most && nat_le most MAX_BOUND then Some (record { least = least; most = Some most }, taken) else None
 
 -- the end of a bound behind `{m,`: `}` or `n}`
 abbrev pub behind_comma : ℕ → ℕ → List ℕ → Option (Bound × ℕ)
 behind_comma least taken text =
-    if begins 125 text then at_least least (taken + 1)
-    else if begins_with is_decimal text && begins 125 (drop (digit_count text) text)
+    if starts (codes "}") text then at_least least (taken + 1)
+    else if begins_with is_decimal text && starts (codes "}") (drop (digit_count text) text)
     then between least (number_at text) (taken + digit_count text + 1)
     else None
 
@@ -40,20 +41,20 @@ braced text =
     let least = number_at text in
     let count = digit_count text in
     let behind = drop count text in
-    if begins 125 behind then between least least (count + 2)
-    else if begins 44 behind then behind_comma least (count + 2) (drop 1 behind)
+    if starts (codes "}") behind then between least least (count + 2)
+    else if starts (codes ",") behind then behind_comma least (count + 2) (drop 1 behind)
     else None
 
 -- whether a bound begins here, good or bad: `*`, `+`, `?`, or a `{` with a digit behind it
 unfoldable pub begins_bound : List ℕ → Bool
-begins_bound text = begins 42 text || begins 43 text || begins 63 text ||
-    (begins 123 text && begins_with is_decimal (drop 1 text))
+begins_bound text = starts (codes "*") text || starts (codes "+") text || starts (codes "?") text ||
+    (starts (codes "{") text && begins_with is_decimal (drop 1 text))
 
 -- the good bound at the front of the text, where there is one, and how many bytes it takes
 unfoldable pub bound_at : List ℕ → Option (Bound × ℕ)
 bound_at text =
-    if begins 42 text then Some (record { least = 0; most = None }, 1)
-    else if begins 43 text then Some (record { least = 1; most = None }, 1)
-    else if begins 63 text then Some (record { least = 0; most = Some 1 }, 1)
+    if starts (codes "*") text then Some (record { least = 0; most = None }, 1)
+    else if starts (codes "+") text then Some (record { least = 1; most = None }, 1)
+    else if starts (codes "?") text then Some (record { least = 0; most = Some 1 }, 1)
     else if begins_bound text then braced (drop 1 text)
     else None

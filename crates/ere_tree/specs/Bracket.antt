@@ -1,10 +1,10 @@
 -- Bracket expressions, as tests of bytes.
 -- After POSIX.1 XBD 9.3.5, RE bracket expression, in the POSIX locale. Own rules: no collating symbols and no
 -- equivalence classes, a class is no end of a range, a negated bracket leaves newline out.
-use Rattle.std.specs.Prelude.{ℕ, zero, suc, ◌+◌, ◌-◌, Bool, true, false, ◌≡◌, Option, Some, None, List, [], ◌∷◌, take, drop, length, slice_index, Result, Ok, Err, ◌==◌, ◌&&◌, ◌||◌, not, nat_le, nat_lt, if◌then◌else◌}
+use Rattle.std.specs.Prelude.{codes, ℕ, zero, suc, ◌+◌, ◌-◌, Bool, true, false, ◌≡◌, Option, Some, None, List, [], ◌∷◌, take, drop, length, slice_index, Result, Ok, Err, ◌==◌, ◌&&◌, ◌||◌, not, nat_le, nat_lt, if◌then◌else◌}
 use Rattle.std.specs.Int.{is_in_range}
 use Rattle.std.specs.List.{prefix_len}
-use Rattle.ere_tree.specs.Front.{begins}
+use Rattle.ere_tree.specs.Front.{starts}
 use Rattle.ere_tree.specs.Tree.{bytes_passing}
 use Rattle.ere_tree.specs.Class.{class_of}
 use Rattle.ere_tree.specs.Bytes.{HasBytes}
@@ -25,13 +25,13 @@ unfoldable pub class_len : List ℕ → Option ℕ
 class_len text =
     let count = name_len (drop 2 text) in
     let behind = drop (count + 2) text in
-    if begins 91 text && begins 58 (drop 1 text) && begins 58 behind && begins 93 (drop 1 behind) then Some count
+    if starts (codes "[:") text && starts (codes ":]") behind then Some count
     else None
 
 -- what the text begins with inside a bracket: `[.` or `[=`, a class, or a byte
 unfoldable pub element : List ℕ → Element
 element text =
-    if begins 91 text && (begins 46 (drop 1 text) || begins 61 (drop 1 text)) then Unsupported
+    if starts (codes "[.") text || starts (codes "[=") text then Unsupported
     else elim (class_len text) [
       | Some count ↦ Class count
       | None ↦ Byte (slice_index text 0)
@@ -45,7 +45,7 @@ element_len Unsupported = 2
 
 -- whether the text goes on with a `-` that has an end of a range behind it
 unfoldable pub begins_range : List ℕ → Bool
-begins_range text = begins 45 text && nat_lt 1 (length text) && not (begins 93 (drop 1 text))
+begins_range text = starts (codes "-") text && nat_lt 1 (length text) && not (starts (codes "]") (drop 1 text))
 
 abbrev pub fault : {A : Type 0} → ℕ → EreKind → Result A EreFault
 fault at kind = Err (record { at = at; kind = kind })
@@ -92,14 +92,14 @@ unfoldable pub members : Bool → (ℕ → Bool) → Bool → ℕ → ℕ → Li
 members negated test first at skip [] = fault 0 UnclosedBracket
 members negated test first at (suc skip) (b ∷ rest) = members negated test first (suc at) skip rest
 members negated test first at zero (b ∷ rest) =
-    if b == 93 && not first then Ok (bytes_of negated test, at + 1)
+    if starts (codes "]") (b ∷ rest) && not first then Ok (bytes_of negated test, at + 1)
     else and_then at (member (b ∷ rest))
     (λ found. members negated (λ c. test c || found.0 c) false (suc at) (found.1 - 1) rest)
 
 -- the bracket that the text begins with: its bytes, and its length
 unfoldable pub bracket : List ℕ → Result (List ℕ × ℕ) EreFault
 bracket text =
-    if begins 94 (drop 1 text) then members true (λ b. false) true 2 0 (drop 2 text)
+    if starts (codes "^") (drop 1 text) then members true (λ b. false) true 2 0 (drop 2 text)
     else members false (λ b. false) true 1 0 (drop 1 text)
 
 -- a set that was found is that of the test, and a refusal is the one told

@@ -2,7 +2,6 @@
 -- After POSIX.1 XBD 9.4 and 9.5.3, with back-references, and with `()` as a group of the empty expression. Own rules:
 -- groups are nested at most 250 deep, and an expression's size is at most 100,000.
 use Rattle.std.specs.Prelude.{◌≡◌, ℕ, zero, suc, ◌+◌, ◌-◌, Bool, true, false, Option, Some, None, List, [], ◌∷◌, map, length, Result, Ok, Err, ◌==◌, ◌&&◌, ◌||◌, not, nat_lt, nat_le, if◌then◌else◌}
-use Rattle.std.specs.List.{list_any}
 use Rattle.ere_tree.specs.Tree.{Tree, empty, plain, set, line_start, line_end, cat, alt, repeat, group, back, trees_of}
 use Rattle.ere_tree.specs.Shape.{size_of}
 use Rattle.ere_tree.specs.Bracket.{fault, and_then}
@@ -15,9 +14,9 @@ use Rattle.ere_tree.specs.declared.fault.EreFail.TheVariants.{Bad, NoMemory}
 use Rattle.ere_tree.specs.declared.bound.Bound.{Bound}
 use Rattle.ere_tree.specs.declared.fault.EreFault.{EreFault}
 use Rattle.ere_tree.specs.declared.fault.EreKind.{EreKind}
-use Rattle.ere_tree.specs.declared.fault.EreKind.TheVariants.{EmptyAlternative, UnclosedGroup, StrayClose, BadReference, TooLarge, TooDeep}
-use Rattle.ere_tree.specs.declared.level.Last.{Last}
-use Rattle.ere_tree.specs.declared.level.Last.TheVariants.{Nothing, Bar, Part}
+use Rattle.ere_tree.specs.declared.fault.EreKind.TheVariants.{TooLarge}
+use Rattle.ere_tree.specs.declared.parser.TheConstants.{MAX_SIZE}
+use Rattle.ere_tree.specs.Place.{Place, refusal, refusal_at_end, beginning, behind}
 
 -- What the text says from a place on: the rest of the branch there, and the branches behind it at the same level.
 -- They go up to the end, or up to a `)`, which may have a bound, and what the level outside goes on with.
@@ -53,7 +52,7 @@ atom_tree fold (byte b) = plain (b ∷ [])
 atom_tree fold (one_of bytes) = set bytes
 atom_tree fold (same_as number) = back number fold
 
--- whether the parts of a branch begin with an atom and its bound: a byte with no bound joins the bytes behind it
+-- the parts of a branch from an atom and its bound on: a byte with no bound joins the bytes behind it
 abbrev pub with_item : Bool → Atom → Option Bound → List Tree → List Tree
 with_item fold (byte b) None parts = letter b parts
 with_item fold (byte b) (Some bound) parts = repeated (Some bound) (plain (b ∷ [])) ∷ parts
@@ -84,77 +83,6 @@ from_token fold number tokens.line_end rest = in_branch (λ parts. line_end ∷ 
 from_token fold number bar rest = behind_bar rest
 from_token fold number open_group rest = grouped number rest
 from_token fold number (close_group bound) rest = closes [] [] bound rest
-
--- A level: the whole text, or the group of this number, whose `(` stands at this offset. The whole has number 0.
-pub record Open : Type 0 where
-  pub at : ℕ
-  pub number : ℕ
-
--- A place in a text: how many groups began before it, the level that it is in, the levels round that one, innermost
--- first, and what stands directly before it in its level.
-pub record Place : Type 0 where
-  pub groups : ℕ
-  pub inner : Open
-  pub outer : List Open
-  pub last : Last
-
--- whether a place is in the group of this number
-abbrev pub is_open : Place → ℕ → Bool
-is_open place number = (place.inner.number == number) || list_any (λ level. level.number == number) place.outer
-
--- whether the group of this number is closed before a place
-abbrev pub is_closed : Place → ℕ → Bool
-is_closed place number = nat_le number place.groups && not (is_open place number)
-
--- whether a branch may end here, and whether one may end at a `|`
-abbrev pub after_bar : Last → Bool
-after_bar Bar = true
-after_bar last = false
-
-abbrev pub after_part : Last → Bool
-after_part Part = true
-after_part last = false
-
--- why a token is refused at a place
-abbrev pub refusal : Place → Token → Option EreKind
-refusal place (item (byte b) bound) = None
-refusal place (item (one_of bytes) bound) = None
-refusal place (item (same_as number) bound) = if is_closed place number then None else Some BadReference
-refusal place tokens.line_start = None
-refusal place tokens.line_end = None
-refusal place bar = if after_part place.last then None else Some EmptyAlternative
-refusal place open_group = if nat_lt (length place.outer) 250 then None else Some TooDeep
-refusal place (close_group bound) =
-    if nat_lt 0 (length place.outer) then (if after_bar place.last then Some EmptyAlternative else None)
-    else Some StrayClose
-
--- why the text may not end at a place, which has this offset
-abbrev pub refusal_at_end : Place → ℕ → Option EreFault
-refusal_at_end place at =
-    if nat_lt 0 (length place.outer) then Some (record { at = place.inner.at; kind = UnclosedGroup })
-    else if after_bar place.last then Some (record { at = at; kind = EmptyAlternative })
-    else None
-
--- the place where the text begins
-abbrev pub beginning : Place
-beginning = record { groups = 0; inner = record { at = 0; number = 0 }; outer = []; last = Nothing }
-
--- the place behind a token that stands at an offset
-abbrev pub behind : Place → ℕ → Token → Place
-behind place at (item atom bound) = record place { last = Part }
-behind place at tokens.line_start = record place { last = Part }
-behind place at tokens.line_end = record place { last = Part }
-behind place at bar = record place { last = Bar }
-behind place at open_group = record {
-  groups = place.groups + 1;
-  inner = record { at = at; number = place.groups + 1 };
-  outer = place.inner ∷ place.outer;
-  last = Nothing;
-}
-behind place at (close_group bound) = elim (place.outer) [
-  | [] ↦ place
-  | level ∷ levels ↦ record { groups = place.groups; inner = level; outer = levels; last = Part }
-]
 
 abbrev pub map_ok : {A B : Type 0} → (A → B) → Result A EreFault → Result B EreFault
 map_ok change (Ok a) = Ok (change a)
@@ -189,7 +117,7 @@ tree_read fold text = map_ok whole (reading_from fold beginning 0 0 text)
 
 -- a tree that isn't too large
 abbrev pub sized : Result Tree EreFault → Result Tree EreFault
-sized (Ok tree) = if nat_le (size_of tree) 100000 then Ok tree else fault 0 TooLarge
+sized (Ok tree) = if nat_le (size_of tree) MAX_SIZE then Ok tree else fault 0 TooLarge
 sized (Err refused) = Err refused
 
 -- the tree that the text is read as, or its first fault

@@ -3,7 +3,8 @@ use Rattle.std.specs.Prelude.{ℕ, ◌+◌, Bool, Option, Some, None, List, [], 
 use Rattle.ere_tree.specs.Tree.{Tree, plain, line_start, line_end, group}
 use Rattle.ere_tree.specs.Token.{Token, Atom, byte, one_of, same_as, item, bar, open_group, close_group}
 use Rattle.ere_tree.specs.Token as tokens
-use Rattle.ere_tree.specs.Grammar.{branch_of, either_of, repeated, atom_tree, Open, Place}
+use Rattle.ere_tree.specs.Grammar.{branch_of, either_of, repeated, atom_tree}
+use Rattle.ere_tree.specs.Place.{Open, Place}
 use Rattle.ere_tree.specs.View.{view}
 use Rattle.ere_tree.specs.declared.bound.Bound.{Bound}
 use Rattle.ere_tree.specs.declared.level.Last.{Last}

@@ -5,6 +5,7 @@ pub mod Class
 pub mod Front
 pub mod Grammar
 pub mod Levels
+pub mod Place
 pub mod Shape
 pub mod Token
 pub mod TokenView

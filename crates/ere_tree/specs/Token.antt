@@ -1,8 +1,8 @@
 -- An expression byte by byte: its tokens. An atom and the bound behind it are one token.
 -- After POSIX.1 XBD 9.4, with back-references `\1` to `\9`. Own rules: a `{` with no digit behind it is an ordinary
 -- byte, and any byte may stand behind a backslash.
-use Rattle.std.specs.Prelude.{ℕ, ◌+◌, ◌-◌, Option, Some, None, List, drop, length, slice_index, Result, Ok, Err, ◌==◌, not, is_some, nat_lt, nat_le, ◌&&◌, if◌then◌else◌}
-use Rattle.ere_tree.specs.Front.{begins}
+use Rattle.std.specs.Prelude.{codes, ℕ, ◌+◌, ◌-◌, Option, Some, None, List, drop, length, slice_index, Result, Ok, Err, ◌==◌, not, is_some, nat_lt, nat_le, ◌&&◌, if◌then◌else◌}
+use Rattle.ere_tree.specs.Front.{starts}
 use Rattle.ere_tree.specs.Tree.{bytes_passing}
 use Rattle.ere_tree.specs.Bound.{bound_at, begins_bound}
 use Rattle.ere_tree.specs.Bracket.{bracket, fault}
@@ -53,18 +53,18 @@ bracket_item text (Err refused) = Err refused
 -- the token of an atom and its bound
 unfoldable pub atom_at : List ℕ → Result (Token × ℕ) EreFault
 atom_at text =
-    if begins 46 text then Ok (with_bound (item (one_of (bytes_passing (λ b. not (b == 10))))) 1 text)
-    else if begins 91 text then bracket_item text (bracket text)
-    else if begins 92 text then escape_at text
+    if starts (codes ".") text then Ok (with_bound (item (one_of (bytes_passing (λ b. not (b == 10))))) 1 text)
+    else if starts (codes "[") text then bracket_item text (bracket text)
+    else if starts (codes "\\") text then escape_at text
     else Ok (with_bound (item (byte (slice_index text 0))) 1 text)
 
 -- the token at the front of a text that isn't empty, and how many bytes it takes
 unfoldable pub token : List ℕ → Result (Token × ℕ) EreFault
 token text =
-    if begins 94 text then Ok (line_start, 1)
-    else if begins 36 text then Ok (line_end, 1)
-    else if begins 124 text then Ok (bar, 1)
-    else if begins 40 text then Ok (open_group, 1)
-    else if begins 41 text then Ok (with_bound close_group 1 text)
+    if starts (codes "^") text then Ok (line_start, 1)
+    else if starts (codes "$") text then Ok (line_end, 1)
+    else if starts (codes "|") text then Ok (bar, 1)
+    else if starts (codes "(") text then Ok (open_group, 1)
+    else if starts (codes ")") text then Ok (with_bound close_group 1 text)
     else if begins_bound text then fault 0 (if is_some (bound_at text) then RepeatOfNothing else BadBound)
     else atom_at text

@@ -4,6 +4,9 @@ ghost use Rattle.ere_tree.specs.Bound.{digit_count, number_at, braced, behind_co
 
 use crate::front::{begins, begins_digit, behind};
 
+/// The greatest number in a bound.
+pub const MAX_BOUND: u32 = 255;
+
 /// From `least` repetitions up to `most`, where there is a most.
 #[derive(Clone, Copy, Debug, PartialEq, Eq)]
 pub(crate) struct Bound {
@@ -32,7 +35,7 @@ fn open_bound(least: u32, taken: usize) -> Option<(Bound, usize)>
     requires { least ≤ 256 }
     ensures { result ≡ at_least least taken }
 {
-    if least <= 255 {
+    if least <= MAX_BOUND {
         Some((Bound { least, most: None }, taken))
     } else {
         None
@@ -42,7 +45,7 @@ fn open_bound(least: u32, taken: usize) -> Option<(Bound, usize)>
 fn closed_bound(least: u32, most: u32, taken: usize) -> Option<(Bound, usize)>
     ensures { result ≡ between least most taken }
 {
-    if least <= most && most <= 255 {
+    if least <= most && most <= MAX_BOUND {
         Some((
             Bound {
                 least,

@@ -20,6 +20,7 @@ mod shape;
 mod tests;
 mod token;
 
+pub use bound::MAX_BOUND;
 pub use byte_set::ByteSet;
 pub use classes::class;
 pub use ere::{ByteRun, Ere, EreList};

@@ -1,7 +1,8 @@
 //! The parser of expressions.
 ghost use Rattle.std.specs.Prelude.{◌≡◌, ◌==◌, IfOk, OnOk};
 ghost use Rattle.std.specs.List.{list_any};
-ghost use Rattle.ere_tree.specs.Grammar.{is_open, refusal, refusal_at_end, atom_tree, sized, tree_read, reading, Reads};
+ghost use Rattle.ere_tree.specs.Grammar.{atom_tree, sized, tree_read, reading, Reads};
+ghost use Rattle.ere_tree.specs.Place.{is_open, refusal, refusal_at_end};
 ghost use Rattle.ere_tree.specs.Levels.{levels_view, place_of, beginning_levels, in_inner, with_item, opened, closed, taken, tree_of};
 ghost use Rattle.ere_tree.specs.TokenView.{atom_view, token_view};
 ghost use Rattle.ere_tree.specs.View.{view};
