@@ -7,7 +7,7 @@ use Rattle.ere_tree.specs.Tree.{Tree, empty, plain, set, line_start, line_end, c
 use Rattle.ere_tree.specs.Token.{Token, Atom, byte, one_of, same_as, item, bar, open_group, close_group}
 use Rattle.ere_tree.specs.Token as tokens
 use Rattle.ere_tree.specs.Grammar.{Rest, ends, closes, letter, branch_of, either_of, repeated, in_branch, behind_bar, grouped, from_token, whole}
-use Rattle.ere_tree.specs.Place.{Open, Place, refusal, behind, beginning}
+use Rattle.ere_tree.specs.Place.{Open, refusal, behind}
 use Rattle.ere_tree.specs.Grammar as grammar
 use Rattle.ere_tree.specs.Levels.{Level, Levels, run_parts, parts_of, new_level, with_letter, with_part, with_bar, tree_of, in_inner, beginning_levels, closed, with_item, taken, open_of, place_of, level_view}
 use Rattle.ere_tree.specs.declared.bound.Bound.{Bound}

@@ -38,7 +38,7 @@ reading_denied fold place at [] found kind some is denied = absurd (omega arith)
 reading_denied fold place at (b ∷ rest) found kind some is denied = rw (is, denied) refl
 
 -- a token is taken
-reading_taken : (fold : Bool) (place : Place) (at : ℕ) (text : List ℕ) (found : Token × ℕ) →
+pub reading_taken : (fold : Bool) (place : Place) (at : ℕ) (text : List ℕ) (found : Token × ℕ) →
     token text ≡ Ok found → refusal place found.0 ≡ None → 0 < found.1 → found.1 ≤ length text →
     reading_from fold place at 0 text ≡ map_ok (from_token fold (place.groups + 1) found.0)
     (reading_from fold (behind place at found.0) (at + found.1) 0 (drop found.1 text))

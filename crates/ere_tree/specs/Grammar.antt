@@ -1,7 +1,7 @@
 -- The grammar of extended regular expressions: the tree of a text, or its first fault.
 -- After POSIX.1 XBD 9.4 and 9.5.3, with back-references, and with `()` as a group of the empty expression. Own rules:
 -- groups are nested at most 250 deep, and an expression's size is at most 100,000.
-use Rattle.std.specs.Prelude.{◌≡◌, ℕ, zero, suc, ◌+◌, ◌-◌, Bool, true, false, Option, Some, None, List, [], ◌∷◌, map, length, Result, Ok, Err, ◌==◌, ◌&&◌, ◌||◌, not, nat_lt, nat_le, if◌then◌else◌}
+use Rattle.std.specs.Prelude.{◌≡◌, ℕ, zero, suc, ◌+◌, ◌-◌, Bool, Option, Some, None, List, [], ◌∷◌, map, Result, Ok, Err, nat_le, if◌then◌else◌}
 use Rattle.ere_tree.specs.Tree.{Tree, empty, plain, set, line_start, line_end, cat, alt, repeat, group, back, trees_of}
 use Rattle.ere_tree.specs.Shape.{size_of}
 use Rattle.ere_tree.specs.Bracket.{fault, and_then}

@@ -6,6 +6,7 @@ pub mod Front
 pub mod Grammar
 pub mod Levels
 pub mod Place
+pub mod Productions
 pub mod Shape
 pub mod Token
 pub mod TokenView

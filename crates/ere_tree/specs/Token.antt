@@ -24,12 +24,14 @@ pub data Token : Type 0 where
   open_group : Token
   close_group : Option Bound → Token
 
+-- the bound that was found behind so many bytes, and how many bytes there are with it
+abbrev pub counted : ℕ → Option (Bound × ℕ) → Option Bound × ℕ
+counted count (Some found) = (Some found.0, count + found.1)
+counted count None = (None, count)
+
 -- the bound that stands behind so many bytes, where there is one, and how many bytes there are with it
 unfoldable pub bound_behind : ℕ → List ℕ → Option Bound × ℕ
-bound_behind count text = elim (bound_at (drop count text)) [
-  | Some found ↦ (Some found.0, count + found.1)
-  | None ↦ (None, count)
-]
+bound_behind count text = counted count (bound_at (drop count text))
 
 -- a token with the bound behind its first bytes
 abbrev pub with_bound : (Option Bound → Token) → ℕ → List ℕ → Token × ℕ

@@ -1,9 +1,12 @@
 //! The parser of expressions.
-ghost use Rattle.std.specs.Prelude.{◌≡◌, ◌==◌, IfOk, OnOk};
+ghost use Rattle.std.specs.Prelude.{◌≡◌, ◌≤◌, ◌==◌, IfOk, OnOk};
 ghost use Rattle.std.specs.List.{list_any};
 ghost use Rattle.ere_tree.specs.Grammar.{atom_tree, sized, tree_read, reading, Reads};
 ghost use Rattle.ere_tree.specs.Place.{is_open, refusal, refusal_at_end};
 ghost use Rattle.ere_tree.specs.Levels.{levels_view, place_of, beginning_levels, in_inner, with_item, opened, closed, taken, tree_of};
+ghost use Rattle.ere_tree.specs.Productions.{IsEre};
+ghost use Rattle.ere_tree.specs.Shape.{size_of};
+ghost use Rattle.ere_tree.specs.Tree.{Tree};
 ghost use Rattle.ere_tree.specs.TokenView.{atom_view, token_view};
 ghost use Rattle.ere_tree.specs.View.{view};
 
@@ -243,14 +246,26 @@ fn read_all(alloc: Global, bytes: &[u8], fold: bool) -> Result<Ere, EreFail>
     }
 }
 
-/// Reads a text as an expression. `fold` goes into each reference. An expression with more than `u32::MAX` groups is
-/// answered as one that memory doesn't hold.
+/// The expression of a text.
 #[tactic(auto, unfolding(crate::specs::Grammar::reading))]
-pub fn parse(alloc: Global, bytes: &[u8], fold: bool) -> Result<Ere, EreFail>
+fn read_text(alloc: Global, bytes: &[u8], fold: bool) -> Result<Ere, EreFail>
     ensures { Reads result (reading fold bytes.now) }
 {
     match read_all(alloc, bytes, fold) {
         Ok(ere) => within_size(ere),
         Err(fail) => Err(fail),
     }
+}
+
+/// Reads a text as an expression. `fold` goes into each reference. An expression with more than `u32::MAX` groups is
+/// answered as one that memory doesn't hold.
+pub fn parse(alloc: Global, bytes: &[u8], fold: bool) -> Result<Ere, EreFail>
+    // The tree of the text, or its first fault.
+    ensures exact { Reads result (reading fold bytes.now) }
+    // What is read is in the grammar.
+    ensures found { IfOk result (λ ere. IsEre fold bytes.now (view ere) × (size_of (view ere) ≤ MAX_SIZE)) }
+    // What is in the grammar is read, unless memory runs out.
+    ensures only { (tree : Tree) → IsEre fold bytes.now tree → size_of tree ≤ MAX_SIZE → Reads result (Ok tree) }
+{
+    read_text(alloc, bytes, fold)
 }
