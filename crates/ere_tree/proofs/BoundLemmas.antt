@@ -34,7 +34,8 @@ number_here n m text i low is next =
     let same : min 256 m ≡ min 256 (n * 10 + (b - 48)) = omega arith in
     let count : ℕ = digit_count (drop (suc i) text) in
     let more : 1 + count ≡ suc count = omega arith in
-    rw (add-one i, drop-cons text i 0, is, more) (capped m (n * 10 + (b - 48)) (take (digit_count (drop (suc i) text)) (drop (suc i) text)) same)
+    rw (add-one i, drop-cons text i 0, is, more)
+    (capped m (n * 10 + (b - 48)) (take (digit_count (drop (suc i) text)) (drop (suc i) text)) same)
 
 pub number_ends : (n : ℕ) (text : List ℕ) (i : ℕ) → digit_count (drop i text) ≡ 0 → number_behind n (drop i text) ≡ n
 unfolding number_from
@@ -42,3 +43,6 @@ number_ends n text i none = rw none refl
 
 pub number_at_end : (n : ℕ) (text : List ℕ) (i : ℕ) → length text ≤ i → number_behind n (drop i text) ≡ n
 number_at_end n text i past = number_ends n text i (prefix_len-drop_all is_decimal text i past)
+
+-- the steps of a loop over digits
+pub ruleset digit_steps = (digit_here, no_digit_here, number_here, number_ends, number_at_end)

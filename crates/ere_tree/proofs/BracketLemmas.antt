@@ -14,7 +14,8 @@ use Rattle.ere_tree.proofs.SetLemmas.{bytes_passing_agree, passing_tells, passin
 -- tests that give one set agree on every byte
 passing_along : (f g : ℕ → Bool) → bytes_passing f ≡ bytes_passing g → (b : ℕ) → b < 256 → IsTrue (f b) → IsTrue (g b)
 passing_along f g same b low passes =
-    (passing_tells g b (subst (λ (bytes : List ℕ). Rattle.std.specs.List.Contains bytes b) same (passing_has f b low passes))).1
+    (passing_tells g b (subst (λ (bytes : List ℕ). Rattle.std.specs.List.Contains bytes b) same
+    (passing_has f b low passes))).1
 
 two_ways : (v w : Bool) → (v ≡ true → w ≡ true) → (w ≡ true → v ≡ true) → v ≡ w
 two_ways true w to from = sym (to refl)
@@ -49,7 +50,8 @@ ways_agree at (Ok a) f g same = same a
 ways_agree at (Err refused) f g same = refl
 
 -- the bytes of a member are stepped over
-pub members_skip : (negated : Bool) (test : ℕ → Bool) (first : Bool) (at skip : ℕ) (text : List ℕ) → skip ≤ length text →
+pub members_skip : (negated : Bool) (test : ℕ → Bool) (first : Bool) (at skip : ℕ) (text : List ℕ) →
+    skip ≤ length text →
     members negated test first at skip text ≡ members negated test first (at + skip) 0 (drop skip text)
 unfolding members
 members_skip negated test first at zero text fits = ap (λ n. members negated test first n 0 text) (omega arith)
@@ -58,7 +60,8 @@ members_skip negated test first at (suc skip) (b ∷ rest) fits =
     members_skip negated test first (suc at) skip rest (omega arith)
     ∙ ap (λ n. members negated test first n 0 (drop skip rest)) (omega arith)
 
-bytes_agree : (negated : Bool) (f g : ℕ → Bool) → ((b : ℕ) → b < 256 → f b ≡ g b) → bytes_of negated f ≡ bytes_of negated g
+bytes_agree : (negated : Bool) (f g : ℕ → Bool) → ((b : ℕ) → b < 256 → f b ≡ g b) →
+    bytes_of negated f ≡ bytes_of negated g
 bytes_agree false f g same = bytes_passing_agree f g same
 bytes_agree true f g same = bytes_passing_agree (λ b. not (f b) && not (b == 10)) (λ b. not (g b) && not (b == 10))
     (λ b low. ap (λ v. not v && not (b == 10)) (same b low))
@@ -68,7 +71,8 @@ pub members_agree : (negated : Bool) (f g : ℕ → Bool) (first : Bool) (at ski
     ((b : ℕ) → b < 256 → f b ≡ g b) → members negated f first at skip text ≡ members negated g first at skip text
 unfolding members begins_with
 members_agree negated f g first at skip [] same = refl
-members_agree negated f g first at (suc skip) (b ∷ rest) same = members_agree negated f g first (suc at) skip rest same
+members_agree negated f g first at (suc skip) (b ∷ rest) same =
+    members_agree negated f g first (suc at) skip rest same
 members_agree negated f g first at zero (b ∷ rest) same =
     chosen_agree (b == 93 && not first) _ _ _ _
     (ap (λ bytes. Ok (bytes, at + 1)) (bytes_agree negated f g same))
@@ -84,7 +88,8 @@ members_close negated test first at [] ends = cc
 members_close negated test first at (b ∷ rest) ends = rw ends refl
 
 -- a member is refused
-pub members_refused : (negated : Bool) (test : ℕ → Bool) (first : Bool) (at : ℕ) (text : List ℕ) (refused : EreFault) →
+pub members_refused : (negated : Bool) (test : ℕ → Bool) (first : Bool) (at : ℕ) (text : List ℕ)
+    (refused : EreFault) →
     (begins 93 text && not first) ≡ false → 0 < length text → member text ≡ Err refused →
     members negated test first at 0 text ≡ fault (at + refused.at) refused.kind
 unfolding members begins_with
@@ -110,13 +115,15 @@ pub members_given : (negated : Bool) (old new : List ℕ) (first : Bool) (at tak
     (told : Result ((ℕ → Bool) × ℕ) EreFault) (set : ByteSet) → told ≡ member text →
     GivesTest (Ok (set, taken)) told → HasBytes new (λ b. has_bit old b || has_bit set.bits b) →
     (begins 93 text && not first) ≡ false → 0 < taken → taken ≤ length text →
-    members negated (has_bit old) first at 0 text ≡ members negated (has_bit new) false (at + taken) 0 (drop taken text)
+    members negated (has_bit old) first at 0 text
+    ≡ members negated (has_bit new) false (at + taken) 0 (drop taken text)
 members_given negated old new first at taken text (Err refused) set is given joined here some fits = absurd given
 members_given negated old new first at taken text (Ok found) set is given joined here some fits =
     let same : found.1 ≡ taken = sym given.1 in
     members_found negated (has_bit old) first at text found here (sym is) (omega arith) (omega arith)
     ∙ ap (λ n. members negated (λ c. has_bit old c || found.0 c) false (at + n) 0 (drop n text)) same
-    ∙ sym (members_agree negated (has_bit new) (λ c. has_bit old c || found.0 c) false (at + taken) 0 (drop taken text)
+    ∙ sym (members_agree negated (has_bit new) (λ c. has_bit old c || found.0 c) false (at + taken) 0
+    (drop taken text)
     (λ b low. joined b low ∙ ap (λ v. has_bit old b || v) (given.0 b low)))
 
 pub members_end : (negated : Bool) (test : ℕ → Bool) (first : Bool) (at : ℕ) (text : List ℕ) → length text ≡ 0 →

@@ -1,4 +1,5 @@
--- A text of the grammar is read as its tree: each construct adds to the rest of the text what the productions say.
+-- A text of the grammar is read as its tree: each construct adds to the rest of the text what the productions
+-- say.
 use Rattle.std.proofs.Common.{◌≡◌, ℕ, ◌+◌, ◌≤◌, Bool, true, false, not, ◌&&◌, ◌||◌, ◌==◌, List, [], ◌∷◌, Option, None, Result, Ok, Err, length, map, nat_lt, nat_le, refl, sym, ap, ◌∙◌, arith}
 use Rattle.std.specs.List.{list_any}
 use Rattle.std.proofs.lemmas.Bool.Decides.{nat_tests}
@@ -26,7 +27,8 @@ abbrev pub past : Place → ℕ → Place
 past place n = record place { groups = n; last = Part }
 
 pub any_number : (number : ℕ) (levels : List Open) →
-    list_any (λ m. m == number) (map (λ level. level.number) levels) ≡ list_any (λ level. level.number == number) levels
+    list_any (λ m. m == number) (map (λ level. level.number) levels)
+    ≡ list_any (λ level. level.number == number) levels
 any_number number [] = refl
 any_number number (level ∷ levels) = ap (λ v. (level.number == number) || v) (any_number number levels)
 
@@ -59,8 +61,10 @@ alike : (f g : Rest → Rest) (read : Result Rest EreFault) → ((r : Rest) → 
 alike f g (Ok r) same = ap Ok (same r)
 alike f g (Err e) same = refl
 
-goes_on : (fold : Bool) (place : Place) (at : ℕ) (text : List ℕ) (f g h : Rest → Rest) (next last : Place) (mid rest : List ℕ) →
-    Goes fold place at text f next mid → ((to : ℕ) → Goes fold next to mid g last rest) → ((r : Rest) → f (g r) ≡ h r) →
+goes_on : (fold : Bool) (place : Place) (at : ℕ) (text : List ℕ) (f g h : Rest → Rest) (next last : Place)
+    (mid rest : List ℕ) →
+    Goes fold place at text f next mid → ((to : ℕ) → Goes fold next to mid g last rest) →
+    ((r : Rest) → f (g r) ≡ h r) →
     Goes fold place at text h last rest
 goes_on fold place at text f g h next last mid rest (to, here) on same =
     let more = on to in (
@@ -74,7 +78,8 @@ goes_token : (fold : Bool) (place : Place) (at : ℕ) (text : List ℕ) (t : Tok
 goes_token fold place at text t rest (count, is, some, fits, same) here = (
   at + count,
   reading_taken fold place at text (t, count) is here some fits
-      ∙ ap (λ more. map_ok (from_token fold (place.groups + 1) t) (reading_from fold (behind place at t) (at + count) 0 more))
+      ∙ ap (λ more. map_ok (from_token fold (place.groups + 1) t)
+      (reading_from fold (behind place at t) (at + count) 0 more))
       (sym same),
 )
 
@@ -83,8 +88,10 @@ goes_simple : (fold : Bool) (place : Place) (at : ℕ) (text : List ℕ) (t : To
     Goes fold place at text (in_branch (with_token fold t)) (past place place.groups) rest
 goes_simple fold place at text (item atom bound) rest takes is =
     goes_token fold place at text (item atom bound) rest takes (token_stands place (item atom bound) is)
-goes_simple fold place at text tokens.line_start rest takes is = goes_token fold place at text tokens.line_start rest takes refl
-goes_simple fold place at text tokens.line_end rest takes is = goes_token fold place at text tokens.line_end rest takes refl
+goes_simple fold place at text tokens.line_start rest takes is =
+    goes_token fold place at text tokens.line_start rest takes refl
+goes_simple fold place at text tokens.line_end rest takes is =
+    goes_token fold place at text tokens.line_end rest takes refl
 goes_simple fold place at text bar rest takes is = cc
 goes_simple fold place at text open_group rest takes is = cc
 goes_simple fold place at text (close_group bound) rest takes is = cc
@@ -96,10 +103,12 @@ rest_alts fold n (or branch alts) r =
     in_branch (parts_branch fold n branch) (behind_bar (rest_alts fold (groups_branch n branch) alts r))
 
 alts_closed : (fold : Bool) (n : ℕ) (alts : Alts) (bound : Option Bound) (r : Rest) →
-    rest_alts fold n alts (closes [] [] bound r) ≡ closes (first_branch fold n alts) (other_branches fold n alts) bound r
+    rest_alts fold n alts (closes [] [] bound r)
+    ≡ closes (first_branch fold n alts) (other_branches fold n alts) bound r
 alts_closed fold n (alone branch) bound r = refl
 alts_closed fold n (or branch alts) bound r =
-    ap (λ r. in_branch (parts_branch fold n branch) (behind_bar r)) (alts_closed fold (groups_branch n branch) alts bound r)
+    ap (λ r. in_branch (parts_branch fold n branch) (behind_bar r))
+    (alts_closed fold (groups_branch n branch) alts bound r)
 
 alts_ended : (fold : Bool) (n : ℕ) (alts : Alts) →
     rest_alts fold n alts (ends [] []) ≡ ends (first_branch fold n alts) (other_branches fold n alts)
@@ -107,7 +116,8 @@ alts_ended fold n (alone branch) = refl
 alts_ended fold n (or branch alts) =
     ap (λ r. in_branch (parts_branch fold n branch) (behind_bar r)) (alts_ended fold (groups_branch n branch) alts)
 
-in_branch_twice : (f g : List Tree → List Tree) (r : Rest) → in_branch f (in_branch g r) ≡ in_branch (λ parts. f (g parts)) r
+in_branch_twice : (f g : List Tree → List Tree) (r : Rest) →
+    in_branch f (in_branch g r) ≡ in_branch (λ parts. f (g parts)) r
 in_branch_twice f g (ends here others) = refl
 in_branch_twice f g (closes here others bound outside) = refl
 
@@ -118,12 +128,24 @@ room place fits =
     rw shallow refl
 
 -- a `)` behind a group's alternatives, or behind its `(`
-goes_close : (fold : Bool) (place : Place) (at : ℕ) (n m : ℕ) (last : Last) (text : List ℕ) (bound : Option Bound) (rest : List ℕ) →
+goes_close : (fold : Bool) (place : Place) (at : ℕ) (n m : ℕ) (last : Last) (text : List ℕ) (bound : Option Bound)
+    (rest : List ℕ) →
     after_bar last ≡ false → Takes text (close_group bound) rest →
-    Goes fold (record { groups = n; inner = record { at = m; number = place.groups + 1 }; outer = place.inner ∷ place.outer; last = last })
+    Goes fold (record {
+      groups = n;
+      inner = record { at = m; number = place.groups + 1 };
+      outer = place.inner ∷ place.outer;
+      last = last;
+    })
     at text (λ r. closes [] [] bound r) (past place n) rest
 goes_close fold place at n m last text bound rest free takes =
-    let inside : Place = record { groups = n; inner = record { at = m; number = place.groups + 1 }; outer = place.inner ∷ place.outer; last = last } in
+    let inside : Place = record {
+      groups = n;
+      inner = record { at = m; number = place.groups + 1 };
+      outer =
+          place.inner ∷ place.outer;
+      last = last;
+    } in
     let some : nat_lt 0 (length (place.inner ∷ place.outer)) ≡ true = grind (arith, nat_tests) in
     let here : refusal inside (close_group bound) ≡ None = rw (some, free) refl in
     goes_token fold inside at text (close_group bound) rest takes here
@@ -131,7 +153,8 @@ goes_close fold place at n m last text bound rest free takes =
 mutual
   goes_item : (one : Item) (fold : Bool) (place : Place) (at : ℕ) (text rest : List ℕ) → SpellsItem text one rest →
       SoundItem (numbers place) place.groups one →
-      Goes fold place at text (in_branch (parts_item fold place.groups one)) (past place (groups_item place.groups one)) rest
+      Goes fold place at text (in_branch (parts_item fold place.groups one))
+      (past place (groups_item place.groups one)) rest
   goes_item (simple t) fold place at text rest spells sound = goes_simple fold place at text t rest spells sound
   goes_item (empty_group bound) fold place at text rest (inside, opens, shuts) sound =
       goes_on fold place at text (grouped (place.groups + 1)) (λ r. closes [] [] bound r)
@@ -155,13 +178,16 @@ mutual
       (λ r. refl))
       (λ r. ap (grouped n) (alts_closed fold n alts bound r))
 
-  goes_branch : (branch : Branch) (fold : Bool) (place : Place) (at : ℕ) (text rest : List ℕ) → SpellsBranch text branch rest →
+  goes_branch : (branch : Branch) (fold : Bool) (place : Place) (at : ℕ) (text rest : List ℕ) →
+      SpellsBranch text branch rest →
       SoundBranch (numbers place) place.groups branch →
-      Goes fold place at text (in_branch (parts_branch fold place.groups branch)) (past place (groups_branch place.groups branch)) rest
+      Goes fold place at text (in_branch (parts_branch fold place.groups branch))
+      (past place (groups_branch place.groups branch)) rest
   goes_branch (only one) fold place at text rest spells sound = goes_item one fold place at text rest spells sound
   goes_branch (also one branch) fold place at text rest (mid, first, others) sound =
       let n : ℕ = groups_item place.groups one in
-      goes_on fold place at text (in_branch (parts_item fold place.groups one)) (in_branch (parts_branch fold n branch))
+      goes_on fold place at text (in_branch (parts_item fold place.groups one))
+      (in_branch (parts_branch fold n branch))
       (in_branch (parts_branch fold place.groups (also one branch)))
       (past place n) (past place (groups_branch n branch)) mid rest
       (goes_item one fold place at text mid first sound.0)
@@ -171,7 +197,8 @@ mutual
   goes_alts : (alts : Alts) (fold : Bool) (place : Place) (at : ℕ) (text rest : List ℕ) → SpellsAlts text alts rest →
       SoundAlts (numbers place) place.groups alts →
       Goes fold place at text (rest_alts fold place.groups alts) (past place (groups_alts place.groups alts)) rest
-  goes_alts (alone branch) fold place at text rest spells sound = goes_branch branch fold place at text rest spells sound
+  goes_alts (alone branch) fold place at text rest spells sound =
+      goes_branch branch fold place at text rest spells sound
   goes_alts (or branch alts) fold place at text rest (end, mid, first, takes, others) sound =
       let n : ℕ = groups_branch place.groups branch in
       let next : Place = record place { groups = n; last = Bar } in
@@ -179,7 +206,8 @@ mutual
       (λ r. behind_bar (rest_alts fold n alts r)) (rest_alts fold place.groups (or branch alts))
       (past place n) (past place (groups_alts n alts)) end rest
       (goes_branch branch fold place at text end first sound.0)
-      (λ to. goes_on fold (past place n) to end behind_bar (rest_alts fold n alts) (λ r. behind_bar (rest_alts fold n alts r))
+      (λ to. goes_on fold (past place n) to end behind_bar (rest_alts fold n alts)
+      (λ r. behind_bar (rest_alts fold n alts r))
       next (past place (groups_alts n alts)) mid rest
       (goes_token fold (past place n) to end bar mid takes refl)
       (λ then. goes_alts alts fold next then mid rest others sound.1)

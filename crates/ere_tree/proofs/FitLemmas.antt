@@ -19,7 +19,8 @@ two true = inl refl
 two false = inr refl
 
 -- what holds on both ways of going on
-then_way : {A B : Type 0} (P : Result B EreFault → Type 0) (at : ℕ) (found : Result A EreFault) (go : A → Result B EreFault) →
+then_way : {A B : Type 0} (P : Result B EreFault → Type 0) (at : ℕ) (found : Result A EreFault)
+    (go : A → Result B EreFault) →
     ((a : A) → P (go a)) → ((refused : EreFault) → P (Err refused)) → P (and_then at found go)
 then_way P at (Ok a) go on off = on a
 then_way P at (Err refused) go on off = off (record { at = at + refused.at; kind = refused.kind })
@@ -103,7 +104,8 @@ bound_within text = elim (two (begins 42 text)) [
                     | inl is ↦
                         let some : 0 < length text = bound_begins_length text is in
                         let same : length (drop 1 text) + 1 ≡ length text = omega (arith, length-drop 1 text) in
-                        rw is (subst (λ (n : ℕ). BoundWithin n (braced (drop 1 text))) same (braced_within (drop 1 text)))
+                        rw is (subst (λ (n : ℕ). BoundWithin n (braced (drop 1 text))) same
+                        (braced_within (drop 1 text)))
                     | inr is ↦ rw is tt
                   ])
             ])
@@ -124,7 +126,8 @@ item_within : (make : Option Bound → Token) (count : ℕ) (text : List ℕ) �
     TokenWithin text (Ok (with_bound make count text))
 unfolding bound_behind
 item_within make count text some fits =
-    let found = counted_within count (length (drop count text)) (bound_at (drop count text)) (bound_within (drop count text)) in
+    let found = counted_within count (length (drop count text)) (bound_at (drop count text))
+    (bound_within (drop count text)) in
     let low : count ≤ (counted count (bound_at (drop count text))).1 = found.0 in
     let high : (counted count (bound_at (drop count text))).1 ≤ count + length (drop count text) = found.1 in
     (omega arith, omega (arith, length-drop count text))
@@ -150,7 +153,8 @@ members_within negated test first at zero (b ∷ rest) =
       | inr is ↦ rw is (then_way (MembersWithin at (b ∷ rest)) at (member (b ∷ rest))
           (λ found. members negated (λ c. test c || found.0 c) false (suc at) (found.1 - 1) rest)
           (λ found.
-          weakened (λ f. (suc at < f.1) × (f.1 ≤ suc at + length rest)) (λ f. (at < f.1) × (f.1 ≤ at + length (b ∷ rest)))
+          weakened (λ f. (suc at < f.1) × (f.1 ≤ suc at + length rest))
+          (λ f. (at < f.1) × (f.1 ≤ at + length (b ∷ rest)))
           (members negated (λ c. test c || found.0 c) false (suc at) (found.1 - 1) rest)
           (λ f (low, high). (omega arith, omega arith))
           (members_within negated (λ c. test c || found.0 c) false (suc at) (found.1 - 1) rest))
@@ -216,7 +220,11 @@ token_within text some =
                             (elim (two (begins 41 text)) [
                               | inl is ↦ rw is (item_within close_group 1 text (omega arith) some)
                               | inr is ↦ rw is
-                                  (elim (two (begins_bound text)) [ inl is ↦ rw is tt | inr is ↦ rw is (atom_within text some) ])
+                                  (elim (two (begins_bound text)) [
+                                    | inl is ↦ rw is tt
+                                    | inr is ↦ rw is
+                                        (atom_within text some)
+                                  ])
                             ])
                       ])
                 ])

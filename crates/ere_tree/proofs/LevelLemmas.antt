@@ -43,7 +43,8 @@ abbrev pub is_part : Tree → Bool
 is_part (plain bytes) = false
 is_part tree = true
 
-letters-snoc : (run : List ℕ) (b : ℕ) (parts : List Tree) → letters (run ++ b ∷ []) parts ≡ letters run (letter b parts)
+letters-snoc : (run : List ℕ) (b : ℕ) (parts : List Tree) →
+    letters (run ++ b ∷ []) parts ≡ letters run (letter b parts)
 letters-snoc [] b parts = refl
 letters-snoc (c ∷ run) b parts = ap (letter c) (letters-snoc run b parts)
 
@@ -141,7 +142,8 @@ bar_joined : (level : Level) (outer : List Level) (rest : Rest) →
 bar_joined level [] (ends here others) = finished-bar level here others
 bar_joined level [] (closes here others bound outside) = finished-bar level here others
 bar_joined level (round ∷ levels) (ends here others) =
-    ap (λ tree. joined (with_part (group level.number tree) round) levels (ends [] [])) (finished-bar level here others)
+    ap (λ tree. joined (with_part (group level.number tree) round) levels (ends [] []))
+    (finished-bar level here others)
 bar_joined level (round ∷ levels) (closes here others bound outside) =
     ap (λ tree. joined (with_part (repeated bound (group level.number tree)) round) levels outside)
     (finished-bar level here others)
@@ -162,7 +164,8 @@ close_joined : (bound : Option Bound) (inner level : Level) (outer : List Level)
     joined (with_part (repeated bound (group inner.number (tree_of inner))) level) outer rest
     ≡ joined inner (level ∷ outer) (closes [] [] bound rest)
 close_joined bound inner level outer rest =
-    ap (λ tree. joined (with_part (repeated bound (group inner.number tree)) level) outer rest) (sym (finished-end inner))
+    ap (λ tree. joined (with_part (repeated bound (group inner.number tree)) level) outer rest)
+    (sym (finished-end inner))
 
 item_joined : (fold : Bool) (atom : Atom) (bound : Option Bound) (level : Level) (outer : List Level) (rest : Rest) →
     joined (with_item fold atom bound level) outer rest
@@ -175,7 +178,8 @@ item_joined fold (one_of bytes) bound level outer rest =
 item_joined fold (same_as number) bound level outer rest =
     part_joined (repeated bound (back number fold)) level outer rest (repeated-part bound (back number fold) refl)
 
-close_joined_all : (fold : Bool) (at : ℕ) (bound : Option Bound) (groups : ℕ) (inner : Level) (outer : List Level) (rest : Rest) →
+close_joined_all : (fold : Bool) (at : ℕ) (bound : Option Bound) (groups : ℕ) (inner : Level) (outer : List Level)
+    (rest : Rest) →
     refusal (place_of (record { groups = groups; inner = inner; outer = outer })) (close_group bound) ≡ None →
     all_joined (closed bound (record { groups = groups; inner = inner; outer = outer })) rest
     ≡ joined inner outer (closes [] [] bound rest)

@@ -20,7 +20,8 @@ let_in : (v : Bool) (tree told : Tree) → cond v (Ok tree) (fault 0 TooLarge) �
 let_in true tree told is = (refl, cc)
 let_in false tree told is = cc
 
-sized_ok : (read : Result Tree EreFault) (told : Tree) → sized read ≡ Ok told → (read ≡ Ok told) × (size_of told ≤ MAX_SIZE)
+sized_ok : (read : Result Tree EreFault) (told : Tree) → sized read ≡ Ok told →
+    (read ≡ Ok told) × (size_of told ≤ MAX_SIZE)
 sized_ok (Err refused) told is = cc
 sized_ok (Ok tree) told is =
     let both = let_in (nat_le (size_of tree) MAX_SIZE) tree told is in

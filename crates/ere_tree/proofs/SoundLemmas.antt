@@ -21,7 +21,8 @@ use Rattle.std.specs.List.{list_any}
 use Rattle.std.specs.Result.{IfOk}
 use Rattle.ere_tree.proofs.FitLemmas.{token_within}
 
--- What is left from a place on: of the branch there, of the branches behind it, and behind the `)` of the level.
+-- What is left from a place on: of the branch there, of the branches behind it, and behind the `)` of the
+-- level.
 pub data Tail : Type 0 where
   stop : Option Branch → Option Alts → Tail
   shut : Option Branch → Option Alts → Option Bound → Tail → Tail
@@ -37,7 +38,8 @@ SpellsOthers text (Some alts) rest = (behind : List ℕ) × Takes text bar behin
 abbrev SpellsTail : List ℕ → Tail → Type 0
 SpellsTail text (stop here others) = (mid : List ℕ) × SpellsHere text here mid × SpellsOthers mid others []
 SpellsTail text (shut here others bound tail) = (mid : List ℕ) × (end : List ℕ) × (outside : List ℕ) ×
-    SpellsHere text here mid × SpellsOthers mid others end × Takes end (close_group bound) outside × SpellsTail outside tail
+    SpellsHere text here mid × SpellsOthers mid others end × Takes end (close_group bound) outside
+    × SpellsTail outside tail
 
 abbrev groups_here : ℕ → Option Branch → ℕ
 groups_here n None = n
@@ -76,7 +78,8 @@ branches_of fold n (Some alts) = first_branch fold n alts ∷ other_branches fol
 abbrev rest_tail : Bool → ℕ → Tail → Rest
 rest_tail fold n (stop here others) = ends (parts_here fold n here) (branches_of fold (groups_here n here) others)
 rest_tail fold n (shut here others bound tail) = closes (parts_here fold n here)
-    (branches_of fold (groups_here n here) others) bound (rest_tail fold (groups_others (groups_here n here) others) tail)
+    (branches_of fold (groups_here n here) others) bound
+    (rest_tail fold (groups_others (groups_here n here) others) tail)
 
 -- no branch is empty, but for the only one of a level
 abbrev Fine : Last → Option Branch → Option Alts → Type 0
@@ -151,7 +154,8 @@ sound_front one (k ∷ []) n (stop (Some branch) others) first more = ((first, m
 sound_front one (k ∷ []) n (shut here others bound tail) first more = more
 sound_front one (k ∷ l ∷ around) n (stop here others) first more = more
 sound_front one (k ∷ l ∷ around) n (shut None others bound tail) first more = (first, more.1, more.2)
-sound_front one (k ∷ l ∷ around) n (shut (Some branch) others bound tail) first more = ((first, more.0), more.1, more.2)
+sound_front one (k ∷ l ∷ around) n (shut (Some branch) others bound tail) first more =
+    ((first, more.0), more.1, more.2)
 
 rest_front : (fold : Bool) (one : Item) (n : ℕ) (tail : Tail) →
     in_branch (parts_item fold n one) (rest_tail fold (groups_item n one) tail) ≡ rest_tail fold n (fronted one tail)
@@ -179,10 +183,12 @@ with_bar branch (Some alts) = or branch alts
 
 spells_others : (text mid end : List ℕ) (branch : Branch) (others : Option Alts) → SpellsBranch text branch mid →
     SpellsOthers mid others end → SpellsAlts text (with_bar branch others) end
-spells_others text mid end branch None first same = subst (λ (rest : List ℕ). SpellsBranch text branch rest) (sym same) first
+spells_others text mid end branch None first same =
+    subst (λ (rest : List ℕ). SpellsBranch text branch rest) (sym same) first
 spells_others text mid end branch (Some alts) first (behind, takes, more) = (mid, behind, first, takes, more)
 
-fine_bar : (last : Last) (alts : Alts) → cond (after_part last) None (Some EmptyAlternative) ≡ None → Fine last None (Some alts)
+fine_bar : (last : Last) (alts : Alts) → cond (after_part last) None (Some EmptyAlternative) ≡ None →
+    Fine last None (Some alts)
 fine_bar Part alts is = tt
 fine_bar Bar alts is = cc
 fine_bar Nothing alts is = cc
@@ -230,7 +236,15 @@ told_bar fold around n last text mid (stop (Some branch) others) takes ok (end, 
 told_bar fold around n last text mid (shut (Some branch) others bound tail) takes ok
     (end, close, outside, first, more, shuts, behind) sound fine = record {
       tail = shut None (Some (with_bar branch others)) bound tail;
-      spells = (text, close, outside, refl, (mid, takes, spells_others mid end close branch others first more), shuts, behind);
+      spells = (
+        text,
+        close,
+        outside,
+        refl,
+        (mid, takes, spells_others mid end close branch others first more),
+        shuts,
+        behind,
+      );
       sound = sound_shut around n branch others bound tail sound;
       fine = fine_bar last (with_bar branch others) ok;
       is = shut_is fold n branch others bound tail;
@@ -243,7 +257,8 @@ fine_end Part free = tt
 fine_end Bar free = cc
 fine_end Nothing free = tt
 
-told_close : (fold : Bool) (k l : ℕ) (around : List ℕ) (n : ℕ) (last : Last) (text mid : List ℕ) (bound : Option Bound) (says : Rest) →
+told_close : (fold : Bool) (k l : ℕ) (around : List ℕ) (n : ℕ) (last : Last) (text mid : List ℕ)
+    (bound : Option Bound) (says : Rest) →
     Takes text (close_group bound) mid → after_bar last ≡ false → Told fold (l ∷ around) n Part mid says →
     Told fold (k ∷ l ∷ around) n last text (closes [] [] bound says)
 told_close fold k l around n last text mid bound says takes free told = record {
@@ -275,7 +290,8 @@ told_open fold k around n last text mid (shut None None bound tail) takes fits
     (record { tail = tail; spells = behind; sound = sound.2; fine = fine_part tail; is = refl })
 told_open fold k around n last text mid (shut (Some branch) None bound tail) takes fits
     (end, close, outside, first, more, shuts, behind) sound fine =
-    told_front fold (group_of (alone branch) bound) (k ∷ around) n last text outside (rest_tail fold (groups_branch (n + 1) branch) tail)
+    told_front fold (group_of (alone branch) bound) (k ∷ around) n last text outside
+    (rest_tail fold (groups_branch (n + 1) branch) tail)
     (mid, close, takes, spells_others mid end close branch None first more, shuts) (fits, sound.0)
     (record { tail = tail; spells = behind; sound = sound.2; fine = fine_part tail; is = refl })
 told_open fold k around n last text mid (shut (Some branch) (Some alts) bound tail) takes fits
@@ -300,7 +316,8 @@ stands place number is =
 told_closed : (fold : Bool) (at n : ℕ) (inner : Open) (outer : List Open) (last : Last) (text mid : List ℕ)
     (bound : Option Bound) (says : Rest) → Takes text (close_group bound) mid →
     refusal (record { groups = n; inner = inner; outer = outer; last = last }) (close_group bound) ≡ None →
-    ToldAt fold (behind (record { groups = n; inner = inner; outer = outer; last = last }) at (close_group bound)) mid says →
+    ToldAt fold (behind (record { groups = n; inner = inner; outer = outer; last = last }) at
+    (close_group bound)) mid says →
     ToldAt fold (record { groups = n; inner = inner; outer = outer; last = last }) text (closes [] [] bound says)
 told_closed fold at n inner [] last text mid bound says takes ok told = cc
 told_closed fold at n inner (level ∷ outer) last text mid bound says takes ok told =
@@ -317,9 +334,11 @@ told_token : (fold : Bool) (place : Place) (at : ℕ) (t : Token) (text mid : Li
     refusal place t ≡ None → ToldAt fold (behind place at t) mid says →
     ToldAt fold place text (from_token fold (place.groups + 1) t says)
 told_token fold place at (item (byte b) bound) text mid says takes ok told =
-    told_front fold (simple (item (byte b) bound)) (numbers place) place.groups place.last text mid says takes refl told
+    told_front fold (simple (item (byte b) bound))
+    (numbers place) place.groups place.last text mid says takes refl told
 told_token fold place at (item (one_of bytes) bound) text mid says takes ok told =
-    told_front fold (simple (item (one_of bytes) bound)) (numbers place) place.groups place.last text mid says takes refl told
+    told_front fold (simple (item (one_of bytes) bound))
+    (numbers place) place.groups place.last text mid says takes refl told
 told_token fold place at (item (same_as number) bound) text mid says takes ok told =
     told_front fold (simple (item (same_as number) bound)) (numbers place) place.groups place.last text mid says takes
     (stands place number ok) told
@@ -351,8 +370,10 @@ told_end fold at n inner (level ∷ outer) last says is =
     let refused = rw some at is in
     cc
 told_end fold at n inner [] Bar says is = cc
-told_end fold at n inner [] Part says is = record { tail = stop None None; spells = ([], refl, refl); sound = (tt, tt); fine = tt; is = cc }
-told_end fold at n inner [] Nothing says is = record { tail = stop None None; spells = ([], refl, refl); sound = (tt, tt); fine = tt; is = cc }
+told_end fold at n inner [] Part says is =
+    record { tail = stop None None; spells = ([], refl, refl); sound = (tt, tt); fine = tt; is = cc }
+told_end fold at n inner [] Nothing says is =
+    record { tail = stop None None; spells = ([], refl, refl); sound = (tt, tt); fine = tt; is = cc }
 
 -- what was read
 
@@ -375,9 +396,11 @@ map_ok_ok change (Err refused) b is = cc
 told_reading : (text : List ℕ) (fold : Bool) (place : Place) (at skip : ℕ) (says : Rest) → skip ≤ length text →
     reading_from fold place at skip text ≡ Ok says → ToldAt fold place (drop skip text) says
 unfolding reading_from
-told_reading [] fold place at zero says fits is = told_end fold at place.groups place.inner place.outer place.last says is
+told_reading [] fold place at zero says fits is =
+    told_end fold at place.groups place.inner place.outer place.last says is
 told_reading [] fold place at (suc skip) says fits is = absurd (omega arith)
-told_reading (b ∷ rest) fold place at (suc skip) says fits is = told_reading rest fold place (suc at) skip says (omega arith) is
+told_reading (b ∷ rest) fold place at (suc skip) says fits is =
+    told_reading rest fold place (suc at) skip says (omega arith) is
 told_reading (b ∷ rest) fold place at zero says fits is =
     let text : List ℕ = b ∷ rest in
     let found = and_then_ok at (token text) _ says is in
@@ -392,7 +415,8 @@ told_reading (b ∷ rest) fold place at zero says fits is =
     let more : found.0.1 ≡ suc (found.0.1 - 1) = omega arith in
     let behind_it : drop (found.0.1 - 1) rest ≡ drop found.0.1 text = ap (λ n. drop n text) (sym more) in
     subst (λ (r : Rest). ToldAt fold place text r) read.2
-    (told_token fold place at t text (drop (found.0.1 - 1) rest) read.0 (found.0.1, found.1, low, high, behind_it) let_in.0
+    (told_token fold place at t text (drop (found.0.1 - 1) rest) read.0
+    (found.0.1, found.1, low, high, behind_it) let_in.0
     (told_reading rest fold (behind place at t) (suc at) (found.0.1 - 1) read.0 (omega arith) read.1))
 
 -- a whole text

@@ -1,5 +1,5 @@
--- Bounds: how often an atom is repeated.
--- After POSIX.1 XBD 9.4.6, EREs matching multiple characters. RE_DUP_MAX is 255, the least that POSIX.1 allows.
+-- Bounds: how often an atom is repeated. After POSIX.1 XBD 9.4.6, EREs matching multiple characters.
+-- RE_DUP_MAX is 255, the least that POSIX.1 allows.
 use Rattle.std.specs.Prelude.{codes, ℕ, ◌+◌, ◌-◌, ◌*◌, Bool, Option, Some, None, List, [], ◌∷◌, take, drop, ◌&&◌, ◌||◌, nat_le, if◌then◌else◌}
 use Rattle.std.specs.List.{prefix_len}
 use Rattle.ere_tree.specs.Front.{begins_with, starts, is_decimal}
@@ -19,13 +19,16 @@ number_from n (digit ∷ rest) = number_from (n * 10 + (digit - 48)) rest
 unfoldable pub number_at : List ℕ → ℕ
 number_at text = number_from 0 (take (digit_count text) text)
 
--- these repetitions, where both numbers are within the limit and in order, and the bytes that their bound takes
+-- these repetitions, where both numbers are within the limit and in order, and the bytes that their bound
+-- takes
 abbrev pub at_least : ℕ → ℕ → Option (Bound × ℕ)
-at_least least taken = if nat_le least MAX_BOUND then Some (record { least = least; most = None }, taken) else None
+at_least least taken =
+    if nat_le least MAX_BOUND then Some (record { least = least; most = None }, taken) else None
 
 abbrev pub between : ℕ → ℕ → ℕ → Option (Bound × ℕ)
 between least most taken =
-    if nat_le least most && nat_le most MAX_BOUND then Some (record { least = least; most = Some most }, taken) else None
+    if nat_le least most && nat_le most MAX_BOUND then Some
+    (record { least = least; most = Some most }, taken) else None
 
 -- the end of a bound behind `{m,`: `}` or `n}`
 abbrev pub behind_comma : ℕ → ℕ → List ℕ → Option (Bound × ℕ)

@@ -45,7 +45,8 @@ element_len Unsupported = 2
 
 -- whether the text goes on with a `-` that has an end of a range behind it
 unfoldable pub begins_range : List ℕ → Bool
-begins_range text = starts (codes "-") text && nat_lt 1 (length text) && not (starts (codes "]") (drop 1 text))
+begins_range text = starts (codes "-") text && nat_lt 1 (length text) && not (starts (codes "]")
+    (drop 1 text))
 
 abbrev pub fault : {A : Type 0} → ℕ → EreKind → Result A EreFault
 fault at kind = Err (record { at = at; kind = kind })
@@ -86,8 +87,9 @@ abbrev pub bytes_of : Bool → (ℕ → Bool) → List ℕ
 bytes_of false test = bytes_passing test
 bytes_of true test = bytes_passing (λ b. not (test b) && not (b == 10))
 
--- The bytes of a bracket, and its length up to the `]` that closes it, where its text goes on so at an offset,
--- these bytes passed so far, and so many bytes belong to the member before. Behind `[` or `[^` a `]` is a member.
+-- The bytes of a bracket, and its length up to the `]` that closes it, where its text goes on so at an
+-- offset, these bytes passed so far, and so many bytes belong to the member before. Behind `[` or `[^` a `]`
+-- is a member.
 unfoldable pub members : Bool → (ℕ → Bool) → Bool → ℕ → ℕ → List ℕ → Result (List ℕ × ℕ) EreFault
 members negated test first at skip [] = fault 0 UnclosedBracket
 members negated test first at (suc skip) (b ∷ rest) = members negated test first (suc at) skip rest

@@ -1,6 +1,6 @@
--- The grammar of extended regular expressions: the tree of a text, or its first fault.
--- After POSIX.1 XBD 9.4 and 9.5.3, with back-references, and with `()` as a group of the empty expression. Own rules:
--- groups are nested at most 250 deep, and an expression's size is at most 100,000.
+-- The grammar of extended regular expressions: the tree of a text, or its first fault. After POSIX.1 XBD 9.4
+-- and 9.5.3, with back-references, and with `()` as a group of the empty expression. Own rules: groups are
+-- nested at most 250 deep, and an expression's size is at most 100,000.
 use Rattle.std.specs.Prelude.{◌≡◌, ℕ, zero, suc, ◌+◌, ◌-◌, Bool, Option, Some, None, List, [], ◌∷◌, map, Result, Ok, Err, nat_le, if◌then◌else◌}
 use Rattle.ere_tree.specs.Tree.{Tree, empty, plain, set, line_start, line_end, cat, alt, repeat, group, back, trees_of}
 use Rattle.ere_tree.specs.Shape.{size_of}
@@ -18,8 +18,9 @@ use Rattle.ere_tree.specs.declared.fault.EreKind.TheVariants.{TooLarge}
 use Rattle.ere_tree.specs.declared.parser.TheConstants.{MAX_SIZE}
 use Rattle.ere_tree.specs.Place.{Place, refusal, refusal_at_end, beginning, behind}
 
--- What the text says from a place on: the rest of the branch there, and the branches behind it at the same level.
--- They go up to the end, or up to a `)`, which may have a bound, and what the level outside goes on with.
+-- What the text says from a place on: the rest of the branch there, and the branches behind it at the same
+-- level. They go up to the end, or up to a `)`, which may have a bound, and what the level outside goes on
+-- with.
 pub data Rest : Type 0 where
   ends : List Tree → List (List Tree) → Rest
   closes : List Tree → List (List Tree) → Option Bound → Rest → Rest
@@ -69,11 +70,13 @@ abbrev pub behind_bar : Rest → Rest
 behind_bar (ends here others) = ends [] (here ∷ others)
 behind_bar (closes here others bound outside) = closes [] (here ∷ others) bound outside
 
--- What stands from a `(` on: its group, as a part of the level outside. (The end closes no group: see `refusal_at_end`.)
+-- What stands from a `(` on: its group, as a part of the level outside. (The end closes no group: see
+-- `refusal_at_end`.)
 abbrev pub grouped : ℕ → Rest → Rest
 grouped number (ends here others) = ends (group number (either_of (map branch_of (here ∷ others))) ∷ []) []
 grouped number (closes here others bound outside) =
-    in_branch (λ parts. repeated bound (group number (either_of (map branch_of (here ∷ others)))) ∷ parts) outside
+    in_branch (λ parts. repeated bound (group number (either_of (map branch_of (here ∷ others))))
+    ∷ parts) outside
 
 -- what the text says from a token on
 abbrev pub from_token : Bool → ℕ → Token → Rest → Rest
@@ -98,7 +101,8 @@ abbrev pub ended : Option EreFault → Result Rest EreFault
 ended (Some refused) = Err refused
 ended None = Ok (ends [] [])
 
--- what the text says from a place with an offset on, where so many bytes belong to the token before; or its first fault
+-- what the text says from a place with an offset on, where so many bytes belong to the token before; or its
+-- first fault
 unfoldable pub reading_from : Bool → Place → ℕ → ℕ → List ℕ → Result Rest EreFault
 reading_from fold place at skip [] = ended (refusal_at_end place at)
 reading_from fold place at (suc skip) (b ∷ rest) = reading_from fold place (suc at) skip rest

@@ -12,7 +12,8 @@ use Rattle.ere_tree.specs.declared.level.Last.TheVariants.{Nothing, Bar, Part}
 use Rattle.ere_tree.specs.declared.level.Level as held
 use Rattle.ere_tree.specs.declared.parser.Reader as held_by
 
--- a level: its closed branches, and of the branch at hand its parts and then the bytes that may still be joined
+-- a level: its closed branches, and of the branch at hand its parts and then the bytes that may still be
+-- joined
 pub record Level : Type 0 where
   pub at : ℕ
   pub number : ℕ
@@ -96,9 +97,12 @@ with_item fold (byte b) (Some bound) = with_part (repeated (Some bound) (atom_tr
 with_item fold (one_of bytes) bound = with_part (repeated bound (atom_tree fold (one_of bytes)))
 with_item fold (same_as number) bound = with_part (repeated bound (atom_tree fold (same_as number)))
 
+abbrev pub item_taken : Bool → Atom → Option Bound → Levels → Levels
+item_taken fold atom bound = in_inner (with_item fold atom bound)
+
 -- behind a token that stands at an offset
 abbrev pub taken : Bool → ℕ → Token → Levels → Levels
-taken fold at (item atom bound) levels = in_inner (with_item fold atom bound) levels
+taken fold at (item atom bound) levels = item_taken fold atom bound levels
 taken fold at tokens.line_start levels = in_inner (with_part line_start) levels
 taken fold at tokens.line_end levels = in_inner (with_part line_end) levels
 taken fold at bar levels = in_inner with_bar levels
@@ -128,8 +132,8 @@ level_view level = record {
   run = level.run.items;
 }
 
-abbrev pub levels_view : held_by.Reader → Levels
-levels_view reader = record {
+abbrev pub state : held_by.Reader → Levels
+state reader = record {
   groups = reader.groups;
   inner = level_view reader.inner;
   outer = reverse (map level_view reader.outer.items);

@@ -1,6 +1,6 @@
--- Where a token may stand in an expression, and what is wrong where it may not.
--- After POSIX.1 XBD 9.5.3. Own rules: a reference names a group that is closed before it; groups are nested at most
--- 250 deep; `()` is a group of the empty expression, and no other alternative is empty.
+-- Where a token may stand in an expression, and what is wrong where it may not. After POSIX.1 XBD 9.5.3. Own
+-- rules: a reference names a group that is closed before it; groups are nested at most 250 deep; `()` is a
+-- group of the empty expression, and no other alternative is empty.
 use Rattle.std.specs.Prelude.{ℕ, ◌+◌, Bool, true, false, Option, Some, None, List, [], ◌∷◌, length, ◌==◌, ◌&&◌, ◌||◌, not, nat_lt, nat_le, if◌then◌else◌}
 use Rattle.std.specs.List.{list_any}
 use Rattle.ere_tree.specs.Token.{Token, byte, one_of, same_as, item, line_start, line_end, bar, open_group, close_group}
@@ -11,13 +11,14 @@ use Rattle.ere_tree.specs.declared.level.Last.{Last}
 use Rattle.ere_tree.specs.declared.level.Last.TheVariants.{Nothing, Bar, Part}
 use Rattle.ere_tree.specs.declared.parser.TheConstants.{MAX_DEPTH}
 
--- A level: the whole text, or the group of this number, whose `(` stands at this offset. The whole has number 0.
+-- A level: the whole text, or the group of this number, whose `(` stands at this offset. The whole has number
+-- 0.
 pub record Open : Type 0 where
   pub at : ℕ
   pub number : ℕ
 
--- A place in a text: how many groups began before it, the level that it is in, the levels round that one, innermost
--- first, and what stands directly before it in its level.
+-- A place in a text: how many groups began before it, the level that it is in, the levels round that one,
+-- innermost first, and what stands directly before it in its level.
 pub record Place : Type 0 where
   pub groups : ℕ
   pub inner : Open
@@ -26,7 +27,8 @@ pub record Place : Type 0 where
 
 -- whether a place is in the group of this number
 abbrev pub is_open : Place → ℕ → Bool
-is_open place number = (place.inner.number == number) || list_any (λ level. level.number == number) place.outer
+is_open place number =
+    (place.inner.number == number) || list_any (λ level. level.number == number) place.outer
 
 -- whether the group of this number is closed before a place
 abbrev pub is_closed : Place → ℕ → Bool

@@ -28,7 +28,8 @@ mutual
 
 -- the text is this token and then the rest
 abbrev pub Takes : List ℕ → Token → List ℕ → Type 0
-Takes text t rest = (count : ℕ) × (token text ≡ Ok (t, count)) × (0 < count) × (count ≤ length text) × (rest ≡ drop count text)
+Takes text t rest = (count : ℕ) × (token text ≡ Ok (t, count)) × (0 < count) × (count ≤ length text)
+    × (rest ≡ drop count text)
 
 abbrev mutual
   -- the text is this item and then the rest
@@ -42,12 +43,14 @@ abbrev mutual
 
   pub SpellsBranch : List ℕ → Branch → List ℕ → Type 0
   SpellsBranch text (only one) rest = SpellsItem text one rest
-  SpellsBranch text (also one branch) rest = (behind : List ℕ) × SpellsItem text one behind × SpellsBranch behind branch rest
+  SpellsBranch text (also one branch) rest =
+      (behind : List ℕ) × SpellsItem text one behind × SpellsBranch behind branch rest
 
   pub SpellsAlts : List ℕ → Alts → List ℕ → Type 0
   SpellsAlts text (alone branch) rest = SpellsBranch text branch rest
   SpellsAlts text (or branch alts) rest =
-      (end : List ℕ) × (behind : List ℕ) × SpellsBranch text branch end × Takes end bar behind × SpellsAlts behind alts rest
+      (end : List ℕ) × (behind : List ℕ) × SpellsBranch text branch end × Takes end bar behind
+      × SpellsAlts behind alts rest
 
 abbrev mutual
   -- how many groups began before what follows, where so many began before this
@@ -76,20 +79,23 @@ may_stand around n open_group = false
 may_stand around n (close_group bound) = false
 
 abbrev mutual
-  -- References are to closed groups, and no group is too deep. The groups around are given by their numbers, the whole
-  -- being number 0.
+  -- References are to closed groups, and no group is too deep. The groups around are given by their numbers,
+  -- the whole being number 0.
   pub SoundItem : List ℕ → ℕ → Item → Type 0
   SoundItem around n (simple t) = IsTrue (may_stand around n t)
   SoundItem around n (empty_group bound) = length around ≤ MAX_DEPTH
-  SoundItem around n (group_of alts bound) = (length around ≤ MAX_DEPTH) × SoundAlts ((n + 1) ∷ around) (n + 1) alts
+  SoundItem around n (group_of alts bound) =
+      (length around ≤ MAX_DEPTH) × SoundAlts ((n + 1) ∷ around) (n + 1) alts
 
   pub SoundBranch : List ℕ → ℕ → Branch → Type 0
   SoundBranch around n (only one) = SoundItem around n one
-  SoundBranch around n (also one branch) = SoundItem around n one × SoundBranch around (groups_item n one) branch
+  SoundBranch around n (also one branch) =
+      SoundItem around n one × SoundBranch around (groups_item n one) branch
 
   pub SoundAlts : List ℕ → ℕ → Alts → Type 0
   SoundAlts around n (alone branch) = SoundBranch around n branch
-  SoundAlts around n (or branch alts) = SoundBranch around n branch × SoundAlts around (groups_branch n branch) alts
+  SoundAlts around n (or branch alts) =
+      SoundBranch around n branch × SoundAlts around (groups_branch n branch) alts
 
 -- the parts of a branch from an anchor, or an atom and its bound, on
 abbrev pub with_token : Bool → Token → List Tree → List Tree
@@ -104,11 +110,14 @@ abbrev mutual
   parts_item fold n (simple t) parts = with_token fold t parts
   parts_item fold n (empty_group bound) parts = repeated bound (group (n + 1) empty) ∷ parts
   parts_item fold n (group_of alts bound) parts =
-      repeated bound (group (n + 1) (either_of (map branch_of (first_branch fold (n + 1) alts ∷ other_branches fold (n + 1) alts)))) ∷ parts
+      repeated bound (group (n + 1)
+      (either_of (map branch_of (first_branch fold (n + 1) alts ∷ other_branches fold (n + 1) alts))))
+      ∷ parts
 
   pub parts_branch : Bool → ℕ → Branch → List Tree → List Tree
   parts_branch fold n (only one) parts = parts_item fold n one parts
-  parts_branch fold n (also one branch) parts = parts_item fold n one (parts_branch fold (groups_item n one) branch parts)
+  parts_branch fold n (also one branch) parts =
+      parts_item fold n one (parts_branch fold (groups_item n one) branch parts)
 
   pub first_branch : Bool → ℕ → Alts → List Tree
   first_branch fold n (alone branch) = parts_branch fold n branch []

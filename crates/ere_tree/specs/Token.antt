@@ -1,6 +1,6 @@
--- An expression byte by byte: its tokens. An atom and the bound behind it are one token.
--- After POSIX.1 XBD 9.4, with back-references `\1` to `\9`. Own rules: a `{` with no digit behind it is an ordinary
--- byte, and any byte may stand behind a backslash.
+-- An expression byte by byte: its tokens. An atom and the bound behind it are one token. After POSIX.1 XBD
+-- 9.4, with back-references `\1` to `\9`. Own rules: a `{` with no digit behind it is an ordinary byte, and
+-- any byte may stand behind a backslash.
 use Rattle.std.specs.Prelude.{codes, ℕ, ◌+◌, ◌-◌, Option, Some, None, List, drop, length, slice_index, Result, Ok, Err, ◌==◌, not, is_some, nat_lt, nat_le, ◌&&◌, if◌then◌else◌}
 use Rattle.ere_tree.specs.Front.{starts}
 use Rattle.ere_tree.specs.Tree.{bytes_passing}
@@ -8,6 +8,7 @@ use Rattle.ere_tree.specs.Bound.{bound_at, begins_bound}
 use Rattle.ere_tree.specs.Bracket.{bracket, fault}
 use Rattle.ere_tree.specs.declared.bound.Bound.{Bound}
 use Rattle.ere_tree.specs.declared.fault.EreFault.{EreFault}
+use Rattle.ere_tree.specs.declared.fault.EreKind.{EreKind}
 use Rattle.ere_tree.specs.declared.fault.EreKind.TheVariants.{RepeatOfNothing, BadBound, TrailingBackslash}
 
 -- what may be repeated, but for a group
@@ -37,6 +38,10 @@ bound_behind count text = counted count (bound_at (drop count text))
 abbrev pub with_bound : (Option Bound → Token) → ℕ → List ℕ → Token × ℕ
 with_bound make count text = (make (bound_behind count text).0, (bound_behind count text).1)
 
+-- why a bound with no atom before it is refused
+abbrev pub bound_refusal : List ℕ → EreKind
+bound_refusal text = if is_some (bound_at text) then RepeatOfNothing else BadBound
+
 -- what a backslash stands for with the byte behind it
 abbrev pub escaped : ℕ → Atom
 escaped b = if nat_le 49 b && nat_le b 57 then same_as (b - 48) else byte b
@@ -55,7 +60,8 @@ bracket_item text (Err refused) = Err refused
 -- the token of an atom and its bound
 unfoldable pub atom_at : List ℕ → Result (Token × ℕ) EreFault
 atom_at text =
-    if starts (codes ".") text then Ok (with_bound (item (one_of (bytes_passing (λ b. not (b == 10))))) 1 text)
+    if starts (codes ".") text then Ok
+    (with_bound (item (one_of (bytes_passing (λ b. not (b == 10))))) 1 text)
     else if starts (codes "[") text then bracket_item text (bracket text)
     else if starts (codes "\\") text then escape_at text
     else Ok (with_bound (item (byte (slice_index text 0))) 1 text)
@@ -68,5 +74,5 @@ token text =
     else if starts (codes "|") text then Ok (bar, 1)
     else if starts (codes "(") text then Ok (open_group, 1)
     else if starts (codes ")") text then Ok (with_bound close_group 1 text)
-    else if begins_bound text then fault 0 (if is_some (bound_at text) then RepeatOfNothing else BadBound)
+    else if begins_bound text then fault 0 (bound_refusal text)
     else atom_at text

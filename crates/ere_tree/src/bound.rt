@@ -14,7 +14,7 @@ pub(crate) struct Bound {
     pub(crate) most: Option<u32>,
 }
 
-#[tactic(auto, using(crate::proofs::BoundLemmas::digit_here, crate::proofs::BoundLemmas::no_digit_here, crate::proofs::BoundLemmas::number_here, crate::proofs::BoundLemmas::number_ends, crate::proofs::BoundLemmas::number_at_end), unfolding(crate::specs::Bound::number_at))]
+#[tactic(auto, using(crate::proofs::BoundLemmas::digit_steps), unfolding(crate::specs::Bound::number_at))]
 /// How many digits the text begins with, and the number that they spell, or 256 where it is greater.
 fn digits(text: &[u8]) -> (usize, u32)
     ensures count { result.0 ≡ digit_count text.now }

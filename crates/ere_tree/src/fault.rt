@@ -23,7 +23,8 @@ pub enum EreKind {
     StrayClose,
     /// A bracket that isn't closed, as in `a[b`, at its `[`: 1.
     UnclosedBracket,
-    /// A range from a greater to a lesser byte, as in `[z-a]`, or with a class at an end, at the range's first byte: 1.
+    /// A range from a greater to a lesser byte, as in `[z-a]`, or with a class at an end, at the first byte
+    /// of the range: 1.
     BadRange,
     /// A class of another name than the twelve, as in `[[:word:]]`, at the inner `[`: 1.
     UnknownClass,

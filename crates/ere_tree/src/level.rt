@@ -17,8 +17,8 @@ pub(crate) enum Last {
     Part,
 }
 
-/// The whole, or an open group: its closed branches, and the parts of the branch at hand. Bytes with no bound that
-/// follow each other wait in `run`.
+/// The whole, or an open group: its closed branches, and the parts of the branch at hand. Bytes with no bound
+/// that follow each other wait in `run`.
 #[derive(Drop)]
 pub(crate) struct Level {
     pub(crate) at: usize,

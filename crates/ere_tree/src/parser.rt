@@ -3,7 +3,7 @@ ghost use Rattle.std.specs.Prelude.{◌≡◌, ◌≤◌, ◌==◌, IfOk, OnOk};
 ghost use Rattle.std.specs.List.{list_any};
 ghost use Rattle.ere_tree.specs.Grammar.{atom_tree, sized, tree_read, reading, Reads};
 ghost use Rattle.ere_tree.specs.Place.{is_open, refusal, refusal_at_end};
-ghost use Rattle.ere_tree.specs.Levels.{levels_view, place_of, beginning_levels, in_inner, with_item, opened, closed, taken, tree_of};
+ghost use Rattle.ere_tree.specs.Levels.{state, place_of, beginning_levels, item_taken, opened, closed, taken, tree_of};
 ghost use Rattle.ere_tree.specs.Productions.{IsEre};
 ghost use Rattle.ere_tree.specs.Shape.{size_of};
 ghost use Rattle.ere_tree.specs.Tree.{Tree};
@@ -57,7 +57,7 @@ fn any_of_number(levels: &[Level], number: u32) -> bool
 
 impl Reader {
     fn new(alloc: Global) -> Reader
-        ensures { levels_view result ≡ beginning_levels }
+        ensures { state result ≡ beginning_levels }
     {
         Reader {
             groups: 0,
@@ -69,14 +69,14 @@ impl Reader {
     #[tactic(auto, using(crate::proofs::LevelLemmas::any_of_levels))]
     /// Whether the group of this number is open.
     fn is_open(&self, number: u32) -> bool
-        ensures { result ≡ is_open (place_of (levels_view self.now)) number }
+        ensures { result ≡ is_open (place_of (state self.now)) number }
     {
         self.inner.number == number || any_of_number(self.outer.as_slice(), number)
     }
 
     /// Why the token is refused here, if it is.
     fn refusal(&self, token: &Token) -> Option<EreKind>
-        ensures { result ≡ refusal (place_of (levels_view self.now)) (token_view token.now) }
+        ensures { result ≡ refusal (place_of (state self.now)) (token_view token.now) }
     {
         match token {
             Token::Item(Atom::SameAs(number), _) => {
@@ -118,7 +118,7 @@ impl Reader {
         bound: Option<Bound>,
         fold: bool,
     ) -> Result<(), AllocError>
-        ensures { OnOk result (levels_view self.new ≡ in_inner (with_item fold (atom_view atom) bound) (levels_view self.old)) }
+        ensures { OnOk result (state self.new ≡ item_taken fold (atom_view atom) bound (state self.old)) }
     {
         match (atom, bound) {
             (Atom::Byte(byte), None) => self.inner.add_letter(byte),
@@ -131,7 +131,7 @@ impl Reader {
 
     /// Begins a group whose `(` stands at this offset.
     fn open(&mut self, alloc: Global, at: usize) -> Result<(), AllocError>
-        ensures { OnOk result (levels_view self.new ≡ opened at (levels_view self.old)) }
+        ensures { OnOk result (state self.new ≡ opened at (state self.old)) }
     {
         let Some(number) = self.groups.checked_add(1) else {
             return Err(AllocError);
@@ -144,7 +144,7 @@ impl Reader {
 
     /// Ends the group at hand.
     fn close(&mut self, alloc: Global, bound: Option<Bound>) -> Result<(), AllocError>
-        ensures { OnOk result (levels_view self.new ≡ closed bound (levels_view self.old)) }
+        ensures { OnOk result (state self.new ≡ closed bound (state self.old)) }
     {
         let Some(round) = self.outer.pop() else {
             return Ok(());
@@ -158,7 +158,7 @@ impl Reader {
 
     /// Reads a token that isn't refused.
     fn take(&mut self, alloc: Global, at: usize, token: Token, fold: bool) -> Result<(), AllocError>
-        ensures { OnOk result (levels_view self.new ≡ taken fold at (token_view token) (levels_view self.old)) }
+        ensures { OnOk result (state self.new ≡ taken fold at (token_view token) (state self.old)) }
     {
         match token {
             Token::Item(atom, bound) => self.add_item(alloc, atom, bound, fold),
@@ -172,7 +172,7 @@ impl Reader {
 
     /// Why the text may not end here, if it may not.
     fn refusal_at_end(&self, at: usize) -> Option<EreFault>
-        ensures { result ≡ refusal_at_end (place_of (levels_view self.now)) at }
+        ensures { result ≡ refusal_at_end (place_of (state self.now)) at }
     {
         if !self.outer.is_empty() {
             return Some(EreFault {
@@ -191,7 +191,7 @@ impl Reader {
 
     /// The whole expression.
     fn finish(self, alloc: Global) -> Result<Ere, AllocError>
-        ensures { IfOk result (λ ere. view ere ≡ tree_of (levels_view self).inner) }
+        ensures { IfOk result (λ ere. view ere ≡ tree_of (state self).inner) }
     {
         let Reader { inner, .. } = self;
         inner.finish(alloc)
@@ -257,15 +257,15 @@ fn read_text(alloc: Global, bytes: &[u8], fold: bool) -> Result<Ere, EreFail>
     }
 }
 
-/// Reads a text as an expression. `fold` goes into each reference. An expression with more than `u32::MAX` groups is
-/// answered as one that memory doesn't hold.
+/// Reads a text as an expression. `fold` goes into each reference. An expression with more than `u32::MAX`
+/// groups is answered as one that memory doesn't hold.
 pub fn parse(alloc: Global, bytes: &[u8], fold: bool) -> Result<Ere, EreFail>
     // The tree of the text, or its first fault.
     ensures exact { Reads result (reading fold bytes.now) }
     // What is read is in the grammar.
     ensures found { IfOk result (λ ere. IsEre fold bytes.now (view ere) × (size_of (view ere) ≤ MAX_SIZE)) }
     // What is in the grammar is read, unless memory runs out.
-    ensures only { (tree : Tree) → IsEre fold bytes.now tree → size_of tree ≤ MAX_SIZE → Reads result (Ok tree) }
+    ensures only { (t : Tree) → IsEre fold bytes.now t → size_of t ≤ MAX_SIZE → Reads result (Ok t) }
 {
     read_text(alloc, bytes, fold)
 }

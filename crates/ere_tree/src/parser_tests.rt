@@ -116,7 +116,8 @@ a\\.b\\*\\0 => a.b*0
 [a[:] => [:[a]
 [a\\] => [\\a]
 [X-[] => [XYZ[]
-[[:al]b => cat( [:[al] b )";
+[[:al]b => cat( [:[al] b )
+(a{248}){250}(b{248}){149}c{247} => cat( 250-Some(250)(#1(248-Some(248)(a))) 149-Some(149)(#2(248-Some(248)(b))) 247-Some(247)(c) )";
 
 /// A text and its fault in each line.
 const REFUSED: &str = "a{2,1} => BadBound 1
@@ -161,6 +162,7 @@ a[b => UnclosedBracket 1
 [b[:word:]] => UnknownClass 2
 [[::]] => UnknownClass 1
 [a-[=a=]] => UnsupportedBracket 3
+(a{248}){250}(b{248}){149}c{247}d => TooLarge 0
 ((a{255}){255}){255} => TooLarge 0
 ((a{255}){255}){255}( => UnclosedGroup 20";
 
@@ -191,6 +193,10 @@ fn hostile_texts_are_answered(rt: HostRuntime) -> Result<(), Fail> {
     let alloc = rt.alloc();
     let opens = vec![in alloc; b'('; 100_000]?;
     assert_eq!(rt; told(alloc, &opens)?.as_str(), "TooDeep 250");
+    let mut nested = vec![in alloc; b'('; 250]?;
+    nested.push(b'a')?;
+    nested.extend_from_slice(&vec![in alloc; b')'; 250]?)?;
+    assert!(rt; parse(alloc, &nested, false).is_ok());
     let brackets = vec![in alloc; b'['; 65_536]?;
     assert_eq!(rt; told(alloc, &brackets)?.as_str(), "UnclosedBracket 0");
     for first in 0..=255 {

@@ -1,8 +1,7 @@
 //! An expression byte by byte: its tokens.
 ghost use Rattle.std.specs.Prelude.{◌≡◌, ◌≤◌, ◌<◌, ◌+◌, IfOk, IfErr, is_some, if◌then◌else◌, length};
 ghost use Rattle.ere_tree.specs.Bracket.{bracket};
-ghost use Rattle.ere_tree.specs.Bound.{bound_at};
-ghost use Rattle.ere_tree.specs.Token.{bound_behind, with_bound, item, escaped, escape_at, bracket_item, atom_at, token};
+ghost use Rattle.ere_tree.specs.Token.{bound_refusal, bound_behind, with_bound, item, escaped, escape_at, bracket_item, atom_at, token};
 ghost use Rattle.ere_tree.specs.TokenView.{atom_view, token_view, as_token};
 
 use crate::bound::{Bound, bound_begins, find_bound};
@@ -118,7 +117,7 @@ fn atom_item(text: &[u8]) -> Result<(Token, usize), EreFault>
 }
 
 fn stray_bound(text: &[u8]) -> EreFault
-    ensures { result ≡ record { at = 0; kind = if is_some (bound_at text.now) then EreKind.RepeatOfNothing else EreKind.BadBound } }
+    ensures { result ≡ record { at = 0; kind = bound_refusal text.now } }
 {
     match find_bound(text) {
         Some(_) => refused(EreKind::RepeatOfNothing),

@@ -30,7 +30,8 @@ loop-at-preserved c =
     record {
       within = omega arith;
       rest =
-          ap (λ text. members c.args.negated (has_bit c.union.new.self.bits) false (c.loop-at.at + c.in-Ok.taken) 0 text)
+          ap (λ text. members c.args.negated (has_bit c.union.new.self.bits) false
+          (c.loop-at.at + c.in-Ok.taken) 0 text)
           (sym (ap (drop c.in-Ok.taken) c.behind-rest.ensures ∙ drop-drop c.in-Ok.taken c.loop-at.at c.args.text.now))
           ∙ sym (members_given c.args.negated c.loop-at.set.bits c.union.new.self.bits c.loop-at.first c.loop-at.at
           c.in-Ok.taken rest (member rest) c.in-Ok.found refl c.in-Ok.ensures.exact c.union.ensures

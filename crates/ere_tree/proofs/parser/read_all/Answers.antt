@@ -1,6 +1,6 @@
 use Rattle.std.proofs.Common.{◌≡◌, ◌≤◌, ◌+◌, Ok, length, drop, sym, ap, ◌∙◌, arith, length-drop}
 use Rattle.std.proofs.lemmas.List.{drop-drop}
-use Rattle.ere_tree.specs.Levels.{levels_view, taken}
+use Rattle.ere_tree.specs.Levels.{state, taken}
 use Rattle.ere_tree.specs.TokenView.{token_view}
 use Rattle.ere_tree.proofs.ReadingLemmas.{said, said_behind, said_refused, said_denied, said_at_beginning, said_refused_at_end, said_at_end}
 use Rattle.ere_tree.proofs.parser.read_all.Goals as goal
@@ -14,9 +14,10 @@ loop-at-init c = record {
 
 pub returns-in-Err : goal.returns-in-Err
 returns-in-Err c =
-    let levels = levels_view c.loop-at.reader in
+    let levels = state c.loop-at.reader in
     let long = length-drop c.loop-at.at c.args.bytes.now in
-    let same : length c.behind.result.now ≡ length (drop c.loop-at.at c.args.bytes.now) = ap length c.behind.ensures in
+    let same : length c.behind.result.now ≡ length (drop c.loop-at.at c.args.bytes.now) =
+    ap length c.behind.ensures in
     sym c.loop-at.invariant.rest
     ∙ ap (said c.args.fold levels c.loop-at.at) (sym c.behind.ensures)
     ∙ said_refused c.args.fold levels c.loop-at.at c.behind.result.now c.in-Err.fault (omega arith)
@@ -24,9 +25,10 @@ returns-in-Err c =
 
 pub returns-in-Some : goal.returns-in-Some
 returns-in-Some c =
-    let levels = levels_view c.loop-at.reader in
+    let levels = state c.loop-at.reader in
     let long = length-drop c.loop-at.at c.args.bytes.now in
-    let same : length c.behind.result.now ≡ length (drop c.loop-at.at c.args.bytes.now) = ap length c.behind.ensures in
+    let same : length c.behind.result.now ≡ length (drop c.loop-at.at c.args.bytes.now) =
+    ap length c.behind.ensures in
     sym c.loop-at.invariant.rest
     ∙ ap (said c.args.fold levels c.loop-at.at) (sym c.behind.ensures)
     ∙ said_denied c.args.fold levels c.loop-at.at c.behind.result.now (token_view c.in-Ok.token, c.in-Ok.taken)
@@ -34,7 +36,7 @@ returns-in-Some c =
 
 pub loop-at-preserved : goal.loop-at-preserved
 loop-at-preserved c =
-    let old = levels_view c.loop-at.reader in
+    let old = state c.loop-at.reader in
     let rest = c.behind.result.now in
     let at = c.loop-at.at in
     let bytes = c.args.bytes.now in
@@ -59,7 +61,7 @@ returns-in-Some-refusal_at_end c =
     let none : length (drop c.loop-at.at c.args.bytes.now) ≡ 0 =
     omega (arith, length-drop c.loop-at.at c.args.bytes.now) in
     sym c.loop-at.invariant.rest
-    ∙ said_refused_at_end c.args.fold (levels_view c.loop-at.reader) c.loop-at.at (drop c.loop-at.at c.args.bytes.now)
+    ∙ said_refused_at_end c.args.fold (state c.loop-at.reader) c.loop-at.at (drop c.loop-at.at c.args.bytes.now)
     c.in-Some-refusal_at_end.fault none (sym c.in-Some-refusal_at_end.ensures)
 
 pub returns-in-Ok-finish : goal.returns-in-Ok-finish
@@ -67,6 +69,6 @@ returns-in-Ok-finish c =
     let none : length (drop c.loop-at.at c.args.bytes.now) ≡ 0 =
     omega (arith, length-drop c.loop-at.at c.args.bytes.now) in
     sym c.loop-at.invariant.rest
-    ∙ said_at_end c.args.fold (levels_view c.loop-at.reader) c.loop-at.at (drop c.loop-at.at c.args.bytes.now)
+    ∙ said_at_end c.args.fold (state c.loop-at.reader) c.loop-at.at (drop c.loop-at.at c.args.bytes.now)
     none (sym c.in_default-refusal_at_end.ensures)
     ∙ ap Ok (sym c.in-Ok-finish.ensures)
