@@ -5,7 +5,8 @@ use Rattle.ere_tree.specs.Front.{begins, begins_with}
 use Rattle.ere_tree.specs.Tree.{bytes_passing}
 use Rattle.ere_tree.specs.Bytes.{HasBytes}
 use Rattle.ere_tree.specs.View.{has_bit, members_of}
-use Rattle.ere_tree.specs.Bracket.{class_member, member, members, bytes_of, fault, and_then, GivesTest}
+use Rattle.ere_tree.specs.Bracket.{class_member, member, members, bytes_of, GivesTest}
+use Rattle.ere_tree.specs.Fault.{fault, and_then}
 use Rattle.ere_tree.specs.declared.byte_set.ByteSet.{ByteSet}
 use Rattle.ere_tree.specs.declared.fault.EreFault.{EreFault}
 use Rattle.ere_tree.specs.declared.fault.EreKind.TheVariants.{UnknownClass, UnclosedBracket}

@@ -7,7 +7,8 @@ use Rattle.std.proofs.lemmas.List.{length-map}
 use Rattle.ere_tree.specs.Tree.{Tree}
 use Rattle.ere_tree.specs.Token.{Token, byte, one_of, same_as, item, bar, open_group, close_group, token}
 use Rattle.ere_tree.specs.Token as tokens
-use Rattle.ere_tree.specs.Grammar.{Rest, ends, closes, in_branch, behind_bar, grouped, from_token, map_ok, reading_from, tree_read, whole}
+use Rattle.ere_tree.specs.Grammar.{Rest, ends, closes, in_branch, behind_bar, grouped, from_token, reading_from, tree_read, whole}
+use Rattle.ere_tree.specs.Fault.{map_ok}
 use Rattle.ere_tree.specs.Place.{Open, Place, is_open, is_closed, after_bar, refusal, beginning, behind}
 use Rattle.ere_tree.specs.Productions.{Alts, Branch, Item, alone, or, only, also, simple, empty_group, group_of, Takes, SpellsItem, SpellsBranch, SpellsAlts, groups_item, groups_branch, groups_alts, may_stand, SoundItem, SoundBranch, SoundAlts, with_token, parts_item, parts_branch, first_branch, other_branches, IsEre}
 use Rattle.ere_tree.specs.declared.fault.EreFault.{EreFault}

@@ -6,9 +6,11 @@ use Rattle.ere_tree.specs.declared.bound.TheConstants.{MAX_BOUND}
 use Rattle.std.specs.Option.{IfSome}
 use Rattle.std.specs.Result.{IfOk}
 use Rattle.std.proofs.lemmas.Bool.Decides.{nat_tests}
-use Rattle.ere_tree.specs.Front.{begins, begins_with, is_decimal}
+use Rattle.ere_tree.specs.Front.{begins, begins_with}
+use Rattle.ere_tree.specs.Class.{is_digit}
 use Rattle.ere_tree.specs.Bound.{digit_count, number_at, at_least, between, behind_comma, braced, bound_at, begins_bound}
-use Rattle.ere_tree.specs.Bracket.{member, members, bracket, and_then}
+use Rattle.ere_tree.specs.Bracket.{member, members, bracket}
+use Rattle.ere_tree.specs.Fault.{and_then}
 use Rattle.ere_tree.specs.Token.{Token, item, byte, one_of, escaped, close_group, counted, bound_behind, with_bound, bracket_item, atom_at, token}
 use Rattle.ere_tree.specs.declared.bound.Bound.{Bound}
 use Rattle.ere_tree.specs.declared.fault.EreFault.{EreFault}
@@ -54,11 +56,11 @@ behind_comma_within n least taken text fits = elim (two (begins 125 text)) [
   | inl is ↦
       let some : 0 < length text = starts_length 125 text is in
       rw is (at_least_within n least (taken + 1) (omega arith))
-  | inr none ↦ rw none (elim (two (begins_with is_decimal text && begins 125 (drop (digit_count text) text))) [
+  | inr none ↦ rw none (elim (two (begins_with is_digit text && begins 125 (drop (digit_count text) text))) [
     | inl is ↦
         let rest = drop (digit_count text) text in
         let some : 0 < length rest = starts_length 125 rest
-        (both (begins_with is_decimal text) (begins 125 (drop (digit_count text) text)) is) in
+        (both (begins_with is_digit text) (begins 125 (drop (digit_count text) text)) is) in
         rw is (between_within n least (number_at text) (taken + digit_count text + 1)
         (omega (arith, length-drop (digit_count text) text)))
     | inr is ↦ rw is tt

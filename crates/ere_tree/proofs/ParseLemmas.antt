@@ -5,7 +5,7 @@ use Rattle.std.proofs.lemmas.Bool.Decides.{nat_tests}
 use Rattle.ere_tree.specs.Tree.{Tree}
 use Rattle.ere_tree.specs.View.{view}
 use Rattle.ere_tree.specs.Shape.{size_of}
-use Rattle.ere_tree.specs.Bracket.{fault}
+use Rattle.ere_tree.specs.Fault.{fault}
 use Rattle.ere_tree.specs.Grammar.{tree_read, sized, reading, Reads}
 use Rattle.ere_tree.specs.Productions.{IsEre}
 use Rattle.ere_tree.specs.declared.ere.Ere.{Ere}

@@ -2,9 +2,10 @@
 use Rattle.std.proofs.Common.{◌≡◌, ℕ, zero, suc, ◌+◌, ◌-◌, ◌<◌, ◌≤◌, Bool, true, List, [], ◌∷◌, Some, None, Result, Ok, Err, length, drop, map, nat_lt, refl, sym, ap, ◌∙◌, arith}
 use Rattle.std.proofs.lemmas.Bool.Decides.{nat_tests}
 use Rattle.ere_tree.specs.Tree.{Tree}
-use Rattle.ere_tree.specs.Bracket.{fault}
+use Rattle.ere_tree.specs.Fault.{fault}
 use Rattle.ere_tree.specs.Token.{Token, token}
-use Rattle.ere_tree.specs.Grammar.{Rest, ends, from_token, map_ok, ended, reading_from, tree_read, whole}
+use Rattle.ere_tree.specs.Grammar.{Rest, ends, from_token, ended, reading_from, tree_read, whole}
+use Rattle.ere_tree.specs.Fault.{map_ok}
 use Rattle.ere_tree.specs.Place.{Place, refusal, refusal_at_end, behind, beginning}
 use Rattle.ere_tree.specs.Levels.{Level, Levels, open_of, place_of, taken, tree_of, beginning_levels}
 use Rattle.ere_tree.specs.declared.fault.EreFault.{EreFault}

@@ -3,10 +3,11 @@ use Rattle.std.proofs.Common.{◌≡◌, ℕ, zero, suc, ◌+◌, ◌-◌, ◌<�
 use Rattle.std.proofs.lemmas.Bool.Decides.{nat_tests}
 use Rattle.std.proofs.lemmas.List.{length-map}
 use Rattle.ere_tree.specs.Tree.{Tree}
-use Rattle.ere_tree.specs.Bracket.{and_then}
+use Rattle.ere_tree.specs.Fault.{and_then}
 use Rattle.ere_tree.specs.Token.{Token, byte, one_of, same_as, item, bar, open_group, close_group, token}
 use Rattle.ere_tree.specs.Token as tokens
-use Rattle.ere_tree.specs.Grammar.{Rest, ends, closes, in_branch, behind_bar, grouped, from_token, map_ok, unless, ended, reading_from, tree_read, whole}
+use Rattle.ere_tree.specs.Grammar.{Rest, ends, closes, in_branch, behind_bar, grouped, from_token, ended, reading_from, tree_read, whole}
+use Rattle.ere_tree.specs.Fault.{map_ok, unless}
 use Rattle.ere_tree.specs.Place.{Open, Place, is_closed, after_bar, after_part, refusal, refusal_at_end, beginning, behind}
 use Rattle.ere_tree.specs.Productions.{Alts, Branch, Item, alone, or, only, also, simple, empty_group, group_of, Takes, SpellsItem, SpellsBranch, SpellsAlts, groups_item, groups_branch, groups_alts, SoundItem, SoundBranch, SoundAlts, parts_item, parts_branch, first_branch, other_branches, IsEre}
 use Rattle.ere_tree.specs.declared.bound.Bound.{Bound}

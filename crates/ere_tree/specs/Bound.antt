@@ -2,13 +2,14 @@
 -- RE_DUP_MAX is 255, the least that POSIX.1 allows.
 use Rattle.std.specs.Prelude.{codes, ℕ, ◌+◌, ◌-◌, ◌*◌, Bool, Option, Some, None, List, [], ◌∷◌, take, drop, ◌&&◌, ◌||◌, nat_le, if◌then◌else◌}
 use Rattle.std.specs.List.{prefix_len}
-use Rattle.ere_tree.specs.Front.{begins_with, starts, is_decimal}
+use Rattle.ere_tree.specs.Front.{begins_with, starts}
+use Rattle.ere_tree.specs.Class.{is_digit}
 use Rattle.ere_tree.specs.declared.bound.Bound.{Bound}
 use Rattle.ere_tree.specs.declared.bound.TheConstants.{MAX_BOUND}
 
 -- how many digits the text begins with
 abbrev pub digit_count : List ℕ → ℕ
-digit_count = prefix_len is_decimal
+digit_count = prefix_len is_digit
 
 -- the number that these digits spell, behind the digits of another number
 unfoldable pub number_from : ℕ → List ℕ → ℕ
@@ -34,7 +35,7 @@ between least most taken =
 abbrev pub behind_comma : ℕ → ℕ → List ℕ → Option (Bound × ℕ)
 behind_comma least taken text =
     if starts (codes "}") text then at_least least (taken + 1)
-    else if begins_with is_decimal text && starts (codes "}") (drop (digit_count text) text)
+    else if begins_with is_digit text && starts (codes "}") (drop (digit_count text) text)
     then between least (number_at text) (taken + digit_count text + 1)
     else None
 
@@ -51,7 +52,7 @@ braced text =
 -- whether a bound begins here, good or bad: `*`, `+`, `?`, or a `{` with a digit behind it
 unfoldable pub begins_bound : List ℕ → Bool
 begins_bound text = starts (codes "*") text || starts (codes "+") text || starts (codes "?") text ||
-    (starts (codes "{") text && begins_with is_decimal (drop 1 text))
+    (starts (codes "{") text && begins_with is_digit (drop 1 text))
 
 -- the good bound at the front of the text, where there is one, and how many bytes it takes
 unfoldable pub bound_at : List ℕ → Option (Bound × ℕ)

@@ -4,6 +4,7 @@
 use Rattle.std.specs.Prelude.{codes, ℕ, zero, suc, ◌+◌, ◌-◌, Bool, true, false, ◌≡◌, Option, Some, None, List, [], ◌∷◌, take, drop, length, slice_index, Result, Ok, Err, ◌==◌, ◌&&◌, ◌||◌, not, nat_le, nat_lt, if◌then◌else◌}
 use Rattle.std.specs.Int.{is_in_range}
 use Rattle.std.specs.List.{prefix_len}
+use Rattle.ere_tree.specs.Fault.{fault, and_then}
 use Rattle.ere_tree.specs.Front.{starts}
 use Rattle.ere_tree.specs.Tree.{bytes_passing}
 use Rattle.ere_tree.specs.Class.{class_of}
@@ -11,7 +12,6 @@ use Rattle.ere_tree.specs.Bytes.{HasBytes}
 use Rattle.ere_tree.specs.View.{members_of}
 use Rattle.ere_tree.specs.declared.byte_set.ByteSet.{ByteSet}
 use Rattle.ere_tree.specs.declared.fault.EreFault.{EreFault}
-use Rattle.ere_tree.specs.declared.fault.EreKind.{EreKind}
 use Rattle.ere_tree.specs.declared.fault.EreKind.TheVariants.{UnclosedBracket, BadRange, UnknownClass, UnsupportedBracket}
 use Rattle.ere_tree.specs.declared.bracket.Element.{Element}
 use Rattle.ere_tree.specs.declared.bracket.Element.TheVariants.{Byte, Class, Unsupported}
@@ -47,14 +47,6 @@ element_len Unsupported = 2
 unfoldable pub begins_range : List ℕ → Bool
 begins_range text = starts (codes "-") text && nat_lt 1 (length text) && not (starts (codes "]")
     (drop 1 text))
-
-abbrev pub fault : {A : Type 0} → ℕ → EreKind → Result A EreFault
-fault at kind = Err (record { at = at; kind = kind })
-
--- what was found at an offset and goes on so, or the fault there
-abbrev pub and_then : {A B : Type 0} → ℕ → Result A EreFault → (A → Result B EreFault) → Result B EreFault
-and_then at (Ok found) go = go found
-and_then at (Err refused) go = fault (at + refused.at) refused.kind
 
 -- the range between two ends, of which the second stands two bytes behind the first
 abbrev pub range : Element → Element → Result ((ℕ → Bool) × ℕ) EreFault

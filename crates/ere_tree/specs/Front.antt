@@ -1,5 +1,5 @@
 -- What stands at the front of a text.
-use Rattle.std.specs.Prelude.{ℕ, Bool, true, false, List, [], ◌∷◌, drop, ◌==◌, ◌&&◌, nat_le}
+use Rattle.std.specs.Prelude.{ℕ, Bool, true, false, List, [], ◌∷◌, drop, ◌==◌, ◌&&◌}
 
 -- whether the text begins with a byte that passes the test
 unfoldable pub begins_with : (ℕ → Bool) → List ℕ → Bool
@@ -15,7 +15,3 @@ abbrev pub starts : List ℕ → List ℕ → Bool
 starts [] text = true
 starts (byte ∷ []) text = begins byte text
 starts (byte ∷ second ∷ bytes) text = begins byte text && starts (second ∷ bytes) (drop 1 text)
-
--- whether a byte is a decimal digit
-abbrev pub is_decimal : ℕ → Bool
-is_decimal byte = nat_le 48 byte && nat_le byte 57

@@ -4,7 +4,7 @@
 use Rattle.std.specs.Prelude.{◌≡◌, ℕ, zero, suc, ◌+◌, ◌-◌, Bool, Option, Some, None, List, [], ◌∷◌, map, Result, Ok, Err, nat_le, if◌then◌else◌}
 use Rattle.ere_tree.specs.Tree.{Tree, empty, plain, set, line_start, line_end, cat, alt, repeat, group, back, trees_of}
 use Rattle.ere_tree.specs.Shape.{size_of}
-use Rattle.ere_tree.specs.Bracket.{fault, and_then}
+use Rattle.ere_tree.specs.Fault.{fault, and_then, map_ok, unless}
 use Rattle.ere_tree.specs.Token.{Atom, Token, byte, one_of, same_as, item, bar, open_group, close_group, token}
 use Rattle.ere_tree.specs.Token as tokens
 use Rattle.ere_tree.specs.View.{view}
@@ -13,7 +13,6 @@ use Rattle.ere_tree.specs.declared.fault.EreFail.{EreFail}
 use Rattle.ere_tree.specs.declared.fault.EreFail.TheVariants.{Bad, NoMemory}
 use Rattle.ere_tree.specs.declared.bound.Bound.{Bound}
 use Rattle.ere_tree.specs.declared.fault.EreFault.{EreFault}
-use Rattle.ere_tree.specs.declared.fault.EreKind.{EreKind}
 use Rattle.ere_tree.specs.declared.fault.EreKind.TheVariants.{TooLarge}
 use Rattle.ere_tree.specs.declared.parser.TheConstants.{MAX_SIZE}
 use Rattle.ere_tree.specs.Place.{Place, refusal, refusal_at_end, beginning, behind}
@@ -86,15 +85,6 @@ from_token fold number tokens.line_end rest = in_branch (λ parts. line_end ∷ 
 from_token fold number bar rest = behind_bar rest
 from_token fold number open_group rest = grouped number rest
 from_token fold number (close_group bound) rest = closes [] [] bound rest
-
-abbrev pub map_ok : {A B : Type 0} → (A → B) → Result A EreFault → Result B EreFault
-map_ok change (Ok a) = Ok (change a)
-map_ok change (Err e) = Err e
-
--- a reading that goes on unless a token is refused at an offset
-abbrev pub unless : {A : Type 0} → ℕ → Option EreKind → Result A EreFault → Result A EreFault
-unless at (Some kind) read = fault at kind
-unless at None read = read
 
 -- the end of a text, unless it is refused
 abbrev pub ended : Option EreFault → Result Rest EreFault

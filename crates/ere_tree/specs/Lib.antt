@@ -2,6 +2,7 @@ pub mod Bound
 pub mod Bracket
 pub mod Bytes
 pub mod Class
+pub mod Fault
 pub mod Front
 pub mod Grammar
 pub mod Levels

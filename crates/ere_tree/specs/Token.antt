@@ -1,11 +1,13 @@
 -- An expression byte by byte: its tokens. An atom and the bound behind it are one token. After POSIX.1 XBD
 -- 9.4, with back-references `\1` to `\9`. Own rules: a `{` with no digit behind it is an ordinary byte, and
 -- any byte may stand behind a backslash.
-use Rattle.std.specs.Prelude.{codes, ℕ, ◌+◌, ◌-◌, Option, Some, None, List, drop, length, slice_index, Result, Ok, Err, ◌==◌, not, is_some, nat_lt, nat_le, ◌&&◌, if◌then◌else◌}
+use Rattle.std.specs.Prelude.{codes, ℕ, ◌+◌, ◌-◌, Option, Some, None, List, drop, length, slice_index, Result, Ok, Err, ◌==◌, not, is_some, nat_lt, if◌then◌else◌}
+use Rattle.std.specs.Int.{is_in_range}
 use Rattle.ere_tree.specs.Front.{starts}
 use Rattle.ere_tree.specs.Tree.{bytes_passing}
 use Rattle.ere_tree.specs.Bound.{bound_at, begins_bound}
-use Rattle.ere_tree.specs.Bracket.{bracket, fault}
+use Rattle.ere_tree.specs.Bracket.{bracket}
+use Rattle.ere_tree.specs.Fault.{fault}
 use Rattle.ere_tree.specs.declared.bound.Bound.{Bound}
 use Rattle.ere_tree.specs.declared.fault.EreFault.{EreFault}
 use Rattle.ere_tree.specs.declared.fault.EreKind.{EreKind}
@@ -44,7 +46,7 @@ bound_refusal text = if is_some (bound_at text) then RepeatOfNothing else BadBou
 
 -- what a backslash stands for with the byte behind it
 abbrev pub escaped : ℕ → Atom
-escaped b = if nat_le 49 b && nat_le b 57 then same_as (b - 48) else byte b
+escaped b = if is_in_range 49 57 b then same_as (b - 48) else byte b
 
 -- the token of a byte behind a backslash
 abbrev pub escape_at : List ℕ → Result (Token × ℕ) EreFault
