@@ -55,9 +55,7 @@ atom_tree fold (same_as number) = back number fold
 -- the parts of a branch from an atom and its bound on: a byte with no bound joins the bytes behind it
 abbrev pub with_item : Bool → Atom → Option Bound → List Tree → List Tree
 with_item fold (byte b) None parts = letter b parts
-with_item fold (byte b) (Some bound) parts = repeated (Some bound) (plain (b ∷ [])) ∷ parts
-with_item fold (one_of bytes) bound parts = repeated bound (set bytes) ∷ parts
-with_item fold (same_as number) bound parts = repeated bound (back number fold) ∷ parts
+with_item fold atom bound parts = repeated bound (atom_tree fold atom) ∷ parts
 
 -- a rest whose first branch is changed
 abbrev pub in_branch : (List Tree → List Tree) → Rest → Rest

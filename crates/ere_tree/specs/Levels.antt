@@ -1,5 +1,5 @@
 -- What the parser holds: the levels that are open, with what was read of each.
-use Rattle.std.specs.Prelude.{ℕ, ◌+◌, Bool, Option, Some, None, List, [], ◌∷◌, ◌++◌, map, reverse}
+use Rattle.std.specs.Prelude.{ℕ, ◌+◌, Bool, Option, None, List, [], ◌∷◌, ◌++◌, map, reverse}
 use Rattle.ere_tree.specs.Tree.{Tree, plain, line_start, line_end, group}
 use Rattle.ere_tree.specs.Token.{Token, Atom, byte, one_of, same_as, item, bar, open_group, close_group}
 use Rattle.ere_tree.specs.Token as tokens
@@ -93,9 +93,7 @@ closed bound levels = elim (levels.outer) [
 -- behind an atom
 abbrev pub with_item : Bool → Atom → Option Bound → Level → Level
 with_item fold (byte b) None = with_letter b
-with_item fold (byte b) (Some bound) = with_part (repeated (Some bound) (atom_tree fold (byte b)))
-with_item fold (one_of bytes) bound = with_part (repeated bound (atom_tree fold (one_of bytes)))
-with_item fold (same_as number) bound = with_part (repeated bound (atom_tree fold (same_as number)))
+with_item fold atom bound = with_part (repeated bound (atom_tree fold atom))
 
 abbrev pub item_taken : Bool → Atom → Option Bound → Levels → Levels
 item_taken fold atom bound = in_inner (with_item fold atom bound)
