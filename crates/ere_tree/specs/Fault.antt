@@ -21,4 +21,3 @@ map_ok change (Err e) = Err e
 abbrev pub unless : {A : Type 0} → ℕ → Option EreKind → Result A EreFault → Result A EreFault
 unless at (Some kind) read = fault at kind
 unless at None read = read
-

@@ -14,8 +14,8 @@ pub(crate) struct Bound {
     pub(crate) most: Option<u32>,
 }
 
-#[tactic(auto, using(crate::proofs::BoundLemmas::digit_steps), unfolding(crate::specs::Bound::number_at))]
 /// How many digits the text begins with, and the number that they spell, or 256 where it is greater.
+#[tactic(auto, using(crate::proofs::BoundLemmas::digit_steps), unfolding(crate::specs::Bound::number_at))]
 fn digits(text: &[u8]) -> (usize, u32)
     ensures count { result.0 ≡ digit_count text.now }
     ensures number { result.1 ≡ min 256 (number_at text.now) }
@@ -79,8 +79,8 @@ fn end_of_bound(least: u32, taken: usize, text: &[u8]) -> Option<(Bound, usize)>
     }
 }
 
-#[tactic(auto, unfolding(crate::specs::Bound::braced))]
 /// The bound in braces that the text begins with behind its `{`.
+#[tactic(auto, unfolding(crate::specs::Bound::braced))]
 fn braces(text: &[u8]) -> Option<(Bound, usize)>
     requires { length text.now + 1 < 2 ^ 64 }
     ensures exact { result ≡ braced text.now }
@@ -97,8 +97,8 @@ fn braces(text: &[u8]) -> Option<(Bound, usize)>
     }
 }
 
-#[tactic(auto, unfolding(crate::specs::Bound::begins_bound))]
 /// Whether a bound begins here, good or bad.
+#[tactic(auto, unfolding(crate::specs::Bound::begins_bound))]
 pub(crate) fn bound_begins(text: &[u8]) -> bool
     ensures exact { result ≡ begins_bound text.now }
     ensures some { IsTrue result → 0 < length text.now }
@@ -109,8 +109,8 @@ pub(crate) fn bound_begins(text: &[u8]) -> bool
         || (begins(text, b'{') && begins_digit(behind(text, 1)))
 }
 
-#[tactic(auto, unfolding(crate::specs::Bound::bound_at))]
 /// The good bound at the front of the text, where there is one, and its length.
+#[tactic(auto, unfolding(crate::specs::Bound::bound_at))]
 pub(crate) fn find_bound(text: &[u8]) -> Option<(Bound, usize)>
     ensures exact { result ≡ bound_at text.now }
     ensures within { IfSome result (λ found. found.1 ≤ length text.now) }

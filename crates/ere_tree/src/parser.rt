@@ -66,8 +66,8 @@ impl Reader {
         }
     }
 
-    #[tactic(auto, using(crate::proofs::LevelLemmas::any_of_levels))]
     /// Whether the group of this number is open.
+    #[tactic(auto, using(crate::proofs::LevelLemmas::any_of_levels))]
     fn is_open(&self, number: u32) -> bool
         ensures { result ≡ is_open (place_of (state self.now)) number }
     {

@@ -125,8 +125,8 @@ fn stray_bound(text: &[u8]) -> EreFault
     }
 }
 
-#[tactic(auto, unfolding(crate::specs::Token::token))]
 /// The token at the front of a text that isn't empty, and its length. The place of a fault counts from there.
+#[tactic(auto, unfolding(crate::specs::Token::token))]
 pub(crate) fn token_at(text: &[u8]) -> Result<(Token, usize), EreFault>
     requires { 0 < length text.now }
     ensures exact { as_token result ≡ token text.now }
