@@ -1,2 +1,15 @@
+pub mod Bound
+pub mod Bracket
+pub mod Bytes
+pub mod Class
+pub mod Fault
+pub mod Front
+pub mod Grammar
+pub mod Levels
+pub mod Place
+pub mod Productions
+pub mod Shape
+pub mod Token
+pub mod TokenView
 pub mod Tree
 pub mod View

@@ -12,7 +12,9 @@ pub struct ByteRun {
 
 impl Model for ByteRun {
     ghost use Rattle.std.specs.Prelude.{List, ℕ};
+
     ghost Value = { List ℕ };
+
     ghost view = { λ run. run.held.items };
 }
 
@@ -30,13 +32,43 @@ impl ByteRun {
     {
         self.held.as_slice()
     }
+
+    /// The bytes, given back without taking memory.
+    pub fn into_vec(self) -> Vec<u8>
+        ensures { result.items ≡ self }
+    {
+        self.held
+    }
 }
 
 /// The parts of a concatenation, or the alternatives of an alternation, from the left.
 #[cycle(ere)]
 #[derive(Drop, Debug)]
 pub struct EreList {
-    held: Vec<Ere>,
+    pub(crate) held: Vec<Ere>,
+}
+
+impl EreList {
+    /// The list of these expressions. It takes no memory.
+    pub fn from_vec(all: Vec<Ere>) -> EreList
+        ensures { result.held.items ≡ all.items }
+    {
+        EreList { held: all }
+    }
+
+    /// The expressions, from the left.
+    pub fn as_slice(&self) -> &[Ere]
+        ensures { result.now ≡ self.now.held.items }
+    {
+        self.held.as_slice()
+    }
+
+    /// The expressions, given back without taking memory.
+    pub fn into_vec(self) -> Vec<Ere>
+        ensures { result.items ≡ self.held.items }
+    {
+        self.held
+    }
 }
 
 /// An extended regular expression (POSIX.1 XBD 9.4) with back-references.
@@ -64,7 +96,13 @@ pub enum Ere {
         most: Option<u32>,
     },
     /// A capture group. Numbers count from 1.
-    Group { number: u32, inner: Box<Ere> },
+    Group {
+        number: u32,
+        inner: Box<Ere>,
+    },
     /// What the group of this number matched. `fold` tells that letters match in either case.
-    Ref { number: u32, fold: bool },
+    Ref {
+        number: u32,
+        fold: bool,
+    },
 }

@@ -2,8 +2,28 @@
 //! parser, their classes, and the definitions of what they match. Everything about matching stands on this crate.
 #![tactic(auto)]
 
+mod bound;
+mod bracket;
 mod byte_set;
+mod classes;
+mod copy;
 mod ere;
+mod fault;
+mod front;
+mod hit;
+mod level;
+mod parser;
+#[cfg(test)]
+mod parser_tests;
+mod shape;
+#[cfg(test)]
+mod tests;
+mod token;
 
+pub use bound::MAX_BOUND;
 pub use byte_set::ByteSet;
+pub use classes::class;
 pub use ere::{ByteRun, Ere, EreList};
+pub use fault::{EreFail, EreFault, EreKind};
+pub use hit::{Cap, Caps, Hit};
+pub use parser::{MAX_DEPTH, MAX_SIZE, parse};

@@ -1,0 +1,12 @@
+pub mod BoundLemmas
+pub mod BracketLemmas
+pub mod CompleteLemmas
+pub mod FitLemmas
+pub mod FrontLemmas
+pub mod LevelLemmas
+pub mod ParseLemmas
+pub mod ReadingLemmas
+pub mod SetLemmas
+pub mod ShapeLemmas
+pub mod SoundLemmas
+pub mod ViewLemmas
