@@ -2,9 +2,9 @@
 -- Spans after POSIX.1 XBD 9.4. Own rule: what groups hold, references to them, and that a repeat's members behind
 -- its minimum aren't empty.
 -- The slice is a list of bytes, and offsets count in it from 0. A line ends in a newline, byte 10.
-use Rattle.std.specs.Prelude.{◌≡◌, ℕ, Bool, true, false, Option, Some, None, List, ◌+◌, ◌-◌, ◌<◌, ◌≤◌, ◌==◌, ◌||◌, zero, suc, length, take, drop, slice_index, IsTrue, IfSome}
+use Rattle.std.specs.Prelude.{◌≡◌, ℕ, Bool, true, false, Option, Some, None, List, ◌+◌, ◌-◌, ◌<◌, ◌≤◌, ◌==◌, ◌||◌, zero, suc, length, map, take, drop, slice_index, IsTrue, IfSome}
 use Rattle.std.specs.List.{Contains}
-use Rattle.std.specs.Str.{str_to_ascii_lowercase}
+use Rattle.std.specs.Char.{to_ascii_lowercase}
 use Rattle.std.specs.FinMap.{get, insert}
 use Rattle.ere_tree.specs.Tree.{Tree, Trees, empty, plain, set, line_start, line_end, cat, alt, repeat, group, back, none, then}
 use Rattle.ere_tree.specs.Captures.{Captures}
@@ -12,14 +12,15 @@ use Rattle.ere_tree.specs.Captures.{Captures}
 -- One way in which an expression matches: what was chosen at each of its places.
 mutual
   pub data Way : Type 0 where
-    leaf : Way                       -- there was nothing to choose
-    parts : Ways → Way               -- of a concatenation: each part's way
-    members : Ways → Way             -- of a repeat: each member's way
-    chosen : ℕ → Way → Way           -- of an alternation: which alternative, from 0, and its way
-    inside : Way → Way               -- of a group: the way of what it holds
+    leaf : Way  -- there was nothing to choose
+    parts : Ways → Way  -- of a concatenation: each part's way
+    members : Ways → Way  -- of a repeat: each member's way
+    chosen : ℕ → Way → Way  -- of an alternation: which alternative, from 0, and its way
+    inside : Way → Way  -- of a group: the way of what it holds
+
   pub data Ways : Type 0 where
     done : Ways
-    next : ℕ → Way → Ways → Ways     -- where the first ends, its way, and the others behind it
+    next : ℕ → Way → Ways → Ways  -- where the first ends, its way, and the others behind it
 
 -- how many ways stand in a row
 abbrev pub count_of : Ways → ℕ
@@ -51,7 +52,7 @@ is_line_end s i = i == length s || slice_index s i == 10
 -- these two texts are one: byte by byte, or with `fold` once the ASCII letters of both are lowered
 abbrev pub IsSameText : Bool → List ℕ → List ℕ → Type 0
 IsSameText false xs ys = xs ≡ ys
-IsSameText true xs ys = str_to_ascii_lowercase xs ≡ str_to_ascii_lowercase ys
+IsSameText true xs ys = map to_ascii_lowercase xs ≡ map to_ascii_lowercase ys
 
 -- so many members are at least `least`, and at most `most` where there is a most
 abbrev pub CanRepeat : ℕ → Option ℕ → ℕ → Type 0

@@ -1,6 +1,6 @@
 -- The hit of an expression in a slice.
 -- Leftmost, and longest from there, after POSIX.1 XBD 9.4. Own rule: which derivation tells the captures.
-use Rattle.std.specs.Prelude.{◌≡◌, ℕ, List, ◌<◌, ◌≤◌, length}
+use Rattle.std.specs.Prelude.{ℕ, List, ◌<◌, ◌≤◌, length}
 use Rattle.std.specs.FinMap.{empty}
 use Rattle.ere_tree.specs.Tree.{Tree}
 use Rattle.ere_tree.specs.Captures.{Captures}

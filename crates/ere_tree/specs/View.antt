@@ -4,7 +4,7 @@ use Rattle.std.specs.Int.{bit_at}
 use Rattle.ere_tree.specs.Tree.{Tree, empty, plain, set, line_start, line_end, cat, alt, repeat, group, back, trees_of, bytes_passing}
 use Rattle.ere_tree.specs.declared.ere.Ere.{Ere}
 use Rattle.ere_tree.specs.declared.ere.Ere.TheOpen.{Ere-F, EreList-F}
-use Rattle.ere_tree.specs.declared.ere.Ere.TheFolds.{fold-Ere, fold-EreList}
+use Rattle.ere_tree.specs.declared.ere.Ere.TheFolds.{fold-Ere}
 
 -- whether a byte is in the set of these four words: bit `byte % 64` of word `byte / 64` tells
 abbrev pub has_bit : List ℕ → ℕ → Bool

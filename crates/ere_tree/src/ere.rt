@@ -12,7 +12,9 @@ pub struct ByteRun {
 
 impl Model for ByteRun {
     ghost use Rattle.std.specs.Prelude.{List, ℕ};
+
     ghost Value = { List ℕ };
+
     ghost view = { λ run. run.held.items };
 }
 
@@ -64,7 +66,13 @@ pub enum Ere {
         most: Option<u32>,
     },
     /// A capture group. Numbers count from 1.
-    Group { number: u32, inner: Box<Ere> },
+    Group {
+        number: u32,
+        inner: Box<Ere>,
+    },
     /// What the group of this number matched. `fold` tells that letters match in either case.
-    Ref { number: u32, fold: bool },
+    Ref {
+        number: u32,
+        fold: bool,
+    },
 }

@@ -4,6 +4,8 @@
 
 mod byte_set;
 mod ere;
+mod laws;
 
 pub use byte_set::ByteSet;
 pub use ere::{ByteRun, Ere, EreList};
+pub use laws::law_of_preference;
