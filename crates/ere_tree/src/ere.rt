@@ -38,7 +38,7 @@ impl ByteRun {
 #[cycle(ere)]
 #[derive(Drop, Debug)]
 pub struct EreList {
-    held: Vec<Ere>,
+    pub(crate) held: Vec<Ere>,
 }
 
 /// An extended regular expression (POSIX.1 XBD 9.4) with back-references.

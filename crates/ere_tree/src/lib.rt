@@ -5,7 +5,15 @@
 mod byte_set;
 mod ere;
 mod laws;
+mod settings;
+mod slow;
+#[cfg(test)]
+mod slow_tests;
+mod way;
 
 pub use byte_set::ByteSet;
 pub use ere::{ByteRun, Ere, EreList};
 pub use laws::law_of_preference;
+pub use settings::{Setting, Settings};
+pub use slow::{Derivation, SlowHit, derivations, slow_hit};
+pub use way::{OwnedStep, OwnedWay, OwnedWays};

@@ -1,0 +1,45 @@
+//! Captures, as values.
+use std::alloc::{AllocError, Global};
+
+/// That a group was set to the part from `from` to `to`.
+#[derive(Clone, Copy, Debug, PartialEq, Eq)]
+pub struct Setting {
+    pub number: u32,
+    pub from: usize,
+    pub to: usize,
+}
+
+/// Captures, as the settings of groups in the order in which they came: the last of a group counts.
+#[derive(Drop, Debug)]
+pub struct Settings {
+    held: Vec<Setting>,
+}
+
+impl Settings {
+    pub(crate) fn none(alloc: Global) -> Settings {
+        Settings {
+            held: Vec::new(alloc),
+        }
+    }
+
+    pub(crate) fn copy(&self, alloc: Global) -> Result<Settings, AllocError> {
+        let held = Vec::from_slice(alloc, self.held.as_slice())?;
+        Ok(Settings { held })
+    }
+
+    pub(crate) fn set(&mut self, number: u32, from: usize, to: usize) -> Result<(), AllocError> {
+        self.held.push(Setting { number, from, to })?;
+        Ok(())
+    }
+
+    /// The part that a group holds. None where it is unset.
+    pub fn get(&self, number: u32) -> Option<(usize, usize)> {
+        let mut held = None;
+        for setting in self.held.as_slice() {
+            if setting.number == number {
+                held = Some((setting.from, setting.to));
+            }
+        }
+        held
+    }
+}
