@@ -1,12 +1,12 @@
 -- What holds of every derivation: it moves on, stays within the slice, and its way tells its end and its captures.
-use Rattle.std.proofs.Common.{◌≡◌, ℕ, Bool, true, false, Some, List, ◌-◌, ◌≤◌, zero, suc, length, drop, sym, ap, ◌∙◌, subst, arith, length-drop}
+use Rattle.std.proofs.Common.{◌≡◌, ℕ, ◌+◌, Bool, true, false, Some, List, ◌-◌, ◌≤◌, zero, suc, length, drop, sym, ap, ◌∙◌, subst, arith, length-drop}
 use Rattle.std.proofs.lemmas.List.{length-take-le, length-map}
 use Rattle.std.specs.Char.{to_ascii_lowercase}
 use Rattle.std.specs.Option.{unwrap_or}
 use Rattle.std.specs.FinMap.{insert}
 use Rattle.ere_tree.specs.Tree.{Tree, Trees, empty, plain, set, line_start, line_end, cat, alt, repeat, group, back, none, then}
 use Rattle.ere_tree.specs.Captures.{Captures}
-use Rattle.ere_tree.specs.Derivation.{Way, Ways, leaf, parts, members, chosen, inside, done, next, Derives, DerivesAll, DerivesEach, part, IsSameText}
+use Rattle.ere_tree.specs.Derivation.{Way, Ways, leaf, parts, members, chosen, inside, done, next, Derives, DerivesAll, DerivesEach, part, IsSameText, count_of}
 
 -- a derivation doesn't end before its start
 mutual
@@ -37,43 +37,53 @@ mutual
   each_moves_on s t (suc least) (next k w ws) i j c d h =
       omega (arith, moves_on s t w i k c h.0 h.1, each_moves_on s t least ws k j h.0 d h.2)
 
--- from a place within the slice it ends within the slice
+-- from a place at most `b`, which is at least the slice's end, it ends at most at `b`
 mutual
-  pub stays_within : (s : List ℕ) (t : Tree) (w : Way) (i j : ℕ) (c d : Captures) → i ≤ length s
-      → Derives s t w i j c d → j ≤ length s
-  stays_within s empty leaf i j c d b h = omega arith
-  stays_within s (plain bytes) leaf i j c d b h = h.0.1
-  stays_within s (set bytes) leaf i j c d b h = omega arith
-  stays_within s line_start leaf i j c d b h = omega arith
-  stays_within s line_end leaf i j c d b h = omega arith
-  stays_within s (cat all) (parts ws) i j c d b h = all_stay_within s all ws i j c d b h
-  stays_within s (alt all) (chosen n w) i j c d b h = stays_within s h.0 w i j c d b h.2
-  stays_within s (repeat inner least most) (members ws) i j c d b h = each_stays_within s inner least ws i j c d b h.1
-  stays_within s (group number inner) (inside w) i j c d b h = stays_within s inner w i j c h.0 b h.1
-  stays_within s (back number fold) leaf i j c d b h = h.2.1
-  stays_within s t w i j c d b h = absurd h
+  pub stays_within : (s : List ℕ) (t : Tree) (w : Way) (i j : ℕ) (c d : Captures) (b : ℕ) → length s ≤ b → i ≤ b
+      → Derives s t w i j c d → j ≤ b
+  stays_within s empty leaf i j c d b n m h = omega arith
+  stays_within s (plain bytes) leaf i j c d b n m h = omega (arith, h.0.1)
+  stays_within s (set bytes) leaf i j c d b n m h = omega arith
+  stays_within s line_start leaf i j c d b n m h = omega arith
+  stays_within s line_end leaf i j c d b n m h = omega arith
+  stays_within s (cat all) (parts ws) i j c d b n m h = all_stay_within s all ws i j c d b n m h
+  stays_within s (alt all) (chosen k w) i j c d b n m h = stays_within s h.0 w i j c d b n m h.2
+  stays_within s (repeat inner least most) (members ws) i j c d b n m h =
+      each_stays_within s inner least ws i j c d b n m h.1
+  stays_within s (group number inner) (inside w) i j c d b n m h = stays_within s inner w i j c h.0 b n m h.1
+  stays_within s (back number fold) leaf i j c d b n m h = omega (arith, h.2.1)
+  stays_within s t w i j c d b n m h = absurd h
 
-  pub all_stay_within : (s : List ℕ) (ts : Trees) (ws : Ways) (i j : ℕ) (c d : Captures) → i ≤ length s
-      → DerivesAll s ts ws i j c d → j ≤ length s
-  all_stay_within s none done i j c d b h = omega arith
-  all_stay_within s (then t ts) (next k w ws) i j c d b h =
-      all_stay_within s ts ws k j h.0 d (stays_within s t w i k c h.0 b h.1) h.2
-  all_stay_within s ts ws i j c d b h = absurd h
+  pub all_stay_within : (s : List ℕ) (ts : Trees) (ws : Ways) (i j : ℕ) (c d : Captures) (b : ℕ) → length s ≤ b → i ≤ b
+      → DerivesAll s ts ws i j c d → j ≤ b
+  all_stay_within s none done i j c d b n m h = omega arith
+  all_stay_within s (then t ts) (next k w ws) i j c d b n m h =
+      all_stay_within s ts ws k j h.0 d b n (stays_within s t w i k c h.0 b n m h.1) h.2
+  all_stay_within s ts ws i j c d b n m h = absurd h
 
-  pub each_stays_within : (s : List ℕ) (t : Tree) (least : ℕ) (ws : Ways) (i j : ℕ) (c d : Captures) → i ≤ length s
-      → DerivesEach s t least ws i j c d → j ≤ length s
-  each_stays_within s t least done i j c d b h = omega arith
-  each_stays_within s t zero (next k w ws) i j c d b h =
-      each_stays_within s t zero ws k j h.0 d (stays_within s t w i k c h.0 b h.1) h.3
-  each_stays_within s t (suc least) (next k w ws) i j c d b h =
-      each_stays_within s t least ws k j h.0 d (stays_within s t w i k c h.0 b h.1) h.2
+  pub each_stays_within : (s : List ℕ) (t : Tree) (least : ℕ) (ws : Ways) (i j : ℕ) (c d : Captures) (b : ℕ)
+      → length s ≤ b → i ≤ b → DerivesEach s t least ws i j c d → j ≤ b
+  each_stays_within s t least done i j c d b n m h = omega arith
+  each_stays_within s t zero (next k w ws) i j c d b n m h =
+      each_stays_within s t zero ws k j h.0 d b n (stays_within s t w i k c h.0 b n m h.1) h.3
+  each_stays_within s t (suc least) (next k w ws) i j c d b n m h =
+      each_stays_within s t least ws k j h.0 d b n (stays_within s t w i k c h.0 b n m h.1) h.2
+
+-- members behind the first `least` take a byte each
+pub each_count : (s : List ℕ) (t : Tree) (least : ℕ) (ws : Ways) (i j : ℕ) (c d : Captures)
+    → DerivesEach s t least ws i j c d → count_of ws ≤ least + (j - i)
+each_count s t least done i j c d h = omega arith
+each_count s t zero (next k w ws) i j c d h =
+    omega (arith, each_count s t zero ws k j h.0 d h.3, each_moves_on s t zero ws k j h.0 d h.3)
+each_count s t (suc least) (next k w ws) i j c d h =
+    omega (arith, each_count s t least ws k j h.0 d h.2, moves_on s t w i k c h.0 h.1, each_moves_on s t least ws k j h.0 d h.2)
 
 -- a part of the slice is as long as its ends are apart
 pub length-part : (s : List ℕ) (i j : ℕ) → i ≤ j → j ≤ length s → length (part s i j) ≡ j - i
 length-part s i j a b = length-take-le (j - i) (drop i s) (omega (arith, length-drop i s))
 
 -- texts that are one are equally long
-same_length : (fold : Bool) (xs ys : List ℕ) → IsSameText fold xs ys → length xs ≡ length ys
+pub same_length : (fold : Bool) (xs ys : List ℕ) → IsSameText fold xs ys → length xs ≡ length ys
 same_length false xs ys e = ap length e
 same_length true xs ys e = sym (length-map xs to_ascii_lowercase) ∙ ap length e ∙ length-map ys to_ascii_lowercase
 

@@ -1,2 +1,5 @@
 pub mod DerivationLemmas
 pub mod PreferenceLemmas
+pub mod ViewLemmas
+pub mod Among
+pub mod ListingLemmas

@@ -1,4 +1,8 @@
 //! Captures, as values.
+ghost use Rattle.std.specs.Prelude.{◌≡◌, ℕ, IfOk, OnOk, option_map};
+ghost use Rattle.std.specs.FinMap.{empty, get, insert};
+ghost use Rattle.ere_tree.specs.WayView.{captures_of};
+
 use std::alloc::{AllocError, Global};
 
 /// That a group was set to the part from `from` to `to`.
@@ -16,24 +20,33 @@ pub struct Settings {
 }
 
 impl Settings {
-    pub(crate) fn none(alloc: Global) -> Settings {
+    pub(crate) fn none(alloc: Global) -> Settings
+        ensures { captures_of result ≡ empty }
+    {
         Settings {
             held: Vec::new(alloc),
         }
     }
 
-    pub(crate) fn copy(&self, alloc: Global) -> Result<Settings, AllocError> {
+    pub(crate) fn copy(&self, alloc: Global) -> Result<Settings, AllocError>
+        ensures { IfOk result (λ s. captures_of s ≡ captures_of self.now) }
+    {
         let held = Vec::from_slice(alloc, self.held.as_slice())?;
         Ok(Settings { held })
     }
 
-    pub(crate) fn set(&mut self, number: u32, from: usize, to: usize) -> Result<(), AllocError> {
+    #[tactic(auto, using(crate::proofs::ViewLemmas::after_settings_push))]
+    pub(crate) fn set(&mut self, number: u32, from: usize, to: usize) -> Result<(), AllocError>
+        ensures { OnOk result (captures_of self.new ≡ insert (captures_of self.old) number (from, to)) }
+    {
         self.held.push(Setting { number, from, to })?;
         Ok(())
     }
 
     /// The part that a group holds. None where it is unset.
-    pub fn get(&self, number: u32) -> Option<(usize, usize)> {
+    pub fn get(&self, number: u32) -> Option<(usize, usize)>
+        ensures { result ≡ get (captures_of self.now) number }
+    {
         let mut held = None;
         for setting in self.held.as_slice() {
             if setting.number == number {

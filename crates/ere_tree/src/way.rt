@@ -1,4 +1,8 @@
 //! Ways of matching, as values.
+ghost use Rattle.std.specs.Prelude.{◌≡◌, ℕ, IfOk, map};
+ghost use Rattle.ere_tree.specs.Preference.{within, in_order};
+ghost use Rattle.ere_tree.specs.WayView.{way_of, ways_of, row_of};
+
 use std::alloc::{AllocError, Global};
 use std::cmp::Ordering;
 
@@ -35,7 +39,9 @@ pub struct OwnedWays {
 
 impl OwnedWay {
     #[cycle(copy)]
-    pub(crate) fn copy(&self, alloc: Global) -> Result<OwnedWay, AllocError> {
+    pub(crate) fn copy(&self, alloc: Global) -> Result<OwnedWay, AllocError>
+        ensures { IfOk result (λ w. way_of w ≡ way_of self.now) }
+    {
         match self {
             OwnedWay::Leaf => Ok(OwnedWay::Leaf),
             OwnedWay::Parts(ways) => Ok(OwnedWay::Parts(ways.copy(alloc)?)),
@@ -55,26 +61,51 @@ impl OwnedWay {
     }
 
     #[cycle(compare)]
-    pub(crate) fn compare(&self, other: &OwnedWay) -> Ordering {
-        match (self, other) {
-            (OwnedWay::Parts(ways), OwnedWay::Parts(others)) => ways.compare(others),
-            (OwnedWay::Members(ways), OwnedWay::Members(others)) => ways.compare(others),
-            (
-                OwnedWay::Chosen { index, way },
+    pub(crate) fn compare(&self, other: &OwnedWay) -> Ordering
+        ensures { result ≡ within (way_of self.now) (way_of other.now) }
+    {
+        match self {
+            OwnedWay::Leaf => Ordering::Equal,
+            OwnedWay::Parts(ways) => match other {
+                OwnedWay::Parts(others) => ways.compare(others),
+                OwnedWay::Leaf => Ordering::Equal,
+                OwnedWay::Members(_) => Ordering::Equal,
+                OwnedWay::Chosen { .. } => Ordering::Equal,
+                OwnedWay::Inside(_) => Ordering::Equal,
+            },
+            OwnedWay::Members(ways) => match other {
+                OwnedWay::Members(others) => ways.compare(others),
+                OwnedWay::Leaf => Ordering::Equal,
+                OwnedWay::Parts(_) => Ordering::Equal,
+                OwnedWay::Chosen { .. } => Ordering::Equal,
+                OwnedWay::Inside(_) => Ordering::Equal,
+            },
+            OwnedWay::Chosen { index, way } => match other {
                 OwnedWay::Chosen {
                     index: second,
                     way: other,
-                },
-            ) => { index.cmp(second).then(way.compare(other)) }
-            (OwnedWay::Inside(way), OwnedWay::Inside(other)) => way.compare(other),
-            _ => Ordering::Equal,
+                } => index.cmp(second).then(way.compare(other)),
+                OwnedWay::Leaf => Ordering::Equal,
+                OwnedWay::Parts(_) => Ordering::Equal,
+                OwnedWay::Members(_) => Ordering::Equal,
+                OwnedWay::Inside(_) => Ordering::Equal,
+            },
+            OwnedWay::Inside(way) => match other {
+                OwnedWay::Inside(other) => way.compare(other),
+                OwnedWay::Leaf => Ordering::Equal,
+                OwnedWay::Parts(_) => Ordering::Equal,
+                OwnedWay::Members(_) => Ordering::Equal,
+                OwnedWay::Chosen { .. } => Ordering::Equal,
+            },
         }
     }
 }
 
 impl OwnedWays {
     #[cycle(copy)]
-    pub(crate) fn copy(&self, alloc: Global) -> Result<OwnedWays, AllocError> {
+    pub(crate) fn copy(&self, alloc: Global) -> Result<OwnedWays, AllocError>
+        ensures { IfOk result (λ w. row_of w ≡ row_of self.now) }
+    {
         let mut held = Vec::new(alloc);
         for step in self.held.as_slice() {
             let way = step.way.copy(alloc)?;
@@ -84,13 +115,12 @@ impl OwnedWays {
     }
 
     #[cycle(compare)]
-    pub(crate) fn compare(&self, others: &OwnedWays) -> Ordering {
-        for (step, other) in self
-            .held
-            .as_slice()
-            .iter()
-            .zip(others.held.as_slice().iter())
-        {
+    pub(crate) fn compare(&self, others: &OwnedWays) -> Ordering
+        ensures { result ≡ in_order (ways_of (row_of self.now)) (ways_of (row_of others.now)) }
+    {
+        for k in 0..self.held.len().min(others.held.len()) {
+            let step = &self.held[k];
+            let other = &others.held[k];
             let first = other.to.cmp(&step.to).then(step.way.compare(&other.way));
             if first != Ordering::Equal {
                 return first;
