@@ -1,5 +1,5 @@
 -- What the slow program lists are the derivations: each that is listed derives, and each that derives is listed.
-use Rattle.std.proofs.Common.{◌≡◌, ℕ, Bool, true, false, cond, Option, Some, None, List, [], ◌∷◌, ◌++◌, ◌+◌, ◌-◌, ◌<◌, ◌≤◌, ◌==◌, ◌&&◌, ◌||◌, zero, suc, length, map, take, drop, get_or, min, refl, sym, ap, ◌∙◌, subst, inl, inr, arith, rules, true≢false, append_assoc, append-nil, eq-eqb, ltb, leb}
+use Rattle.std.proofs.Common.{◌≡◌, ℕ, Bool, true, false, cond, Option, Some, None, List, [], ◌∷◌, ◌++◌, ◌+◌, ◌-◌, ◌<◌, ◌≤◌, ◌==◌, ◌&&◌, ◌||◌, zero, suc, length, map, take, drop, get_or, min, max, refl, sym, ap, ◌∙◌, subst, inl, inr, arith, rules, true≢false, append_assoc, append-nil, eq-eqb, ltb, leb}
 use Rattle.std.specs.Prelude.{◌⊎◌, nat_lt, nat_le, IfSome, slice_index, slice_index_or}
 use Rattle.std.specs.List.{list_any, Contains, Any, filter, flat_map}
 use Rattle.std.specs.Str.{bytes_eq}
@@ -293,3 +293,126 @@ mutual
             record { index = suc r.index; tree = r.tree; inner = r.inner; at = r.at; shows = r.shows;
               is = r.is ∙ ap (λ k. found_chosen k r.inner) same }
       ]
+
+-- EACH THAT DERIVES IS LISTED
+
+-- `more` lists all derivations of the tree
+abbrev IsComplete : List ℕ → Tree → (ℕ → Captures → List Found) → Type 0
+IsComplete s t more =
+    (w : Way) (i j : ℕ) (c d : Captures) → Derives s t w i j c d → Among (found w j d) (more i c)
+
+still_there : (bs : List Begun) (a : Begun) (j : ℕ) (d : Captures) → Among a bs → j ≡ a.to → d ≡ a.captures
+    → Among (begun (a.row ++ []) j d) bs
+still_there bs a j d h e f = subst (λ x. Among x bs) (λ n. begun (sym (append-nil a.row) n) (sym e n) (sym f n)) h
+
+at_most-complete : (s : List ℕ) (t : Tree) (more : ℕ → Captures → List Found) → IsComplete s t more
+    → (n : ℕ) (ws : Ways) (bs : List Begun) (a : Begun) (j : ℕ) (d : Captures) → Among a bs → count_of ws ≤ n
+    → DerivesEach s t zero ws a.to j a.captures d → Among (begun (a.row ++ listed ws) j d) (at_most more n bs)
+at_most-complete s t more complete zero done bs a j d h b g = still_there bs a j d h g.0 g.1
+at_most-complete s t more complete zero (next k w ws) bs a j d h b g = absurd (omega arith)
+at_most-complete s t more complete (suc n) done bs a j d h b g =
+    left _ bs _ (still_there bs a j d h g.0 g.1)
+at_most-complete s t more complete (suc n) (next k w ws) bs a j d h b g =
+    let f = found w k g.0 in
+    let rest = at_most-complete s t more complete n ws (go_on false more bs) (behind a f) j d
+        (go_on-Among false more a f bs h (complete w a.to k a.captures g.0 g.1) (lt-ltb _ _ g.2)) (omega arith) g.3 in
+    right _ bs _ (subst (λ r. Among (begun r j d) (at_most more n (go_on false more bs))) (listed_more a.row k w ws) rest)
+
+required-complete : (s : List ℕ) (t : Tree) (more : ℕ → Captures → List Found) → IsComplete s t more
+    → (n : ℕ) (least : ℕ) (ws : Ways) (bs : List Begun) (a : Begun) (j : ℕ) (d : Captures) → Among a bs
+    → least ≤ count_of ws → count_of ws ≤ least + n
+    → DerivesEach s t least ws a.to j a.captures d
+    → Among (begun (a.row ++ listed ws) j d) (at_most more n (required more least bs))
+required-complete s t more complete n zero ws bs a j d h l b g =
+    at_most-complete s t more complete n ws bs a j d h (omega arith) g
+required-complete s t more complete n (suc least) done bs a j d h l b g = absurd (omega arith)
+required-complete s t more complete n (suc least) (next k w ws) bs a j d h l b g =
+    let f = found w k g.0 in
+    let rest = required-complete s t more complete n least ws (go_on true more bs) (behind a f) j d
+        (go_on-Among true more a f bs h (complete w a.to k a.captures g.0 g.1) refl) (omega arith) (omega arith) g.2 in
+    subst (λ r. Among (begun r j d) (at_most more n (required more least (go_on true more bs)))) (listed_more a.row k w ws) rest
+
+-- bounds that a number of members meets allow that number of further members
+fits-further : (least : ℕ) (most : Option ℕ) (k count : ℕ) → CanRepeat least most count → count ≤ least + k
+    → (n : ℕ) × (further least most k ≡ Some n) × (count ≤ least + n)
+fits-further least None k count h b = (k, refl, b)
+fits-further least (Some most) k count h b =
+    (min k (most - least),
+      ap (λ t. cond t None (Some (min k (most - least)))) (le-ltb most least (omega (arith, h.0, h.1))),
+      omega (arith, h.0, h.1, b))
+
+repeat-complete : (s : List ℕ) (t : Tree) (more : ℕ → Captures → List Found) → IsComplete s t more
+    → (least : ℕ) (most : Option ℕ) (ws : Ways) (i j : ℕ) (c d : Captures) → CanRepeat least most (count_of ws)
+    → DerivesEach s t least ws i j c d
+    → Among (found (members ws) j d) (repeat_ways more least (further least most (length s - i)) i c)
+repeat-complete s t more complete least most ws i j c d fits h =
+    let bound : i ≤ max i (length s) = omega arith in
+    let size : length s ≤ max i (length s) = omega arith in
+    let end = each_stays_within s t least ws i j c d (max i (length s)) size bound h in
+    let n = fits-further least most (length s - i) (count_of ws) fits (omega (arith, each_count s t least ws i j c d h, end)) in
+    let row = required-complete s t more complete n.0 least ws (begin i c) (begun [] i c) j d (inl refl) fits.0 n.2 h in
+    let one = mapped (found_of_row members) _ _ row in
+    subst (λ o. Among (found (members ws) j d) (repeat_ways more least o i c)) (sym n.1)
+    (subst (λ v. Among (found (members v) j d) (repeat_ways more least (Some n.0) i c)) (ways_of-listed ws) one)
+
+mutual
+  pub all_ways-complete : (s : List ℕ) (t : Tree) (w : Way) (i j : ℕ) (c d : Captures) → Derives s t w i j c d
+      → Among (found w j d) (all_ways s t i c)
+  all_ways-complete s empty leaf i j c d h = found-one_if true i j c d refl h.0 h.1
+  all_ways-complete s empty w i j c d h = absurd h
+  all_ways-complete s (plain bytes) leaf i j c d h =
+      let here = part-stands false s i j bytes h.0 h.1 in found-one_if _ _ j c d here.1 here.0 h.2
+  all_ways-complete s (plain bytes) w i j c d h = absurd h
+  all_ways-complete s (set bytes) leaf i j c d h =
+      found-one_if _ _ j c d (Contains-is_one_of bytes s i h.1 h.2) h.0 h.3
+  all_ways-complete s (set bytes) w i j c d h = absurd h
+  all_ways-complete s line_start leaf i j c d h = found-one_if _ _ j c d h.1 h.0 h.2
+  all_ways-complete s line_start w i j c d h = absurd h
+  all_ways-complete s line_end leaf i j c d h = found-one_if _ _ j c d h.1 h.0 h.2
+  all_ways-complete s line_end w i j c d h = absurd h
+  all_ways-complete s (cat all) (parts ws) i j c d h =
+      let row = all_rows-complete s all ws (begin i c) (begun [] i c) j d (inl refl) h in
+      subst (λ v. Among (found (parts v) j d) (all_ways s (cat all) i c)) (ways_of-listed ws)
+      (mapped (found_of_row parts) _ _ row)
+  all_ways-complete s (cat all) w i j c d h = absurd h
+  all_ways-complete s (alt all) (chosen n w) i j c d h =
+      let same : 0 + n ≡ n = omega arith in
+      subst (λ m. Among (found (chosen m w) j d) (alternatives s all 0 i c)) same
+      (alternatives-complete s all 0 n h.0 w i j c d h.1 h.2)
+  all_ways-complete s (alt all) w i j c d h = absurd h
+  all_ways-complete s (repeat inner least most) (members ws) i j c d h =
+      repeat-complete s inner (all_ways s inner) (λ w k l e f. all_ways-complete s inner w k l e f) least most ws i j c d h.0 h.1
+  all_ways-complete s (repeat inner least most) w i j c d h = absurd h
+  all_ways-complete s (group number inner) (inside w) i j c d h =
+      subst (λ e. Among (found (inside w) j e) (all_ways s (group number inner) i c)) (sym h.2)
+      (mapped (found_inside number i) _ _ (all_ways-complete s inner w i j c h.0 h.1))
+  all_ways-complete s (group number inner) w i j c d h = absurd h
+  all_ways-complete s (back number fold) leaf i j c d h =
+      let here = part-stands fold s i j (part s h.0.0 h.0.1) h.2 h.3 in
+      subst (λ o. Among (found leaf j d) (back_ways fold s o i c)) (sym h.1) (found-one_if _ _ j c d here.1 here.0 h.4)
+  all_ways-complete s (back number fold) w i j c d h = absurd h
+
+  all_rows-complete : (s : List ℕ) (ts : Trees) (ws : Ways) (bs : List Begun) (a : Begun) (j : ℕ) (d : Captures)
+      → Among a bs → DerivesAll s ts ws a.to j a.captures d → Among (begun (a.row ++ listed ws) j d) (all_rows s ts bs)
+  all_rows-complete s none done bs a j d h g = still_there bs a j d h g.0 g.1
+  all_rows-complete s none (next k w ws) bs a j d h g = absurd g
+  all_rows-complete s (then t ts) done bs a j d h g = absurd g
+  all_rows-complete s (then t ts) (next k w ws) bs a j d h g =
+      let f = found w k g.0 in
+      let rest = all_rows-complete s ts ws (go_on true (all_ways s t) bs) (behind a f) j d
+          (go_on-Among true (all_ways s t) a f bs h (all_ways-complete s t w a.to k a.captures g.0 g.1) refl) g.2 in
+      subst (λ r. Among (begun r j d) (all_rows s ts (go_on true (all_ways s t) bs))) (listed_more a.row k w ws) rest
+
+  alternatives-complete : (s : List ℕ) (ts : Trees) (n k : ℕ) (one : Tree) (w : Way) (i j : ℕ) (c d : Captures)
+      → tree_at ts k ≡ Some one → Derives s one w i j c d → Among (found (chosen (n + k) w) j d) (alternatives s ts n i c)
+  alternatives-complete s none n k one w i j c d e h = absurd (none-some one e)
+  alternatives-complete s (then t ts) n zero one w i j c d e h =
+      let same : n + 0 ≡ n = omega arith in
+      let here = all_ways-complete s t w i j c d (subst (λ u. Derives s u w i j c d) (sym (some_same _ _ e)) h) in
+      left _ (map (found_chosen n) (all_ways s t i c)) _
+      (subst (λ m. Among (found (chosen m w) j d) (map (found_chosen n) (all_ways s t i c))) (sym same) (mapped (found_chosen n) _ _ here))
+  alternatives-complete s (then t ts) n (suc k) one w i j c d e h =
+      let same : n + 1 + k ≡ n + suc k = omega arith in
+      right _ (map (found_chosen n) (all_ways s t i c)) _
+      (subst (λ m. Among (found (chosen m w) j d) (alternatives s ts (n + 1) i c)) same
+        (alternatives-complete s ts (n + 1) k one w i j c d e h))
