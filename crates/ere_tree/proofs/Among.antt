@@ -52,7 +52,7 @@ pub from_flat_map : {X Y : Type 0} (f : X → List Y) (y : Y) (xs : List X) → 
 from_flat_map f y [] h = absurd h
 from_flat_map {X} f y (z ∷ xs) h =
     elim (either y (f z) (flat_map f xs) h) [
-      inl g ↦ (z, inl refl, g)
+      | inl g ↦ (z, inl refl, g)
       | inr g ↦ from_flat_map_more f y z xs (from_flat_map f y xs g)
     ]
 

@@ -96,7 +96,7 @@ go_on-Among may more a f bs h g t =
 
 Among-go_on : (may : Bool) (more : ℕ → Captures → List Found) (b : Begun) (bs : List Begun) → Among b (go_on may more bs)
     → (a : Begun) × (f : Found) × Among a bs × Among f (more a.to a.captures)
-        × ((may || nat_lt a.to f.to) ≡ true) × (b ≡ behind a f)
+    × ((may || nat_lt a.to f.to) ≡ true) × (b ≡ behind a f)
 Among-go_on may more b bs h =
     let r = from_flat_map (λ b. each_behind may b (more b.to b.captures)) b bs h in
     let m = from_map (behind r.0) b _ r.2 in
@@ -117,29 +117,32 @@ IsSound s t more = (i : ℕ) (c : Captures) (f : Found) → Among f (more i c) �
 at_most-sound : (s : List ℕ) (t : Tree) (more : ℕ → Captures → List Found) → IsSound s t more
     → (n : ℕ) (bs : List Begun) (o : Begun) → Among o (at_most more n bs)
     → (a : Begun) × (ws : Ways) × Among a bs × (o.row ≡ a.row ++ listed ws) × (count_of ws ≤ n)
-        × DerivesEach s t zero ws a.to o.to a.captures o.captures
+    × DerivesEach s t zero ws a.to o.to a.captures o.captures
 at_most-sound s t more sound zero bs o h = (o, done, h, sym (append-nil o.row), omega arith, (refl, refl))
 at_most-sound s t more sound (suc n) bs o h =
     elim (either o bs (at_most more n (go_on false more bs)) h) [
-      inl g ↦ (o, done, g, sym (append-nil o.row), omega arith, (refl, refl))
+      | inl g ↦ (o, done, g, sym (append-nil o.row), omega arith, (refl, refl))
       | inr g ↦
           let r = at_most-sound s t more sound n (go_on false more bs) o g in
           let b = Among-go_on false more r.0 bs r.2 in
           let a = b.0 in
           let f = b.1 in
           let rest : DerivesEach s t zero r.1 f.to o.to f.captures o.captures =
-              subst (λ x. DerivesEach s t zero r.1 x.to o.to x.captures o.captures) b.5 r.5 in
-          (a, next f.to f.way r.1, b.2,
+          subst (λ x. DerivesEach s t zero r.1 x.to o.to x.captures o.captures) b.5 r.5 in (
+            a,
+            next f.to f.way r.1,
+            b.2,
             r.3 ∙ ap (λ x. x.row ++ listed r.1) b.5 ∙ listed_more a.row f.to f.way r.1,
             omega (arith, r.4),
-            (f.captures, sound a.to a.captures f b.3, ltb-true _ _ b.4, rest))
+            (f.captures, sound a.to a.captures f b.3, ltb-true _ _ b.4, rest),
+          )
     ]
 
 required-sound : (s : List ℕ) (t : Tree) (more : ℕ → Captures → List Found) → IsSound s t more
     → (n : ℕ) (bs : List Begun) (o : Begun) (vs : Ways) (j : ℕ) (d : Captures) → Among o (required more n bs)
     → DerivesEach s t zero vs o.to j o.captures d
     → (a : Begun) × (ws : Ways) × Among a bs × (o.row ++ listed vs ≡ a.row ++ listed ws)
-        × (count_of ws ≡ n + count_of vs) × DerivesEach s t n ws a.to j a.captures d
+    × (count_of ws ≡ n + count_of vs) × DerivesEach s t n ws a.to j a.captures d
 required-sound s t more sound zero bs o vs j d h g = (o, vs, h, refl, omega arith, g)
 required-sound s t more sound (suc n) bs o vs j d h g =
     let r = required-sound s t more sound n (go_on true more bs) o vs j d h g in
@@ -147,11 +150,14 @@ required-sound s t more sound (suc n) bs o vs j d h g =
     let a = b.0 in
     let f = b.1 in
     let rest : DerivesEach s t n r.1 f.to j f.captures d =
-        subst (λ x. DerivesEach s t n r.1 x.to j x.captures d) b.5 r.5 in
-    (a, next f.to f.way r.1, b.2,
+    subst (λ x. DerivesEach s t n r.1 x.to j x.captures d) b.5 r.5 in (
+      a,
+      next f.to f.way r.1,
+      b.2,
       r.3 ∙ ap (λ x. x.row ++ listed r.1) b.5 ∙ listed_more a.row f.to f.way r.1,
       omega (arith, r.4),
-      (f.captures, sound a.to a.captures f b.3, rest))
+      (f.captures, sound a.to a.captures f b.3, rest),
+    )
 
 -- the number of further members is one that the bounds allow
 further-fits_most : (least most k n count : ℕ) → count ≤ n → (t : Bool) → ltb most least ≡ t
@@ -182,7 +188,7 @@ repeat-sound_row : (s : List ℕ) (t : Tree) (least : ℕ) (most : Option ℕ) (
     → Derives s (repeat t least most) f.way i f.to c f.captures
 repeat-sound_row s t least most i c f b is a ws start row fits each =
     let whole : Derives s (repeat t least most) (members ws) i b.to c b.captures =
-        (fits, subst (λ x. DerivesEach s t least ws x.to b.to x.captures b.captures) (start_is i c a start) each) in
+    (fits, subst (λ x. DerivesEach s t least ws x.to b.to x.captures b.captures) (start_is i c a start) each) in
     subst (λ g. Derives s (repeat t least most) g.way i g.to c g.captures) (sym is)
     (subst (λ v. Derives s (repeat t least most) (members v) i b.to c b.captures) (sym (row_from_none i c a b ws start row)) whole)
 
@@ -246,7 +252,7 @@ mutual
       let r = all_rows-sound s all (begin i c) b.0 b.1 in
       let start = start_is i c r.0 r.2 in
       let whole : Derives s (cat all) (parts r.1) i b.0.to c b.0.captures =
-          subst (λ x. DerivesAll s all r.1 x.to b.0.to x.captures b.0.captures) start r.4 in
+      subst (λ x. DerivesAll s all r.1 x.to b.0.to x.captures b.0.captures) start r.4 in
       subst (λ g. Derives s (cat all) g.way i g.to c g.captures) (sym b.2)
       (subst (λ v. Derives s (cat all) (parts v) i b.0.to c b.0.captures) (sym (row_from_none i c r.0 b.0 r.1 r.2 r.3)) whole)
   all_ways-sound s (alt all) i c f h =
@@ -264,7 +270,7 @@ mutual
 
   all_rows-sound : (s : List ℕ) (ts : Trees) (bs : List Begun) (o : Begun) → Among o (all_rows s ts bs)
       → (a : Begun) × (ws : Ways) × Among a bs × (o.row ≡ a.row ++ listed ws)
-          × DerivesAll s ts ws a.to o.to a.captures o.captures
+      × DerivesAll s ts ws a.to o.to a.captures o.captures
   all_rows-sound s none bs o h = (o, done, h, sym (append-nil o.row), (refl, refl))
   all_rows-sound s (then t ts) bs o h =
       let r = all_rows-sound s ts (go_on true (all_ways s t) bs) o h in
@@ -272,26 +278,41 @@ mutual
       let a = b.0 in
       let f = b.1 in
       let rest : DerivesAll s ts r.1 f.to o.to f.captures o.captures =
-          subst (λ x. DerivesAll s ts r.1 x.to o.to x.captures o.captures) b.5 r.4 in
-      (a, next f.to f.way r.1, b.2,
+      subst (λ x. DerivesAll s ts r.1 x.to o.to x.captures o.captures) b.5 r.4 in (
+        a,
+        next f.to f.way r.1,
+        b.2,
         r.3 ∙ ap (λ x. x.row ++ listed r.1) b.5 ∙ listed_more a.row f.to f.way r.1,
-        (f.captures, all_ways-sound s t a.to a.captures f b.3, rest))
+        (f.captures, all_ways-sound s t a.to a.captures f b.3, rest),
+      )
 
   alternatives-sound : (s : List ℕ) (ts : Trees) (n i : ℕ) (c : Captures) (f : Found) → Among f (alternatives s ts n i c)
       → OneOf s ts n i c f
   alternatives-sound s none n i c f h = absurd h
   alternatives-sound s (then t ts) n i c f h =
       elim (either f (map (found_chosen n) (all_ways s t i c)) (alternatives s ts (n + 1) i c) h) [
-        inl g ↦
+        | inl g ↦
             let m = from_map (found_chosen n) f _ g in
             let same : n ≡ n + 0 = omega arith in
-            record { index = zero; tree = t; inner = m.0; at = refl; shows = all_ways-sound s t i c m.0 m.1;
-              is = m.2 ∙ ap (λ k. found_chosen k m.0) same }
+            record {
+              index = zero;
+              tree = t;
+              inner = m.0;
+              at = refl;
+              shows = all_ways-sound s t i c m.0 m.1;
+              is = m.2 ∙ ap (λ k. found_chosen k m.0) same;
+            }
         | inr g ↦
             let r = alternatives-sound s ts (n + 1) i c f g in
             let same : n + 1 + r.index ≡ n + suc r.index = omega arith in
-            record { index = suc r.index; tree = r.tree; inner = r.inner; at = r.at; shows = r.shows;
-              is = r.is ∙ ap (λ k. found_chosen k r.inner) same }
+            record {
+              index = suc r.index;
+              tree = r.tree;
+              inner = r.inner;
+              at = r.at;
+              shows = r.shows;
+              is = r.is ∙ ap (λ k. found_chosen k r.inner) same;
+            }
       ]
 
 -- EACH THAT DERIVES IS LISTED
@@ -315,7 +336,7 @@ at_most-complete s t more complete (suc n) done bs a j d h b g =
 at_most-complete s t more complete (suc n) (next k w ws) bs a j d h b g =
     let f = found w k g.0 in
     let rest = at_most-complete s t more complete n ws (go_on false more bs) (behind a f) j d
-        (go_on-Among false more a f bs h (complete w a.to k a.captures g.0 g.1) (lt-ltb _ _ g.2)) (omega arith) g.3 in
+    (go_on-Among false more a f bs h (complete w a.to k a.captures g.0 g.1) (lt-ltb _ _ g.2)) (omega arith) g.3 in
     right _ bs _ (subst (λ r. Among (begun r j d) (at_most more n (go_on false more bs))) (listed_more a.row k w ws) rest)
 
 required-complete : (s : List ℕ) (t : Tree) (more : ℕ → Captures → List Found) → IsComplete s t more
@@ -329,17 +350,18 @@ required-complete s t more complete n (suc least) done bs a j d h l b g = absurd
 required-complete s t more complete n (suc least) (next k w ws) bs a j d h l b g =
     let f = found w k g.0 in
     let rest = required-complete s t more complete n least ws (go_on true more bs) (behind a f) j d
-        (go_on-Among true more a f bs h (complete w a.to k a.captures g.0 g.1) refl) (omega arith) (omega arith) g.2 in
+    (go_on-Among true more a f bs h (complete w a.to k a.captures g.0 g.1) refl) (omega arith) (omega arith) g.2 in
     subst (λ r. Among (begun r j d) (at_most more n (required more least (go_on true more bs)))) (listed_more a.row k w ws) rest
 
 -- bounds that a number of members meets allow that number of further members
 fits-further : (least : ℕ) (most : Option ℕ) (k count : ℕ) → CanRepeat least most count → count ≤ least + k
     → (n : ℕ) × (further least most k ≡ Some n) × (count ≤ least + n)
 fits-further least None k count h b = (k, refl, b)
-fits-further least (Some most) k count h b =
-    (min k (most - least),
-      ap (λ t. cond t None (Some (min k (most - least)))) (le-ltb most least (omega (arith, h.0, h.1))),
-      omega (arith, h.0, h.1, b))
+fits-further least (Some most) k count h b = (
+  min k (most - least),
+  ap (λ t. cond t None (Some (min k (most - least)))) (le-ltb most least (omega (arith, h.0, h.1))),
+  omega (arith, h.0, h.1, b),
+)
 
 repeat-complete : (s : List ℕ) (t : Tree) (more : ℕ → Captures → List Found) → IsComplete s t more
     → (least : ℕ) (most : Option ℕ) (ws : Ways) (i j : ℕ) (c d : Captures) → CanRepeat least most (count_of ws)
@@ -400,7 +422,7 @@ mutual
   all_rows-complete s (then t ts) (next k w ws) bs a j d h g =
       let f = found w k g.0 in
       let rest = all_rows-complete s ts ws (go_on true (all_ways s t) bs) (behind a f) j d
-          (go_on-Among true (all_ways s t) a f bs h (all_ways-complete s t w a.to k a.captures g.0 g.1) refl) g.2 in
+      (go_on-Among true (all_ways s t) a f bs h (all_ways-complete s t w a.to k a.captures g.0 g.1) refl) g.2 in
       subst (λ r. Among (begun r j d) (all_rows s ts (go_on true (all_ways s t) bs))) (listed_more a.row k w ws) rest
 
   alternatives-complete : (s : List ℕ) (ts : Trees) (n k : ℕ) (one : Tree) (w : Way) (i j : ℕ) (c d : Captures)
@@ -415,4 +437,4 @@ mutual
       let same : n + 1 + k ≡ n + suc k = omega arith in
       right _ (map (found_chosen n) (all_ways s t i c)) _
       (subst (λ m. Among (found (chosen m w) j d) (alternatives s ts (n + 1) i c)) same
-        (alternatives-complete s ts (n + 1) k one w i j c d e h))
+      (alternatives-complete s ts (n + 1) k one w i j c d e h))

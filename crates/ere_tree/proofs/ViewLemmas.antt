@@ -40,7 +40,7 @@ step_is w = search (rules, fold_out-OwnedStep)
 -- the captures behind one more setting
 get_settings_more : (xs : List Setting) (i : ℕ) (d : Setting) (q : ℕ) → i < length xs
     → get (after_settings empty (take (i + 1) xs)) q
-        ≡ cond (eqb q (get_or xs i d).number) (Some ((get_or xs i d).from, (get_or xs i d).to)) (get (after_settings empty (take i xs)) q)
+    ≡ cond (eqb q (get_or xs i d).number) (Some ((get_or xs i d).from, (get_or xs i d).to)) (get (after_settings empty (take i xs)) q)
 get_settings_more xs i d q b =
     let x = get_or xs i d in
     ap (λ ys. get (after_settings empty ys) q) (take_more xs i d b)
@@ -53,7 +53,7 @@ pub get_settings_same : (xs : List Setting) (i : ℕ) (d : Setting) (q : ℕ) �
 get_settings_same xs i d q b e =
     get_settings_more xs i d q b
     ∙ ap (λ t. cond t (Some ((get_or xs i d).from, (get_or xs i d).to)) (get (after_settings empty (take i xs)) q))
-        (eq-eqb q (get_or xs i d).number (sym e))
+    (eq-eqb q (get_or xs i d).number (sym e))
 
 pub get_settings_other : (xs : List Setting) (i : ℕ) (d : Setting) (q : ℕ) → i < length xs
     → ((get_or xs i d).number ≡ q → ⊥)
@@ -61,7 +61,7 @@ pub get_settings_other : (xs : List Setting) (i : ℕ) (d : Setting) (q : ℕ) �
 get_settings_other xs i d q b e =
     get_settings_more xs i d q b
     ∙ ap (λ t. cond t (Some ((get_or xs i d).from, (get_or xs i d).to)) (get (after_settings empty (take i xs)) q))
-        (ne_eqb q (get_or xs i d).number (λ x. e (sym x)))
+    (ne_eqb q (get_or xs i d).number (λ x. e (sym x)))
 
 -- two rows are compared by their first ways, and then by the others
 pub in_order_drop : (xs ys : List (ℕ × Way)) (k : ℕ) (x y : ℕ × Way) → k < length xs → k < length ys
@@ -112,9 +112,9 @@ decides_not Greater r e = absurd (true≢false e)
 rows_more : (w v : OwnedWays) (k : ℕ) (x y : OwnedStep) → k < min (vec_len (out-OwnedWays w).held) (vec_len (out-OwnedWays v).held)
     → x ≡ get_or (steps_of w) k x → y ≡ get_or (steps_of v) k y
     → in_order (ways_of (drop k (row_of w))) (ways_of (drop k (row_of v)))
-        ≡ ordering_then (ordering_then (nat_cmp (out-OwnedStep y).to (out-OwnedStep x).to)
-            (within (way_of (out-OwnedStep x).way) (way_of (out-OwnedStep y).way)))
-            (in_order (ways_of (drop (k + 1) (row_of w))) (ways_of (drop (k + 1) (row_of v))))
+    ≡ ordering_then (ordering_then (nat_cmp (out-OwnedStep y).to (out-OwnedStep x).to)
+    (within (way_of (out-OwnedStep x).way) (way_of (out-OwnedStep y).way)))
+    (in_order (ways_of (drop (k + 1) (row_of w))) (ways_of (drop (k + 1) (row_of v))))
 rows_more w v k x y b e f =
     in_order_drop (row_of w) (row_of v) k _ _ (omega (arith, length-row w, length-row v)) (omega (arith, length-row w, length-row v))
     (at_row w k x e) (at_row v k y f)
@@ -123,7 +123,7 @@ pub rows_decided : (w v : OwnedWays) (k : ℕ) (x y : OwnedStep) → k < min (ve
     → x ≡ get_or (steps_of w) k x → y ≡ get_or (steps_of v) k y
     → (o : Ordering)
     → o ≡ ordering_then (nat_cmp (out-OwnedStep y).to (out-OwnedStep x).to)
-        (within (way_of (out-OwnedStep x).way) (way_of (out-OwnedStep y).way))
+    (within (way_of (out-OwnedStep x).way) (way_of (out-OwnedStep y).way))
     → not (ordering_index o == 1) ≡ true
     → o ≡ in_order (ways_of (drop k (row_of w))) (ways_of (drop k (row_of v)))
 rows_decided w v k x y b e f o is test =
@@ -134,10 +134,10 @@ pub rows_undecided : (w v : OwnedWays) (k : ℕ) (x y : OwnedStep) → k < min (
     → x ≡ get_or (steps_of w) k x → y ≡ get_or (steps_of v) k y
     → (o : Ordering)
     → o ≡ ordering_then (nat_cmp (out-OwnedStep y).to (out-OwnedStep x).to)
-        (within (way_of (out-OwnedStep x).way) (way_of (out-OwnedStep y).way))
+    (within (way_of (out-OwnedStep x).way) (way_of (out-OwnedStep y).way))
     → not (ordering_index o == 1) ≡ false
     → in_order (ways_of (drop (k + 1) (row_of w))) (ways_of (drop (k + 1) (row_of v)))
-        ≡ in_order (ways_of (drop k (row_of w))) (ways_of (drop k (row_of v)))
+    ≡ in_order (ways_of (drop k (row_of w))) (ways_of (drop k (row_of v)))
 rows_undecided w v k x y b e f o is test =
     let rest = in_order (ways_of (drop (k + 1) (row_of w))) (ways_of (drop (k + 1) (row_of v))) in
     sym (decides_not o rest test) ∙ ap (λ p. ordering_then p rest) is ∙ sym (rows_more w v k x y b e f)

@@ -8,6 +8,12 @@ use Rattle.std.specs.FinMap.{get, insert}
 use Rattle.ere_tree.specs.Tree.{Tree, Trees, empty, plain, set, line_start, line_end, cat, alt, repeat, group, back, none, then}
 use Rattle.ere_tree.specs.Captures.{Captures}
 use Rattle.ere_tree.specs.Derivation.{Way, Ways, leaf, parts, members, chosen, inside, part, is_line_start, is_line_end}
+use Rattle.ere_tree.specs.Tree.{trees_of}
+use Rattle.ere_tree.specs.View.{view_step, list_step}
+use Rattle.ere_tree.specs.declared.ere.Ere.TheFolds.{fold-EreList}
+use Rattle.ere_tree.specs.declared.ere.EreList.{EreList}
+use Rattle.ere_tree.specs.declared.slow.Derivation.{Derivation}
+use Rattle.ere_tree.specs.declared.slow.Row.{Row}
 use Rattle.ere_tree.specs.WayView.{ways_of, way_of, row_of, captures_of}
 
 -- one derivation: its way, where it ends, and the captures behind it
@@ -21,6 +27,17 @@ pub record Begun : Type 0 where
   pub row : List (ℕ × Way)
   pub to : ℕ
   pub captures : Captures
+
+-- what a value of the program stands for
+abbrev pub found_of : Derivation → Found
+found_of d = record { way = way_of d.way; to = d.to; captures = captures_of d.captures }
+
+abbrev pub begun_of : Row → Begun
+begun_of r = record { row = row_of r.ways; to = r.to; captures = captures_of r.captures }
+
+-- the trees of a list of expressions
+abbrev pub trees_in : EreList → Trees
+trees_in all = trees_of (fold-EreList Tree (List Tree) view_step list_step all)
 
 -- the derivation with nothing to choose, if the test holds
 abbrev pub one_if : Bool → ℕ → Captures → List Found

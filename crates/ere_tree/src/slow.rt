@@ -1,4 +1,11 @@
 //! The derivations of an expression, listed one by one: the definitions as a plain, slow program, for small texts.
+ghost use Rattle.std.specs.Prelude.{◌≡◌, ℕ, ◌==◌, ◌++◌, IfOk, OnOk, map, slice_index};
+ghost use Rattle.ere_tree.specs.Derivation.{part, parts, members};
+ghost use Rattle.ere_tree.specs.Listing.{found_of, begun_of, trees_in, one_if, stands, is_one_of, further, each_behind, begin, required, at_most, found_of_row, found_chosen, found_inside, all_ways, all_rows, alternatives};
+ghost use Rattle.ere_tree.specs.Listing as listing;
+ghost use Rattle.ere_tree.specs.View.{view, members_of};
+ghost use Rattle.ere_tree.specs.WayView.{captures_of};
+
 use crate::byte_set::ByteSet;
 use crate::ere::{Ere, EreList};
 use crate::settings::Settings;
@@ -31,14 +38,18 @@ pub struct SlowHit {
 }
 
 /// The bytes from `from` to `to`, as far as the text goes.
-fn part_of(text: &[u8], from: usize, to: usize) -> &[u8] {
+fn part_of(text: &[u8], from: usize, to: usize) -> &[u8]
+    ensures { result.now ≡ part text.now from to }
+{
     let start = from.min(text.len());
     let end = to.min(text.len()).max(start);
     &text[start..end]
 }
 
 /// Whether the bytes stand in the text at `from`.
-fn stands_at(text: &[u8], from: usize, bytes: &[u8], fold: bool) -> bool {
+fn stands_at(text: &[u8], from: usize, bytes: &[u8], fold: bool) -> bool
+    ensures { result ≡ stands fold text.now from bytes.now }
+{
     if from > text.len() || bytes.len() > text.len() - from {
         return false;
     }
@@ -50,11 +61,15 @@ fn stands_at(text: &[u8], from: usize, bytes: &[u8], fold: bool) -> bool {
     }
 }
 
-fn is_newline_at(text: &[u8], at: usize) -> bool {
+fn is_newline_at(text: &[u8], at: usize) -> bool
+    ensures { result ≡ (slice_index text.now at == 10) }
+{
     at < text.len() && text[at] == b'\n'
 }
 
-fn is_in_set_at(set: &ByteSet, text: &[u8], at: usize) -> bool {
+fn is_in_set_at(set: &ByteSet, text: &[u8], at: usize) -> bool
+    ensures { result ≡ is_one_of (members_of set.now.bits) text.now at }
+{
     at < text.len() && set.has(text[at])
 }
 
@@ -64,7 +79,9 @@ fn leaf_if(
     test: bool,
     to: usize,
     captures: &Settings,
-) -> Result<Vec<Derivation>, AllocError> {
+) -> Result<Vec<Derivation>, AllocError>
+    ensures { IfOk result (λ found. map found_of found.items ≡ one_if test to (captures_of captures.now)) }
+{
     let mut found = Vec::new(alloc);
     if test {
         let captures = captures.copy(alloc)?;
@@ -77,6 +94,25 @@ fn leaf_if(
     Ok(found)
 }
 
+/// The derivation of bytes, wherever they stand.
+fn text_ways(
+    alloc: Global,
+    text: &[u8],
+    from: usize,
+    bytes: &[u8],
+    fold: bool,
+    captures: &Settings,
+) -> Result<Vec<Derivation>, AllocError>
+    ensures { IfOk result (λ found. map found_of found.items ≡
+        listing.text_ways fold text.now from bytes.now (captures_of captures.now)) }
+{
+    if stands_at(text, from, bytes, fold) {
+        leaf_if(alloc, true, from + bytes.len(), captures)
+    } else {
+        Ok(Vec::new(alloc))
+    }
+}
+
 /// All rows of one row and one derivation behind it; one that is empty only if it may be.
 fn put_behind(
     alloc: Global,
@@ -84,7 +120,10 @@ fn put_behind(
     found: Vec<Derivation>,
     may_be_empty: bool,
     rows: &mut Vec<Row>,
-) -> Result<(), AllocError> {
+) -> Result<(), AllocError>
+    ensures { OnOk result (map begun_of rows.new.items ≡
+        map begun_of rows.old.items ++ each_behind may_be_empty (begun_of row.now) (map found_of found.items)) }
+{
     for one in found {
         if may_be_empty || row.to < one.to {
             let mut ways = row.ways.copy(alloc)?;
@@ -110,7 +149,10 @@ fn go_on(
     text: &[u8],
     rows: &[Row],
     may_be_empty: bool,
-) -> Result<Vec<Row>, AllocError> {
+) -> Result<Vec<Row>, AllocError>
+    ensures { IfOk result (λ longer. map begun_of longer.items ≡
+        listing.go_on may_be_empty (all_ways text.now (view ere.now)) (map begun_of rows.now)) }
+{
     let mut longer = Vec::new(alloc);
     for row in rows {
         let found = ways_of(alloc, ere, text, row.to, &row.captures)?;
@@ -120,7 +162,9 @@ fn go_on(
 }
 
 /// The row of no derivation.
-fn start(alloc: Global, from: usize, captures: &Settings) -> Result<Vec<Row>, AllocError> {
+fn start(alloc: Global, from: usize, captures: &Settings) -> Result<Vec<Row>, AllocError>
+    ensures { IfOk result (λ rows. map begun_of rows.items ≡ begin from (captures_of captures.now)) }
+{
     let captures = captures.copy(alloc)?;
     let mut rows = Vec::new(alloc);
     let ways = OwnedWays {
@@ -142,7 +186,10 @@ fn rows_of_parts(
     text: &[u8],
     from: usize,
     captures: &Settings,
-) -> Result<Vec<Row>, AllocError> {
+) -> Result<Vec<Row>, AllocError>
+    ensures { IfOk result (λ rows. map begun_of rows.items ≡
+        all_rows text.now (trees_in all.now) (begin from (captures_of captures.now))) }
+{
     let mut rows = start(alloc, from, captures)?;
     for part in all.held.as_slice() {
         rows = go_on(alloc, part, text, rows.as_slice(), true)?;
@@ -160,7 +207,11 @@ fn rows_of_members(
     captures: &Settings,
     least: u32,
     more: usize,
-) -> Result<Vec<Row>, AllocError> {
+) -> Result<Vec<Row>, AllocError>
+    ensures { IfOk result (λ rows. map begun_of rows.items ≡
+        at_most (all_ways text.now (view inner.now)) more
+        (required (all_ways text.now (view inner.now)) least (begin from (captures_of captures.now)))) }
+{
     let mut rows = start(alloc, from, captures)?;
     for _ in 0..least {
         rows = go_on(alloc, inner, text, rows.as_slice(), true)?;
@@ -179,6 +230,80 @@ fn rows_of_members(
     Ok(all)
 }
 
+/// The derivations of a concatenation from those of its parts in a row.
+fn found_parts(alloc: Global, rows: Vec<Row>) -> Result<Vec<Derivation>, AllocError>
+    ensures { IfOk result (λ found. map found_of found.items ≡ map (found_of_row parts) (map begun_of rows.items)) }
+{
+    let mut found = Vec::new(alloc);
+    for row in rows {
+        found.push(Derivation {
+            way: OwnedWay::Parts(row.ways),
+            to: row.to,
+            captures: row.captures,
+        })?;
+    }
+    Ok(found)
+}
+
+/// The derivations of a repeat from those of its members in a row.
+fn found_members(alloc: Global, rows: Vec<Row>) -> Result<Vec<Derivation>, AllocError>
+    ensures { IfOk result (λ found. map found_of found.items ≡ map (found_of_row members) (map begun_of rows.items)) }
+{
+    let mut found = Vec::new(alloc);
+    for row in rows {
+        found.push(Derivation {
+            way: OwnedWay::Members(row.ways),
+            to: row.to,
+            captures: row.captures,
+        })?;
+    }
+    Ok(found)
+}
+
+/// The derivations of a group from `from`, from those of what it holds.
+fn found_in_group(
+    alloc: Global,
+    held: Vec<Derivation>,
+    number: u32,
+    from: usize,
+) -> Result<Vec<Derivation>, AllocError>
+    ensures { IfOk result (λ found. map found_of found.items ≡ map (found_inside number from) (map found_of held.items)) }
+{
+    let mut found = Vec::new(alloc);
+    for one in held {
+        let mut captures = one.captures;
+        captures.set(number, from, one.to)?;
+        let way = Box::new(alloc, one.way)?;
+        found.push(Derivation {
+            way: OwnedWay::Inside(way),
+            to: one.to,
+            captures,
+        })?;
+    }
+    Ok(found)
+}
+
+/// Adds the derivations of an alternation from those of one of its alternatives.
+fn put_chosen(
+    alloc: Global,
+    index: usize,
+    held: Vec<Derivation>,
+    found: &mut Vec<Derivation>,
+) -> Result<(), AllocError>
+    ensures { OnOk result (map found_of found.new.items ≡
+        map found_of found.old.items ++ map (found_chosen index) (map found_of held.items)) }
+{
+    for one in held {
+        let way = Box::new(alloc, one.way)?;
+        found.push(Derivation {
+            way: OwnedWay::Chosen { index, way },
+            to: one.to,
+            captures: one.captures,
+        })?;
+    }
+    Ok(())
+}
+
 /// The derivations of the alternatives, in their order.
 #[cycle(ways)]
 fn ways_of_alternatives(
@@ -187,27 +312,23 @@ fn ways_of_alternatives(
     text: &[u8],
     from: usize,
     captures: &Settings,
-) -> Result<Vec<Derivation>, AllocError> {
-    let mut chosen = Vec::new(alloc);
+) -> Result<Vec<Derivation>, AllocError>
+    ensures { IfOk result (λ found. map found_of found.items ≡
+        alternatives text.now (trees_in all.now) 0 from (captures_of captures.now)) }
+{
+    let mut found = Vec::new(alloc);
     for (index, one) in all.held.as_slice().iter().enumerate() {
-        for found in ways_of(alloc, one, text, from, captures)? {
-            let way = OwnedWay::Chosen {
-                index,
-                way: Box::new(alloc, found.way)?,
-            };
-            chosen.push(Derivation {
-                way,
-                to: found.to,
-                captures: found.captures,
-            })?;
-        }
+        let held = ways_of(alloc, one, text, from, captures)?;
+        put_chosen(alloc, index, held, &mut found)?;
     }
-    Ok(chosen)
+    Ok(found)
 }
 
 /// How many members more than `least` a repeat may have, with `left` bytes behind its start.
 /// None where it can have none at all.
-fn further_members(least: u32, most: Option<u32>, left: usize) -> Option<usize> {
+fn further_members(least: u32, most: Option<u32>, left: usize) -> Option<usize>
+    ensures { result ≡ further least most left }
+{
     match most {
         None => Some(left),
         Some(most) if most < least => None,
@@ -223,21 +344,19 @@ fn ways_of(
     text: &[u8],
     from: usize,
     captures: &Settings,
-) -> Result<Vec<Derivation>, AllocError> {
+) -> Result<Vec<Derivation>, AllocError>
+    ensures { IfOk result (λ found. map found_of found.items ≡
+        all_ways text.now (view ere.now) from (captures_of captures.now)) }
+{
     match ere {
         Ere::Empty => leaf_if(alloc, true, from, captures),
-        Ere::Plain(run) => {
-            let bytes = run.as_slice();
-            if !stands_at(text, from, bytes, false) {
-                return Ok(Vec::new(alloc));
-            }
-            leaf_if(alloc, true, from + bytes.len(), captures)
-        }
+        Ere::Plain(run) => text_ways(alloc, text, from, run.as_slice(), false, captures),
         Ere::Set(set) => {
-            if !is_in_set_at(set, text, from) {
-                return Ok(Vec::new(alloc));
+            if is_in_set_at(set, text, from) {
+                leaf_if(alloc, true, from + 1, captures)
+            } else {
+                Ok(Vec::new(alloc))
             }
-            leaf_if(alloc, true, from + 1, captures)
         }
         Ere::LineStart => leaf_if(
             alloc,
@@ -251,55 +370,34 @@ fn ways_of(
             from,
             captures,
         ),
-        Ere::Cat(all) => {
-            let mut found = Vec::new(alloc);
-            for row in rows_of_parts(alloc, all, text, from, captures)? {
-                found.push(Derivation {
-                    way: OwnedWay::Parts(row.ways),
-                    to: row.to,
-                    captures: row.captures,
-                })?;
-            }
-            Ok(found)
-        }
+        Ere::Cat(all) => found_parts(alloc, rows_of_parts(alloc, all, text, from, captures)?),
         Ere::Alt(all) => ways_of_alternatives(alloc, all, text, from, captures),
-        Ere::Repeat { inner, least, most } => {
-            let mut found = Vec::new(alloc);
-            let Some(more) = further_members(*least, *most, text.len().saturating_sub(from)) else {
-                return Ok(found);
-            };
-            for row in rows_of_members(alloc, inner, text, from, captures, *least, more)? {
-                found.push(Derivation {
-                    way: OwnedWay::Members(row.ways),
-                    to: row.to,
-                    captures: row.captures,
-                })?;
-            }
-            Ok(found)
-        }
+        Ere::Repeat { inner, least, most } => match further_members(
+            *least,
+            *most,
+            text.len().saturating_sub(from),
+        ) {
+            None => Ok(Vec::new(alloc)),
+            Some(more) => found_members(
+                alloc,
+                rows_of_members(alloc, inner, text, from, captures, *least, more)?,
+            ),
+        },
         Ere::Group { number, inner } => {
-            let mut found = Vec::new(alloc);
-            for one in ways_of(alloc, inner, text, from, captures)? {
-                let mut captures = one.captures;
-                captures.set(*number, from, one.to)?;
-                found.push(Derivation {
-                    way: OwnedWay::Inside(Box::new(alloc, one.way)?),
-                    to: one.to,
-                    captures,
-                })?;
-            }
-            Ok(found)
+            let held = ways_of(alloc, inner, text, from, captures)?;
+            found_in_group(alloc, held, *number, from)
         }
-        Ere::Ref { number, fold } => {
-            let Some((start, end)) = captures.get(*number) else {
-                return Ok(Vec::new(alloc));
-            };
-            let bytes = part_of(text, start, end);
-            if !stands_at(text, from, bytes, *fold) {
-                return Ok(Vec::new(alloc));
-            }
-            leaf_if(alloc, true, from + bytes.len(), captures)
-        }
+        Ere::Ref { number, fold } => match captures.get(*number) {
+            None => Ok(Vec::new(alloc)),
+            Some((start, end)) => text_ways(
+                alloc,
+                text,
+                from,
+                part_of(text, start, end),
+                *fold,
+                captures,
+            ),
+        },
     }
 }
 
