@@ -3,3 +3,4 @@ pub mod PreferenceLemmas
 pub mod ViewLemmas
 pub mod Among
 pub mod ListingLemmas
+pub mod MembersLemmas

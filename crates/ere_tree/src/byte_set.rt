@@ -15,7 +15,9 @@ impl ByteSet {
     }
 
     /// Whether the byte is in the set.
-    pub fn has(&self, byte: u8) -> bool {
+    pub fn has(&self, byte: u8) -> bool
+        ensures { result ≡ has_bit self.now.bits byte }
+    {
         self.bits[(byte / 64) as usize] >> (byte % 64) & 1 == 1
     }
 }

@@ -219,14 +219,10 @@ fn rows_of_members(
     let mut all = Vec::new(alloc);
     for _ in 0..more {
         let longer = go_on(alloc, inner, text, rows.as_slice(), false)?;
-        for row in rows {
-            all.push(row)?;
-        }
+        all.append(&mut rows)?;
         rows = longer;
     }
-    for row in rows {
-        all.push(row)?;
-    }
+    all.append(&mut rows)?;
     Ok(all)
 }
 
