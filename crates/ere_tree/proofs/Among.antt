@@ -1,7 +1,7 @@
 -- Membership by cases on the list, and how it passes through std's words on lists.
-use Rattle.std.proofs.Common.{◌≡◌, ℕ, Bool, true, false, cond, List, [], ◌∷◌, ◌++◌, ◌+◌, ◌<◌, length, map, get_or, refl, sym, ap, ◌∙◌, subst, inl, inr, arith, true≢false}
-use Rattle.std.specs.Prelude.{◌⊎◌, slice_index_or}
-use Rattle.std.specs.List.{filter, flat_map, Contains}
+use Rattle.std.proofs.Common.{◌≡◌, Bool, true, false, cond, List, [], ◌∷◌, ◌++◌, map, refl, sym, ap, ◌∙◌, subst, inl, inr, true≢false}
+use Rattle.std.specs.Prelude.{◌⊎◌}
+use Rattle.std.specs.List.{filter, flat_map}
 
 -- x is one of the list
 abbrev pub Among : {X : Type 0} → X → List X → Type 0

@@ -4,3 +4,4 @@ pub mod ViewLemmas
 pub mod Among
 pub mod ListingLemmas
 pub mod MembersLemmas
+pub mod EreViews

@@ -1,21 +1,20 @@
 -- What the slow program lists are the derivations: each that is listed derives, and each that derives is listed.
-use Rattle.std.proofs.Common.{◌≡◌, ℕ, Bool, true, false, cond, Option, Some, None, List, [], ◌∷◌, ◌++◌, ◌+◌, ◌-◌, ◌<◌, ◌≤◌, ◌==◌, ◌&&◌, ◌||◌, zero, suc, length, map, take, drop, get_or, min, max, refl, sym, ap, ◌∙◌, subst, inl, inr, arith, rules, true≢false, append_assoc, append-nil, eq-eqb, ltb, leb}
-use Rattle.std.specs.Prelude.{◌⊎◌, nat_lt, nat_le, IfSome, slice_index, slice_index_or}
-use Rattle.std.specs.List.{list_any, Contains, Any, filter, flat_map}
-use Rattle.std.specs.Str.{bytes_eq}
+use Rattle.std.proofs.Common.{◌≡◌, ℕ, Bool, true, false, cond, Option, Some, None, List, [], ◌∷◌, ◌++◌, ◌+◌, ◌-◌, ◌<◌, ◌≤◌, ◌==◌, ◌&&◌, ◌||◌, zero, suc, length, map, min, max, refl, sym, ap, ◌∙◌, subst, inl, inr, arith, true≢false, append_assoc, append-nil, eq-eqb, ltb}
+use Rattle.std.specs.Prelude.{nat_lt, slice_index, slice_index_or}
+use Rattle.std.specs.List.{Contains}
 use Rattle.std.specs.Char.{to_ascii_lowercase}
-use Rattle.std.specs.FinMap.{get, insert}
+use Rattle.std.specs.FinMap.{get}
 use Rattle.std.proofs.lemmas.Bool.{lt-ltb, ltb-true, eqb-true, leb-true, le-leb, le-ltb, ltb-false}
 use Rattle.std.proofs.lemmas.Option.{none-some}
 use Rattle.std.proofs.lemmas.Slice.Eq.{bytes_eq-Decides}
 use Rattle.std.proofs.lemmas.List.Folds.{Any-from_list_any, list_any_at}
 use Rattle.ere_tree.specs.Tree.{Tree, Trees, empty, plain, set, line_start, line_end, cat, alt, repeat, group, back, none, then}
 use Rattle.ere_tree.specs.Captures.{Captures}
-use Rattle.ere_tree.specs.Derivation.{Way, Ways, leaf, parts, members, chosen, inside, done, next, Derives, DerivesAll, DerivesEach, tree_at, part, IsPart, IsSameText, CanRepeat, count_of, is_line_start, is_line_end}
+use Rattle.ere_tree.specs.Derivation.{Way, Ways, leaf, parts, members, chosen, inside, done, next, Derives, DerivesAll, DerivesEach, tree_at, part, IsPart, IsSameText, CanRepeat, count_of}
 use Rattle.ere_tree.specs.WayView.{ways_of}
-use Rattle.ere_tree.specs.Listing.{Found, Begun, one_if, same_text, stands, is_one_of, text_ways, further, behind, each_behind, go_on, begin, required, at_most, found_of_row, found_chosen, found_inside, repeat_ways, back_ways, all_ways, all_rows, alternatives}
+use Rattle.ere_tree.specs.Listing.{Found, Begun, one_if, same_text, stands, is_one_of, further, behind, each_behind, go_on, begin, required, at_most, found_of_row, found_chosen, found_inside, repeat_ways, back_ways, all_ways, all_rows, alternatives}
 use Rattle.ere_tree.proofs.Among.{Among, left, right, either, mapped, from_map, flat_mapped, from_flat_map, filtered, from_filter}
-use Rattle.ere_tree.proofs.DerivationLemmas.{moves_on, each_moves_on, each_stays_within, each_count, length-part, some_same, same_length}
+use Rattle.ere_tree.proofs.DerivationLemmas.{each_stays_within, each_count, length-part, some_same, same_length}
 
 abbrev found : Way → ℕ → Captures → Found
 found w j c = record { way = w; to = j; captures = c }
@@ -438,3 +437,18 @@ mutual
       right _ (map (found_chosen n) (all_ways s t i c)) _
       (subst (λ m. Among (found (chosen m w) j d) (alternatives s ts (n + 1) i c)) same
       (alternatives-complete s ts (n + 1) k one w i j c d e h))
+
+-- THE PROGRAM'S LOOPS
+
+pub required_more : (more : ℕ → Captures → List Found) (least k : ℕ) (bs : List Begun) → k < least
+    → required more (least - k) bs ≡ required more (least - (k + 1)) (go_on true more bs)
+required_more more least k bs b =
+    let one : least - k ≡ suc (least - (k + 1)) = omega arith in ap (λ n. required more n bs) one
+
+pub at_most_more : (more : ℕ → Captures → List Found) (n k : ℕ) (bs : List Begun) → k < n
+    → at_most more (n - k) bs ≡ bs ++ at_most more (n - (k + 1)) (go_on false more bs)
+at_most_more more n k bs b =
+    let one : n - k ≡ suc (n - (k + 1)) = omega arith in ap (λ m. at_most more m bs) one
+
+pub at_most_over : (more : ℕ → Captures → List Found) (n k : ℕ) (bs : List Begun) → n ≤ k → at_most more (n - k) bs ≡ bs
+at_most_over more n k bs b = let none_left : n - k ≡ 0 = omega arith in ap (λ m. at_most more m bs) none_left

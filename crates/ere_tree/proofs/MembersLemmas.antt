@@ -1,7 +1,7 @@
 -- Sets of bytes as lists.
-use Rattle.std.proofs.Common.{◌≡◌, ℕ, Bool, true, false, cond, List, [], ◌∷◌, ◌++◌, ◌<◌, ◌≤◌, ◌==◌, ◌&&◌, ◌||◌, zero, suc, refl, sym, ap, ◌∙◌, subst, arith, ltb, eqb, eq-eqb, inl, inr}
+use Rattle.std.proofs.Common.{◌≡◌, ℕ, Bool, true, false, cond, List, [], ◌∷◌, ◌<◌, ◌==◌, ◌&&◌, ◌||◌, zero, suc, refl, sym, ap, ◌∙◌, arith, ltb, eqb, eq-eqb, inl, inr}
 use Rattle.std.specs.List.{filter, list_any}
-use Rattle.std.proofs.lemmas.Bool.{lt-ltb, le-ltb, ltb-true, ltb-false, ne_eqb, eqb-true, cases_lt}
+use Rattle.std.proofs.lemmas.Bool.{lt-ltb, le-ltb, ne_eqb, cases_lt}
 use Rattle.std.proofs.lemmas.List.Folds.{list_any-append}
 use Rattle.std.proofs.lemmas.List.Elements.{filter-append}
 use Rattle.ere_tree.specs.Tree.{numbers_below, bytes_passing}
@@ -36,10 +36,10 @@ last_number : (test : ℕ → Bool) (x n : ℕ) (t : Bool) → test n ≡ t
     → ((ltb x n && test x) || list_any (λ b. b == x) (cond t (n ∷ []) [])) ≡ (ltb x (suc n) && test x)
 last_number test x n t e =
     elim (cases_lt x n) [
-      inl lower ↦ before test x n t (lt-ltb x n lower) (lt-ltb x (suc n) (omega arith)) (ne_eqb n x (λ p. absurd (omega arith)))
+      | inl lower ↦ before test x n t (lt-ltb x n lower) (lt-ltb x (suc n) (omega arith)) (ne_eqb n x (λ p. absurd (omega arith)))
       | inr upper ↦
           elim (cases_lt n x) [
-            inl above ↦ behind test x n t (le-ltb x n upper) (le-ltb x (suc n) (omega arith)) (ne_eqb n x (λ p. absurd (omega arith)))
+            | inl above ↦ behind test x n t (le-ltb x n upper) (le-ltb x (suc n) (omega arith)) (ne_eqb n x (λ p. absurd (omega arith)))
             | inr equal ↦ at_last test x n t e (omega arith)
           ]
     ]

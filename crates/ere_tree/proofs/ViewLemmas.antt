@@ -1,5 +1,5 @@
 -- How the views of the slow program's values grow.
-use Rattle.std.proofs.Common.{◌≡◌, ℕ, Bool, true, false, cond, Option, Some, None, List, [], ◌∷◌, ◌++◌, ◌+◌, ◌<◌, ◌≤◌, length, map, get_or, take, drop, min, not, true≢false, ◌==◌, eq-eqb, length-drop, vec_len, refl, sym, ap, ◌∙◌, subst, arith, drop-cons, eqb, add-one, rules}
+use Rattle.std.proofs.Common.{◌≡◌, ℕ, true, false, cond, Some, None, List, [], ◌∷◌, ◌++◌, ◌+◌, ◌<◌, ◌≤◌, length, map, get_or, take, drop, min, not, true≢false, ◌==◌, eq-eqb, length-drop, vec_len, refl, sym, ap, ◌∙◌, arith, drop-cons, eqb, add-one, rules}
 use Rattle.std.proofs.lemmas.List.{take_more, length-map}
 use Rattle.std.proofs.lemmas.Bool.{ne_eqb}
 use Rattle.std.proofs.Math.ListN.{get_or-map}
@@ -10,7 +10,7 @@ use Rattle.std.specs.Cmp.{unsigned_tied}
 use Rattle.std.specs.FinMap.{get, insert, empty, get-insert, get-empty}
 use Rattle.std.specs.Ordering.{nat_cmp, ordering_then, ordering_index}
 use Rattle.ere_tree.specs.Captures.{Captures}
-use Rattle.ere_tree.specs.Derivation.{Way, Ways, done, next}
+use Rattle.ere_tree.specs.Derivation.{Way, next}
 use Rattle.ere_tree.specs.Preference.{within, in_order, preference}
 use Rattle.ere_tree.specs.WayView.{after_settings, ways_of, way_of, step_of, row_of}
 use Rattle.ere_tree.specs.declared.way.OwnedWay.TheFolds.{fold_out-OwnedWays, fold_out-OwnedStep}

@@ -1,6 +1,6 @@
 -- What the slow program lists: all derivations of a tree from one place and with the same captures, one by one.
 -- Its own functions alone cite this. What its answers mean is said by `Derives` and `IsHit`.
-use Rattle.std.specs.Prelude.{◌≡◌, ℕ, Bool, true, false, Option, Some, None, List, [], ◌∷◌, ◌++◌, ◌+◌, ◌-◌, ◌==◌, ◌||◌, ◌&&◌, nat_lt, nat_le, cond, min, zero, suc, length, map, filter, take, drop, slice_index}
+use Rattle.std.specs.Prelude.{ℕ, Bool, true, false, Option, Some, None, List, [], ◌∷◌, ◌++◌, ◌+◌, ◌-◌, ◌==◌, ◌||◌, ◌&&◌, nat_lt, nat_le, cond, min, zero, suc, length, map, filter, slice_index}
 use Rattle.std.specs.List.{flat_map, list_any}
 use Rattle.std.specs.Str.{bytes_eq}
 use Rattle.std.specs.Char.{to_ascii_lowercase}

@@ -1,7 +1,7 @@
 //! The derivations of an expression, listed one by one: the definitions as a plain, slow program, for small texts.
-ghost use Rattle.std.specs.Prelude.{◌≡◌, ℕ, ◌==◌, ◌++◌, IfOk, OnOk, map, slice_index};
+ghost use Rattle.std.specs.Prelude.{◌≡◌, ℕ, ◌-◌, ◌==◌, ◌++◌, length, IfOk, OnOk, map, slice_index};
 ghost use Rattle.ere_tree.specs.Derivation.{part, parts, members};
-ghost use Rattle.ere_tree.specs.Listing.{found_of, begun_of, trees_in, one_if, stands, is_one_of, further, each_behind, begin, required, at_most, found_of_row, found_chosen, found_inside, all_ways, all_rows, alternatives};
+ghost use Rattle.ere_tree.specs.Listing.{found_of, begun_of, trees_in, one_if, stands, is_one_of, further, each_behind, begin, required, at_most, found_of_row, found_chosen, found_inside, repeat_ways, all_ways, all_rows, alternatives};
 ghost use Rattle.ere_tree.specs.Listing as listing;
 ghost use Rattle.ere_tree.specs.View.{view, members_of};
 ghost use Rattle.ere_tree.specs.WayView.{captures_of};
@@ -332,6 +332,30 @@ fn further_members(least: u32, most: Option<u32>, left: usize) -> Option<usize>
     }
 }
 
+/// The derivations of a repeat.
+#[cycle(ways)]
+fn ways_of_repeat(
+    alloc: Global,
+    inner: &Ere,
+    least: u32,
+    most: Option<u32>,
+    text: &[u8],
+    from: usize,
+    captures: &Settings,
+) -> Result<Vec<Derivation>, AllocError>
+    ensures { IfOk result (λ found. map found_of found.items ≡
+        repeat_ways (all_ways text.now (view inner.now)) least (further least most (length text.now - from))
+        from (captures_of captures.now)) }
+{
+    match further_members(least, most, text.len().saturating_sub(from)) {
+        None => Ok(Vec::new(alloc)),
+        Some(more) => found_members(
+            alloc,
+            rows_of_members(alloc, inner, text, from, captures, least, more)?,
+        ),
+    }
+}
+
 /// The derivations of an expression from one place and with the same captures.
 #[cycle(ways)]
 fn ways_of(
@@ -368,17 +392,9 @@ fn ways_of(
         ),
         Ere::Cat(all) => found_parts(alloc, rows_of_parts(alloc, all, text, from, captures)?),
         Ere::Alt(all) => ways_of_alternatives(alloc, all, text, from, captures),
-        Ere::Repeat { inner, least, most } => match further_members(
-            *least,
-            *most,
-            text.len().saturating_sub(from),
-        ) {
-            None => Ok(Vec::new(alloc)),
-            Some(more) => found_members(
-                alloc,
-                rows_of_members(alloc, inner, text, from, captures, *least, more)?,
-            ),
-        },
+        Ere::Repeat { inner, least, most } => ways_of_repeat(
+            alloc, inner, *least, *most, text, from, captures,
+        ),
         Ere::Group { number, inner } => {
             let held = ways_of(alloc, inner, text, from, captures)?;
             found_in_group(alloc, held, *number, from)

@@ -24,10 +24,10 @@ abbrev pub invariant-rows_of_members-loop-2 : goal.invariant-rows_of_members-loo
 invariant-rows_of_members-loop-2 l =
     map begun_of l.all.items ++ at_most (all_ways l.text (view l.inner)) (l.more - l.counter) (map begun_of l.rows.items)
     ≡ at_most (all_ways l.text (view l.inner)) l.more
-        (required (all_ways l.text (view l.inner)) l.least (begin l.from (captures_of l.captures)))
+    (required (all_ways l.text (view l.inner)) l.least (begin l.from (captures_of l.captures)))
 
 abbrev pub invariant-ways_of_alternatives-loop-index : goal.invariant-ways_of_alternatives-loop-index
 invariant-ways_of_alternatives-loop-index l =
     map found_of l.found.items
-        ++ alternatives l.text (trees_of (map view (drop l.index l.one-items))) l.index l.from (captures_of l.captures)
+    ++ alternatives l.text (trees_of (map view (drop l.index l.one-items))) l.index l.from (captures_of l.captures)
     ≡ alternatives l.text (trees_in l.all) 0 l.from (captures_of l.captures)

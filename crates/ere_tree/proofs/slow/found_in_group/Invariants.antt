@@ -1,7 +1,6 @@
-use Rattle.std.proofs.Common.{◌≡◌, ◌++◌, ◌-◌, map, take, drop}
+use Rattle.std.proofs.Common.{◌≡◌, ◌++◌, map}
 use Rattle.std.specs.Vec.Iter.{into_iter_items}
-use Rattle.ere_tree.specs.Derivation.{parts, members}
-use Rattle.ere_tree.specs.Listing.{found_of, begun_of, found_of_row, found_inside}
+use Rattle.ere_tree.specs.Listing.{found_of, found_inside}
 use Rattle.ere_tree.proofs.slow.found_in_group.Given as goal
 
 abbrev pub invariant-loop-one : goal.invariant-loop-one

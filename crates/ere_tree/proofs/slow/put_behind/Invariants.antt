@@ -1,4 +1,4 @@
-use Rattle.std.proofs.Common.{◌≡◌, ◌++◌, ◌-◌, map, take, drop}
+use Rattle.std.proofs.Common.{◌≡◌, ◌++◌, map}
 use Rattle.std.specs.Vec.Iter.{into_iter_items}
 use Rattle.ere_tree.specs.Listing.{found_of, begun_of, each_behind}
 use Rattle.ere_tree.proofs.slow.put_behind.Given as goal

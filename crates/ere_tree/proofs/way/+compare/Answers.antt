@@ -1,4 +1,4 @@
-use Rattle.std.proofs.Common.{◌≡◌, arith, sym, ◌∙◌}
+use Rattle.std.proofs.Common.{arith, sym, ◌∙◌}
 use Rattle.std.specs.Ordering.{ordering_then}
 use Rattle.ere_tree.proofs.ViewLemmas.{rows_decided, rows_undecided, rows_over}
 use Rattle.ere_tree.proofs.way.+compare.Goals as goal

@@ -1,4 +1,4 @@
-use Rattle.std.proofs.Common.{◌≡◌, map, drop}
+use Rattle.std.proofs.Common.{◌≡◌, drop}
 use Rattle.ere_tree.specs.Preference.{in_order}
 use Rattle.ere_tree.specs.WayView.{ways_of, row_of}
 use Rattle.ere_tree.proofs.way.+compare.Given as goal

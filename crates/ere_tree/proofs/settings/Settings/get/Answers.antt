@@ -1,4 +1,4 @@
-use Rattle.std.proofs.Common.{◌≡◌, sym, ◌∙◌}
+use Rattle.std.proofs.Common.{sym, ◌∙◌}
 use Rattle.ere_tree.proofs.ViewLemmas.{get_unset, get_settings_same, get_settings_other}
 use Rattle.ere_tree.proofs.settings.Settings.get.Goals as goal
 use Rattle.ere_tree.proofs.settings.Settings.get.Goals.{then-setting-number, else-setting-number}
