@@ -1,7 +1,8 @@
 -- Membership by cases on the list, and how it passes through std's words on lists.
-use Rattle.std.proofs.Common.{◌≡◌, Bool, true, false, cond, List, [], ◌∷◌, ◌++◌, map, refl, sym, ap, ◌∙◌, subst, inl, inr, true≢false}
+use Rattle.std.proofs.Common.{◌≡◌, Bool, true, false, cond, suc, List, [], ◌∷◌, ◌++◌, map, refl, sym, ap, ◌∙◌, subst, inl, inr, arith, true≢false}
 use Rattle.std.specs.Prelude.{◌⊎◌}
-use Rattle.std.specs.List.{filter, flat_map}
+use Rattle.std.specs.List.{filter, flat_map, All, Any, Contains}
+use Rattle.std.proofs.lemmas.List.Elements.{All-nil, All-cons, All-head, All-tail, All-contains}
 
 -- x is one of the list
 abbrev pub Among : {X : Type 0} → X → List X → Type 0
@@ -77,3 +78,24 @@ from_filter_step p x z xs false e k g = let r = k g in (inr r.0, r.1)
 pub from_filter : {X : Type 0} (p : X → Bool) (x : X) (xs : List X) → Among x (filter p xs) → Among x xs × (p x ≡ true)
 from_filter p x [] h = absurd h
 from_filter p x (z ∷ xs) h = from_filter_step p x z xs (p z) refl (from_filter p x xs) h
+
+-- std's words
+pub all_from : {X : Type 0} (P : X → Type 0) (xs : List X) → ((x : X) → Among x xs → P x) → All P xs
+all_from P [] f = All-nil P
+all_from P (y ∷ ys) f = All-cons P y ys (f y (inl refl)) (all_from P ys (λ x h. f x (inr h)))
+
+pub all_at : {X : Type 0} (P : X → Type 0) (xs : List X) (x : X) → All P xs → Among x xs → P x
+all_at P [] x a h = absurd h
+all_at P (y ∷ ys) x a (inl e) = subst P (sym e) (All-head P y ys a)
+all_at P (y ∷ ys) x a (inr h) = all_at P ys x (All-tail P y ys a) h
+
+pub contains_from : {X : Type 0} (xs : List X) (x : X) → Among x xs → Contains xs x
+contains_from [] x h = absurd h
+contains_from (y ∷ ys) x (inl e) = (0, omega arith, sym e)
+contains_from (y ∷ ys) x (inr h) = let r = contains_from ys x h in (suc r.0, omega (arith, r.1), r.2)
+
+pub from_contains : {X : Type 0} (xs : List X) (x : X) → Contains xs x → Among x xs
+from_contains xs x h = All-contains (λ y. Among y xs) xs x (all_from (λ y. Among y xs) xs (λ y g. g)) h
+
+pub any_from : {X : Type 0} (P : X → Type 0) (xs : List X) (x : X) → Among x xs → P x → Any P xs
+any_from P xs x h p = let r = contains_from xs x h in (r.0, x, r.1, r.2, p)

@@ -5,3 +5,4 @@ pub mod Among
 pub mod ListingLemmas
 pub mod MembersLemmas
 pub mod EreViews
+pub mod SlowLemmas

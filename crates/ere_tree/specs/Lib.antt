@@ -3,6 +3,7 @@ pub mod Derivation
 pub mod Hit
 pub mod Listing
 pub mod Preference
+pub mod Slow
 pub mod Tree
 pub mod View
 pub mod WayView

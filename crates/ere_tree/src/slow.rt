@@ -1,9 +1,12 @@
 //! The derivations of an expression, listed one by one: the definitions as a plain, slow program, for small texts.
-ghost use Rattle.std.specs.Prelude.{◌≡◌, ℕ, ◌-◌, ◌==◌, ◌++◌, length, IfOk, OnOk, map, slice_index};
+ghost use Rattle.std.specs.Prelude.{◌≡◌, ℕ, ◌-◌, ◌==◌, ◌++◌, ◌↔◌, List, [], ◌∷◌, length, MatchOption, IsTrue, IfOk, OnOk, map, slice_index};
 ghost use Rattle.ere_tree.specs.Derivation.{part, parts, members};
 ghost use Rattle.ere_tree.specs.Listing.{found_of, begun_of, trees_in, one_if, stands, is_one_of, further, each_behind, begin, required, at_most, found_of_row, found_chosen, found_inside, repeat_ways, all_ways, all_rows, alternatives};
 ghost use Rattle.ere_tree.specs.Listing as listing;
 ghost use Rattle.ere_tree.specs.View.{view, members_of};
+ghost use Rattle.std.specs.FinMap.{empty};
+ghost use Rattle.ere_tree.specs.Hit.{IsHit, HasNoHit};
+ghost use Rattle.ere_tree.specs.Slow.{AreDerivations, AreAllDerivations, IsPreferredTo, IsMostPreferred};
 ghost use Rattle.ere_tree.specs.WayView.{captures_of};
 
 use crate::byte_set::ByteSet;
@@ -414,30 +417,44 @@ fn ways_of(
 }
 
 /// All derivations of the expression in the slice `text` from the place `from`, with no group set before.
+#[tactic(auto, using(crate::proofs::SlowLemmas::listed_derive, crate::proofs::SlowLemmas::derived_are_listed))]
 pub fn derivations(
     alloc: Global,
     ere: &Ere,
     text: &[u8],
     from: usize,
-) -> Result<Vec<Derivation>, AllocError> {
+) -> Result<Vec<Derivation>, AllocError>
+    ensures sound { IfOk result (λ found. AreDerivations text.now (view ere.now) from empty found.items) }
+    ensures complete { IfOk result (λ found. AreAllDerivations text.now (view ere.now) from empty found.items) }
+{
     let unset = Settings::none(alloc);
     ways_of(alloc, ere, text, from, &unset)
 }
 
+/// Whether the first derivation is preferred to the second.
+fn is_preferred(one: &Derivation, other: &Derivation) -> bool
+    ensures { IsTrue result ↔ IsPreferredTo one.now other.now }
+{
+    other.to.cmp(&one.to).then(one.way.compare(&other.way)) == Ordering::Less
+}
+
+/// The most preferred of some derivations and one more.
+fn better(held: Option<Derivation>, one: Derivation) -> Derivation
+    ensures { (ds : List Derivation) → MatchOption held (ds ≡ []) (IsMostPreferred ds) → IsMostPreferred (ds ++ one ∷ []) result }
+{
+    match held {
+        None => one,
+        Some(best) => { if is_preferred(&one, &best) { one } else { best } }
+    }
+}
+
 /// Of derivations from one place, one to which no other is preferred. None if there are none.
-fn most_preferred(found: Vec<Derivation>) -> Option<Derivation> {
-    let mut best: Option<Derivation> = None;
+fn most_preferred(found: Vec<Derivation>) -> Option<Derivation>
+    ensures { MatchOption result (found.items ≡ []) (IsMostPreferred found.items) }
+{
+    let mut best = None;
     for one in found {
-        best = match best {
-            None => Some(one),
-            Some(held) => {
-                if held.to.cmp(&one.to).then(one.way.compare(&held.way)) == Ordering::Less {
-                    Some(one)
-                } else {
-                    Some(held)
-                }
-            }
-        };
+        best = Some(better(best, one));
     }
     best
 }
@@ -448,8 +465,12 @@ pub fn slow_hit(
     ere: &Ere,
     text: &[u8],
     from: usize,
-) -> Result<Option<SlowHit>, AllocError> {
-    for start in from..=text.len() {
+) -> Result<Option<SlowHit>, AllocError>
+    ensures { IfOk result (λ found. MatchOption found
+        (HasNoHit text.now (view ere.now) from)
+        (λ hit. IsHit text.now (view ere.now) from hit.from hit.to (captures_of hit.captures))) }
+{
+    for start in from..text.len() + 1 {
         let found = derivations(alloc, ere, text, start)?;
         if let Some(best) = most_preferred(found) {
             return Ok(Some(SlowHit {
