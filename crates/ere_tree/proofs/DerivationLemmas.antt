@@ -23,7 +23,8 @@ mutual
   moves_on s (back number fold) leaf i j c d h = h.2.0
   moves_on s t w i j c d h = absurd h
 
-  pub all_move_on : (s : List ℕ) (ts : Trees) (ws : Ways) (i j : ℕ) (c d : Captures) → DerivesAll s ts ws i j c d → i ≤ j
+  pub all_move_on : (s : List ℕ) (ts : Trees) (ws : Ways) (i j : ℕ) (c d : Captures) → DerivesAll s ts ws i j c d
+      → i ≤ j
   all_move_on s none done i j c d h = omega arith
   all_move_on s (then t ts) (next k w ws) i j c d h =
       omega (arith, moves_on s t w i k c h.0 h.1, all_move_on s ts ws k j h.0 d h.2)
@@ -95,8 +96,11 @@ mutual
   pub one_end : (s : List ℕ) (t : Tree) (w : Way) (i j k : ℕ) (c d e : Captures)
       → Derives s t w i j c d → Derives s t w i k c e → (j ≡ k) × (d ≡ e)
   one_end s empty leaf i j k c d e h g = (h.0 ∙ sym g.0, h.1 ∙ sym g.1)
-  one_end s (plain bytes) leaf i j k c d e h g =
-      (omega (arith, length-part s i j h.0.0 h.0.1, length-part s i k g.0.0 g.0.1, ap length (h.1 ∙ sym g.1)), h.2 ∙ sym g.2)
+  one_end s (plain bytes) leaf i j k c d e h g = (
+    omega (arith, length-part s i j h.0.0 h.0.1, length-part s i k g.0.0 g.0.1, ap length (h.1 ∙ sym g.1)),
+    h.2
+        ∙ sym g.2,
+  )
   one_end s (set bytes) leaf i j k c d e h g = (h.0 ∙ sym g.0, h.3 ∙ sym g.3)
   one_end s line_start leaf i j k c d e h g = (h.0 ∙ sym g.0, h.2 ∙ sym g.2)
   one_end s line_end leaf i j k c d e h g = (h.0 ∙ sym g.0, h.2 ∙ sym g.2)

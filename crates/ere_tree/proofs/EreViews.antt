@@ -8,4 +8,5 @@ use Rattle.ere_tree.specs.declared.ere.Ere.TheFolds.{fold-roll-Ere}
 
 pub view_repeat : (inner : Box Ere Global) (least : ℕ) (most : Option ℕ)
     → view (Repeat inner least most) ≡ repeat (view inner.value) least most
-view_repeat inner least most = ap view (sym (rolls-Repeat inner least most)) ∙ fold-roll-Ere Tree (List Tree) view_step list_step _
+view_repeat inner least most = ap view (sym (rolls-Repeat inner least most))
+    ∙ fold-roll-Ere Tree (List Tree) view_step list_step _

@@ -48,7 +48,8 @@ is-same_text : (fold : Bool) (xs ys : List ℕ) → IsSameText fold xs ys → sa
 is-same_text false xs ys e = (bytes_eq-Decides xs ys).1 e
 is-same_text true xs ys e = (bytes_eq-Decides (map to_ascii_lowercase xs) (map to_ascii_lowercase ys)).1 e
 
-is_one_of-Contains : (bytes s : List ℕ) (i : ℕ) → is_one_of bytes s i ≡ true → (i < length s) × Contains bytes (slice_index s i)
+is_one_of-Contains : (bytes s : List ℕ) (i : ℕ) → is_one_of bytes s i ≡ true
+    → (i < length s) × Contains bytes (slice_index s i)
 is_one_of-Contains bytes s i e =
     let x = slice_index s i in
     let both = both_true _ _ e in
@@ -56,19 +57,22 @@ is_one_of-Contains bytes s i e =
     let same : some.1 ≡ x = eqb-true some.1 x some.4 in
     (ltb-true _ _ both.0, (some.0, some.2, subst (λ y. slice_index_or bytes some.0 y ≡ y) same some.3))
 
-Contains-is_one_of : (bytes s : List ℕ) (i : ℕ) → i < length s → Contains bytes (slice_index s i) → is_one_of bytes s i ≡ true
+Contains-is_one_of : (bytes s : List ℕ) (i : ℕ) → i < length s → Contains bytes (slice_index s i)
+    → is_one_of bytes s i ≡ true
 Contains-is_one_of bytes s i b h =
     let x = slice_index s i in
     true_both _ _ (lt-ltb _ _ b) (list_any_at (λ b. b == x) bytes h.0 x h.1 (eq-eqb _ _ h.2))
 
 -- TEXTS
 
-one_if-found : (test : Bool) (j : ℕ) (c : Captures) (f : Found) → Among f (one_if test j c) → (test ≡ true) × (f ≡ found leaf j c)
+one_if-found : (test : Bool) (j : ℕ) (c : Captures) (f : Found) → Among f (one_if test j c)
+    → (test ≡ true) × (f ≡ found leaf j c)
 one_if-found true j c f (inl e) = (refl, e)
 one_if-found true j c f (inr h) = absurd h
 one_if-found false j c f h = absurd h
 
-found-one_if : (test : Bool) (i j : ℕ) (c d : Captures) → test ≡ true → j ≡ i → d ≡ c → Among (found leaf j d) (one_if test i c)
+found-one_if : (test : Bool) (i j : ℕ) (c d : Captures) → test ≡ true → j ≡ i → d ≡ c
+    → Among (found leaf j d) (one_if test i c)
 found-one_if true i j c d t e f = inl (λ n. found leaf (e n) (f n))
 found-one_if false i j c d t e f = absurd (true≢false (sym t))
 
@@ -82,8 +86,11 @@ stands-part fold s i text e =
 part-stands : (fold : Bool) (s : List ℕ) (i j : ℕ) (text : List ℕ) → IsPart s i j → IsSameText fold (part s i j) text
     → (j ≡ i + length text) × (stands fold s i text ≡ true)
 part-stands fold s i j text p h =
-    let end : j ≡ i + length text = omega (arith, length-part s i j p.0 p.1, same_length fold _ _ h, p.0) in
-    (end, true_both _ _ (le-leb _ _ (omega (arith, p.1, end))) (is-same_text fold _ _ (subst (λ k. IsSameText fold (part s i k) text) end h)))
+    let end : j ≡ i + length text = omega (arith, length-part s i j p.0 p.1, same_length fold _ _ h, p.0) in (
+      end,
+      true_both _ _ (le-leb _ _ (omega (arith, p.1, end)))
+          (is-same_text fold _ _ (subst (λ k. IsSameText fold (part s i k) text) end h)),
+    )
 
 -- ROWS
 
@@ -93,7 +100,8 @@ go_on-Among may more a f bs h g t =
     flat_mapped (λ b. each_behind may b (more b.to b.captures)) (behind a f) a bs h
     (mapped (behind a) f _ (filtered (λ x. may || nat_lt a.to x.to) f _ t g))
 
-Among-go_on : (may : Bool) (more : ℕ → Captures → List Found) (b : Begun) (bs : List Begun) → Among b (go_on may more bs)
+Among-go_on : (may : Bool) (more : ℕ → Captures → List Found) (b : Begun) (bs : List Begun)
+    → Among b (go_on may more bs)
     → (a : Begun) × (f : Found) × Among a bs × Among f (more a.to a.captures)
     × ((may || nat_lt a.to f.to) ≡ true) × (b ≡ behind a f)
 Among-go_on may more b bs h =
@@ -103,7 +111,8 @@ Among-go_on may more b bs h =
     (r.0, m.0, r.1, g.0, g.1, m.2)
 
 -- more behind a row
-listed_more : (xs : List (ℕ × Way)) (k : ℕ) (w : Way) (ws : Ways) → (xs ++ (k, w) ∷ []) ++ listed ws ≡ xs ++ listed (next k w ws)
+listed_more : (xs : List (ℕ × Way)) (k : ℕ) (w : Way) (ws : Ways)
+    → (xs ++ (k, w) ∷ []) ++ listed ws ≡ xs ++ listed (next k w ws)
 listed_more xs k w ws = append_assoc xs ((k, w) ∷ []) (listed ws)
 
 -- EACH THAT IS LISTED DERIVES
@@ -189,7 +198,8 @@ repeat-sound_row s t least most i c f b is a ws start row fits each =
     let whole : Derives s (repeat t least most) (members ws) i b.to c b.captures =
     (fits, subst (λ x. DerivesEach s t least ws x.to b.to x.captures b.captures) (start_is i c a start) each) in
     subst (λ g. Derives s (repeat t least most) g.way i g.to c g.captures) (sym is)
-    (subst (λ v. Derives s (repeat t least most) (members v) i b.to c b.captures) (sym (row_from_none i c a b ws start row)) whole)
+    (subst (λ v. Derives s (repeat t least most) (members v) i b.to c b.captures)
+    (sym (row_from_none i c a b ws start row)) whole)
 
 repeat-sound_at : (s : List ℕ) (t : Tree) (more : ℕ → Captures → List Found) → IsSound s t more
     → (least : ℕ) (most : Option ℕ) (k : ℕ) (o : Option ℕ) → further least most k ≡ o
@@ -253,7 +263,8 @@ mutual
       let whole : Derives s (cat all) (parts r.1) i b.0.to c b.0.captures =
       subst (λ x. DerivesAll s all r.1 x.to b.0.to x.captures b.0.captures) start r.4 in
       subst (λ g. Derives s (cat all) g.way i g.to c g.captures) (sym b.2)
-      (subst (λ v. Derives s (cat all) (parts v) i b.0.to c b.0.captures) (sym (row_from_none i c r.0 b.0 r.1 r.2 r.3)) whole)
+      (subst (λ v. Derives s (cat all) (parts v) i b.0.to c b.0.captures)
+      (sym (row_from_none i c r.0 b.0 r.1 r.2 r.3)) whole)
   all_ways-sound s (alt all) i c f h =
       let r = alternatives-sound s all 0 i c f h in
       let index : 0 + r.index ≡ r.index = omega arith in
@@ -285,7 +296,8 @@ mutual
         (f.captures, all_ways-sound s t a.to a.captures f b.3, rest),
       )
 
-  alternatives-sound : (s : List ℕ) (ts : Trees) (n i : ℕ) (c : Captures) (f : Found) → Among f (alternatives s ts n i c)
+  alternatives-sound : (s : List ℕ) (ts : Trees) (n i : ℕ) (c : Captures) (f : Found)
+      → Among f (alternatives s ts n i c)
       → OneOf s ts n i c f
   alternatives-sound s none n i c f h = absurd h
   alternatives-sound s (then t ts) n i c f h =
@@ -336,7 +348,8 @@ at_most-complete s t more complete (suc n) (next k w ws) bs a j d h b g =
     let f = found w k g.0 in
     let rest = at_most-complete s t more complete n ws (go_on false more bs) (behind a f) j d
     (go_on-Among false more a f bs h (complete w a.to k a.captures g.0 g.1) (lt-ltb _ _ g.2)) (omega arith) g.3 in
-    right _ bs _ (subst (λ r. Among (begun r j d) (at_most more n (go_on false more bs))) (listed_more a.row k w ws) rest)
+    right _ bs _ (subst (λ r. Among (begun r j d) (at_most more n (go_on false more bs)))
+    (listed_more a.row k w ws) rest)
 
 required-complete : (s : List ℕ) (t : Tree) (more : ℕ → Captures → List Found) → IsComplete s t more
     → (n : ℕ) (least : ℕ) (ws : Ways) (bs : List Begun) (a : Begun) (j : ℕ) (d : Captures) → Among a bs
@@ -350,7 +363,8 @@ required-complete s t more complete n (suc least) (next k w ws) bs a j d h l b g
     let f = found w k g.0 in
     let rest = required-complete s t more complete n least ws (go_on true more bs) (behind a f) j d
     (go_on-Among true more a f bs h (complete w a.to k a.captures g.0 g.1) refl) (omega arith) (omega arith) g.2 in
-    subst (λ r. Among (begun r j d) (at_most more n (required more least (go_on true more bs)))) (listed_more a.row k w ws) rest
+    subst (λ r. Among (begun r j d) (at_most more n (required more least (go_on true more bs))))
+    (listed_more a.row k w ws) rest
 
 -- bounds that a number of members meets allow that number of further members
 fits-further : (least : ℕ) (most : Option ℕ) (k count : ℕ) → CanRepeat least most count → count ≤ least + k
@@ -370,7 +384,8 @@ repeat-complete s t more complete least most ws i j c d fits h =
     let bound : i ≤ max i (length s) = omega arith in
     let size : length s ≤ max i (length s) = omega arith in
     let end = each_stays_within s t least ws i j c d (max i (length s)) size bound h in
-    let n = fits-further least most (length s - i) (count_of ws) fits (omega (arith, each_count s t least ws i j c d h, end)) in
+    let n = fits-further least most (length s - i) (count_of ws) fits
+    (omega (arith, each_count s t least ws i j c d h, end)) in
     let row = required-complete s t more complete n.0 least ws (begin i c) (begun [] i c) j d (inl refl) fits.0 n.2 h in
     let one = mapped (found_of_row members) _ _ row in
     subst (λ o. Among (found (members ws) j d) (repeat_ways more least o i c)) (sym n.1)
@@ -402,7 +417,8 @@ mutual
       (alternatives-complete s all 0 n h.0 w i j c d h.1 h.2)
   all_ways-complete s (alt all) w i j c d h = absurd h
   all_ways-complete s (repeat inner least most) (members ws) i j c d h =
-      repeat-complete s inner (all_ways s inner) (λ w k l e f. all_ways-complete s inner w k l e f) least most ws i j c d h.0 h.1
+      repeat-complete s inner (all_ways s inner)
+      (λ w k l e f. all_ways-complete s inner w k l e f) least most ws i j c d h.0 h.1
   all_ways-complete s (repeat inner least most) w i j c d h = absurd h
   all_ways-complete s (group number inner) (inside w) i j c d h =
       subst (λ e. Among (found (inside w) j e) (all_ways s (group number inner) i c)) (sym h.2)
@@ -425,13 +441,15 @@ mutual
       subst (λ r. Among (begun r j d) (all_rows s ts (go_on true (all_ways s t) bs))) (listed_more a.row k w ws) rest
 
   alternatives-complete : (s : List ℕ) (ts : Trees) (n k : ℕ) (one : Tree) (w : Way) (i j : ℕ) (c d : Captures)
-      → tree_at ts k ≡ Some one → Derives s one w i j c d → Among (found (chosen (n + k) w) j d) (alternatives s ts n i c)
+      → tree_at ts k ≡ Some one → Derives s one w i j c d
+      → Among (found (chosen (n + k) w) j d) (alternatives s ts n i c)
   alternatives-complete s none n k one w i j c d e h = absurd (none-some one e)
   alternatives-complete s (then t ts) n zero one w i j c d e h =
       let same : n + 0 ≡ n = omega arith in
       let here = all_ways-complete s t w i j c d (subst (λ u. Derives s u w i j c d) (sym (some_same _ _ e)) h) in
       left _ (map (found_chosen n) (all_ways s t i c)) _
-      (subst (λ m. Among (found (chosen m w) j d) (map (found_chosen n) (all_ways s t i c))) (sym same) (mapped (found_chosen n) _ _ here))
+      (subst (λ m. Among (found (chosen m w) j d) (map (found_chosen n) (all_ways s t i c))) (sym same)
+      (mapped (found_chosen n) _ _ here))
   alternatives-complete s (then t ts) n (suc k) one w i j c d e h =
       let same : n + 1 + k ≡ n + suc k = omega arith in
       right _ (map (found_chosen n) (all_ways s t i c)) _

@@ -36,10 +36,12 @@ last_number : (test : ℕ → Bool) (x n : ℕ) (t : Bool) → test n ≡ t
     → ((ltb x n && test x) || list_any (λ b. b == x) (cond t (n ∷ []) [])) ≡ (ltb x (suc n) && test x)
 last_number test x n t e =
     elim (cases_lt x n) [
-      | inl lower ↦ before test x n t (lt-ltb x n lower) (lt-ltb x (suc n) (omega arith)) (ne_eqb n x (λ p. absurd (omega arith)))
+      | inl lower ↦ before test x n t (lt-ltb x n lower) (lt-ltb x (suc n) (omega arith))
+          (ne_eqb n x (λ p. absurd (omega arith)))
       | inr upper ↦
           elim (cases_lt n x) [
-            | inl above ↦ behind test x n t (le-ltb x n upper) (le-ltb x (suc n) (omega arith)) (ne_eqb n x (λ p. absurd (omega arith)))
+            | inl above ↦ behind test x n t (le-ltb x n upper) (le-ltb x (suc n) (omega arith))
+                (ne_eqb n x (λ p. absurd (omega arith)))
             | inr equal ↦ at_last test x n t e (omega arith)
           ]
     ]

@@ -47,7 +47,8 @@ mutual
 
   pub in_order_back : (ws vs : Ways) → in_order vs ws ≡ ordering_reverse (in_order ws vs)
   in_order_back (next j w ws) (next k v vs) =
-      let first : ordering_then (nat_cmp j k) (within v w) ≡ ordering_reverse (ordering_then (nat_cmp k j) (within w v)) =
+      let first : ordering_then (nat_cmp j k) (within v w)
+      ≡ ordering_reverse (ordering_then (nat_cmp k j) (within w v)) =
       (λ x. ordering_then (nat_cmp_total.antisymm j k x) (within_back w v x)) ∙ then_flip (nat_cmp k j) (within w v) in
       (λ x. ordering_then (first x) (in_order_back ws vs x)) ∙ then_flip _ (in_order ws vs)
   in_order_back (next j w ws) done = refl
@@ -185,7 +186,11 @@ ends_lead_on u w v j k m f =
     (λ x y. nat_cmp_total.trans m k j y x)
     (λ x y. nat_cmp_total.congr m k j y ∙ x)
     (λ x y. sym (alike_right nat_cmp_total k j m x) ∙ y)
-    (λ x y. (nat_cmp_total.congr m k j y ∙ x, f (sym (nat_cmp-IsAntisymmetric k j x)) (sym (nat_cmp-IsAntisymmetric m k y))))
+    (λ x y. (
+      nat_cmp_total.congr m k j y ∙ x,
+      f (sym (nat_cmp-IsAntisymmetric k j x))
+          (sym (nat_cmp-IsAntisymmetric m k y)),
+    ))
 
 equal_not_less : {A : Type 0} → Equal ≡ Less → A
 equal_not_less e = absurd (less_not_equal (sym e))
@@ -214,7 +219,8 @@ rows_lead_on s t u w v us ws vs i j k m c d e f leads h g q rest =
     one_head s t u w i j k c d e (λ n a b. same_way s t u w i n c a b) h g in
     let second : preference w k v m ≡ Equal → (w ≡ v) × (m ≡ k) × (f ≡ e) =
     one_head s t w v i k m c e f (λ n a b. same_way s t w v i n c a b) g q in
-    lead_on (preference u j w k) (preference w k v m) (preference u j v m) (in_order us ws) (in_order ws vs) (in_order us vs)
+    lead_on (preference u j w k) (preference w k v m) (preference u j v m) (in_order us ws) (in_order ws vs)
+    (in_order us vs)
     (heads_lead_on s t u w v i j k m c d e f leads h g q)
     (λ x y. let both = second y in (λ n. preference u j (sym both.0 n) (both.1 n)) ∙ x)
     (λ x y. let both = first x in (λ n. preference (both.0 n) (sym both.1 n) v m) ∙ y)
@@ -311,3 +317,5 @@ one_is_preferred s t w v i j k c d e h g differ =
 pub preference_leads_on : PreferenceLeadsOn
 preference_leads_on s t u w v i j k m c d e f h g q =
     heads_lead_on s t u w v i j k m c d e f (λ n a b o. within_leads_on s t u w v i n c a b o) h g q
+
+pub ruleset laws = (one_is_preferred, preference_leads_on, one_way_one_end)

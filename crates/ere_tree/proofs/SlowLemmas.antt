@@ -59,7 +59,8 @@ pub best_stays : (ds : List Derivation) (best one : Derivation) → IsMostPrefer
 best_stays ds best one h not_preferred = (
   contains_from (ds ++ one ∷ []) best (left best ds (one ∷ []) (from_contains ds best h.0)),
   λ s t i c are. All-push (λ x. IsPreferredTo x best → ⊥) ds one
-      (h.1 s t i c (all_left (λ d. Derives s t (way_of d.way) i d.to c (captures_of d.captures)) ds one are)) not_preferred,
+      (h.1 s t i c (all_left (λ d. Derives s t (way_of d.way) i d.to c
+      (captures_of d.captures)) ds one are)) not_preferred,
 )
 
 -- one more derivation, which is preferred to the best so far
@@ -75,7 +76,8 @@ best_changes ds best one h preferred = (
       (captures_of x.captures) (captures_of one.captures) (captures_of best.captures)
       (all_at (λ d. Derives s t (way_of d.way) i d.to c (captures_of d.captures)) ds x before g)
       (all_last (λ d. Derives s t (way_of d.way) i d.to c (captures_of d.captures)) ds one are)
-      (all_at (λ d. Derives s t (way_of d.way) i d.to c (captures_of d.captures)) ds best before (from_contains ds best h.0))
+      (all_at (λ d. Derives s t (way_of d.way) i d.to c (captures_of d.captures)) ds best before
+      (from_contains ds best h.0))
       p preferred)))
       (not_itself one),
 )
@@ -99,7 +101,8 @@ not_preferred s t i ds best are all most k v d h p =
     let listed : Contains ds x = (some.0, some.2, some.3) in
     let shows : Derives s t v i x.to empty (captures_of x.captures) =
     subst (λ w. Derives s t w i x.to empty (captures_of x.captures)) some.4
-    (all_at (λ d. Derives s t (way_of d.way) i d.to empty (captures_of d.captures)) ds x are (from_contains ds x listed)) in
+    (all_at (λ d. Derives s t (way_of d.way) i d.to empty (captures_of d.captures)) ds x are
+    (from_contains ds x listed)) in
     let end : k ≡ x.to = (one_end s t v i k x.to empty d (captures_of x.captures) h shows).0 in
     all_at (λ y. IsPreferredTo y best → ⊥) ds x (most.1 s t i empty are) (from_contains ds x listed)
     ((λ n. preference (some.4 n) (sym end n) (way_of best.way) best.to) ∙ p)
@@ -110,11 +113,13 @@ pub hit_here : (s : List ℕ) (t : Tree) (from i : ℕ) (ds : List Derivation) (
     → IsHit s t from i best.to (captures_of best.captures)
 hit_here s t from i ds best after within before are all most =
     let here : Derives s t (way_of best.way) i best.to empty (captures_of best.captures) =
-    all_at (λ d. Derives s t (way_of d.way) i d.to empty (captures_of d.captures)) ds best are (from_contains ds best most.0) in
+    all_at (λ d. Derives s t (way_of d.way) i d.to empty (captures_of d.captures)) ds best are
+    (from_contains ds best most.0) in
     record {
       way = way_of best.way;
       starts = after;
-      ends = stays_within s t (way_of best.way) i best.to empty (captures_of best.captures) (length s) (omega arith) within here;
+      ends = stays_within s t (way_of best.way) i best.to empty (captures_of best.captures) (length s)
+          (omega arith) within here;
       shows = here;
       leftmost = before;
       preferred = λ k v d h p. not_preferred s t i ds best are all most k v d h p;

@@ -40,7 +40,8 @@ step_is w = search (rules, fold_out-OwnedStep)
 -- the captures behind one more setting
 get_settings_more : (xs : List Setting) (i : ℕ) (d : Setting) (q : ℕ) → i < length xs
     → get (after_settings empty (take (i + 1) xs)) q
-    ≡ cond (eqb q (get_or xs i d).number) (Some ((get_or xs i d).from, (get_or xs i d).to)) (get (after_settings empty (take i xs)) q)
+    ≡ cond (eqb q (get_or xs i d).number) (Some ((get_or xs i d).from, (get_or xs i d).to))
+    (get (after_settings empty (take i xs)) q)
 get_settings_more xs i d q b =
     let x = get_or xs i d in
     ap (λ ys. get (after_settings empty ys) q) (take_more xs i d b)
@@ -70,7 +71,8 @@ pub in_order_drop : (xs ys : List (ℕ × Way)) (k : ℕ) (x y : ℕ × Way) →
     ≡ ordering_then (preference x.1 x.0 y.1 y.0) (in_order (ways_of (drop (k + 1) xs)) (ways_of (drop (k + 1) ys)))
 in_order_drop xs ys k x y a b e f =
     (λ n. in_order (ways_of (drop-cons xs k x a n)) (ways_of (drop-cons ys k y b n)))
-    ∙ (λ n. in_order (next (sym e n).0 (sym e n).1 (ways_of (drop (sym (add-one k) n) xs))) (next (sym f n).0 (sym f n).1 (ways_of (drop (sym (add-one k) n) ys))))
+    ∙ (λ n. in_order (next (sym e n).0 (sym e n).1 (ways_of (drop (sym (add-one k) n) xs)))
+    (next (sym f n).0 (sym f n).1 (ways_of (drop (sym (add-one k) n) ys))))
 
 over : (xs ys : List (ℕ × Way)) → min (length xs) (length ys) ≡ 0 → in_order (ways_of xs) (ways_of ys) ≡ Equal
 over [] [] h = refl
@@ -87,7 +89,8 @@ abbrev steps_of : OwnedWays → List OwnedStep
 steps_of w = (out-OwnedWays w).held.items
 
 at_row : (w : OwnedWays) (k : ℕ) (x : OwnedStep) → x ≡ get_or (steps_of w) k x
-    → ((out-OwnedStep x).to, way_of (out-OwnedStep x).way) ≡ get_or (row_of w) k ((out-OwnedStep x).to, way_of (out-OwnedStep x).way)
+    → ((out-OwnedStep x).to, way_of (out-OwnedStep x).way)
+    ≡ get_or (row_of w) k ((out-OwnedStep x).to, way_of (out-OwnedStep x).way)
 at_row w k x e =
     sym (step_is x) ∙ ap step_of e ∙ sym (get_or-map step_of (steps_of w) k x)
     ∙ ap (λ xs. get_or xs k (step_of x)) (sym (row_is w)) ∙ ap (λ y. get_or (row_of w) k y) (step_is x)
@@ -109,17 +112,20 @@ decides_not Equal r e = refl
 decides_not Greater r e = absurd (true≢false e)
 
 -- of two rows of values: their k-th ways decide, or else the others
-rows_more : (w v : OwnedWays) (k : ℕ) (x y : OwnedStep) → k < min (vec_len (out-OwnedWays w).held) (vec_len (out-OwnedWays v).held)
+rows_more : (w v : OwnedWays) (k : ℕ) (x y : OwnedStep)
+    → k < min (vec_len (out-OwnedWays w).held) (vec_len (out-OwnedWays v).held)
     → x ≡ get_or (steps_of w) k x → y ≡ get_or (steps_of v) k y
     → in_order (ways_of (drop k (row_of w))) (ways_of (drop k (row_of v)))
     ≡ ordering_then (ordering_then (nat_cmp (out-OwnedStep y).to (out-OwnedStep x).to)
     (within (way_of (out-OwnedStep x).way) (way_of (out-OwnedStep y).way)))
     (in_order (ways_of (drop (k + 1) (row_of w))) (ways_of (drop (k + 1) (row_of v))))
 rows_more w v k x y b e f =
-    in_order_drop (row_of w) (row_of v) k _ _ (omega (arith, length-row w, length-row v)) (omega (arith, length-row w, length-row v))
+    in_order_drop (row_of w) (row_of v) k _ _ (omega (arith, length-row w, length-row v))
+    (omega (arith, length-row w, length-row v))
     (at_row w k x e) (at_row v k y f)
 
-pub rows_decided : (w v : OwnedWays) (k : ℕ) (x y : OwnedStep) → k < min (vec_len (out-OwnedWays w).held) (vec_len (out-OwnedWays v).held)
+pub rows_decided : (w v : OwnedWays) (k : ℕ) (x y : OwnedStep)
+    → k < min (vec_len (out-OwnedWays w).held) (vec_len (out-OwnedWays v).held)
     → x ≡ get_or (steps_of w) k x → y ≡ get_or (steps_of v) k y
     → (o : Ordering)
     → o ≡ ordering_then (nat_cmp (out-OwnedStep y).to (out-OwnedStep x).to)
@@ -130,7 +136,8 @@ rows_decided w v k x y b e f o is test =
     let rest = in_order (ways_of (drop (k + 1) (row_of w))) (ways_of (drop (k + 1) (row_of v))) in
     decides o rest test ∙ ap (λ p. ordering_then p rest) is ∙ sym (rows_more w v k x y b e f)
 
-pub rows_undecided : (w v : OwnedWays) (k : ℕ) (x y : OwnedStep) → k < min (vec_len (out-OwnedWays w).held) (vec_len (out-OwnedWays v).held)
+pub rows_undecided : (w v : OwnedWays) (k : ℕ) (x y : OwnedStep)
+    → k < min (vec_len (out-OwnedWays w).held) (vec_len (out-OwnedWays v).held)
     → x ≡ get_or (steps_of w) k x → y ≡ get_or (steps_of v) k y
     → (o : Ordering)
     → o ≡ ordering_then (nat_cmp (out-OwnedStep y).to (out-OwnedStep x).to)

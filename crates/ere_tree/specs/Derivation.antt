@@ -1,6 +1,6 @@
 -- Derivations: how an expression matches a part of a slice.
--- Spans after POSIX.1 XBD 9.4. Own rule: what groups hold, references to them, and that a repeat's members behind
--- its minimum aren't empty.
+-- Spans after POSIX.1 XBD 9.4. Own rule: what groups hold, references to them, and that a repeat's members
+-- behind its minimum aren't empty.
 -- The slice is a list of bytes, and offsets count in it from 0. A line ends in a newline, byte 10.
 use Rattle.std.specs.Prelude.{◌≡◌, ℕ, Bool, true, false, Option, Some, None, List, ◌+◌, ◌-◌, ◌<◌, ◌≤◌, ◌==◌, ◌||◌, zero, suc, length, map, take, drop, slice_index, IsTrue, IfSome}
 use Rattle.std.specs.List.{Contains}
@@ -63,7 +63,8 @@ abbrev mutual
   pub Derives : List ℕ → Tree → Way → ℕ → ℕ → Captures → Captures → Type 0
   Derives s empty leaf i j c d = (j ≡ i) × (d ≡ c)
   Derives s (plain bytes) leaf i j c d = IsPart s i j × (part s i j ≡ bytes) × (d ≡ c)
-  Derives s (set bytes) leaf i j c d = (j ≡ i + 1) × (i < length s) × Contains bytes (slice_index s i) × (d ≡ c)
+  Derives s (set bytes) leaf i j c d =
+      (j ≡ i + 1) × (i < length s) × Contains bytes (slice_index s i) × (d ≡ c)
   Derives s line_start leaf i j c d = (j ≡ i) × IsTrue (is_line_start s i) × (d ≡ c)
   Derives s line_end leaf i j c d = (j ≡ i) × IsTrue (is_line_end s i) × (d ≡ c)
   Derives s (cat all) (parts ws) i j c d = DerivesAll s all ws i j c d
@@ -74,7 +75,8 @@ abbrev mutual
   Derives s (group number inner) (inside w) i j c d =
       (e : Captures) × Derives s inner w i j c e × (d ≡ insert e number (i, j))
   Derives s (back number fold) leaf i j c d =
-      (p : ℕ × ℕ) × (get c number ≡ Some p) × IsPart s i j × IsSameText fold (part s i j) (part s p.0 p.1) × (d ≡ c)
+      (p : ℕ × ℕ) × (get c number ≡ Some p) × IsPart s i j
+      × IsSameText fold (part s i j) (part s p.0 p.1) × (d ≡ c)
   Derives s t w i j c d = ⊥
 
   -- the trees one behind the other, each in its own way, captures handed on

@@ -1,4 +1,4 @@
--- What the slow program lists: all derivations of a tree from one place and with the same captures, one by one.
+-- What the slow program lists: all derivations of a tree from one place and with the same captures.
 -- Its own functions alone cite this. What its answers mean is said by `Derives` and `IsHit`.
 use Rattle.std.specs.Prelude.{ℕ, Bool, true, false, Option, Some, None, List, [], ◌∷◌, ◌++◌, ◌+◌, ◌-◌, ◌==◌, ◌||◌, ◌&&◌, nat_lt, nat_le, cond, min, zero, suc, length, map, filter, slice_index}
 use Rattle.std.specs.List.{flat_map, list_any}
@@ -97,11 +97,13 @@ abbrev pub found_chosen : ℕ → Found → Found
 found_chosen n f = record { way = chosen n f.way; to = f.to; captures = f.captures }
 
 abbrev pub found_inside : ℕ → ℕ → Found → Found
-found_inside number i f = record { way = inside f.way; to = f.to; captures = insert f.captures number (i, f.to) }
+found_inside number i f =
+    record { way = inside f.way; to = f.to; captures = insert f.captures number (i, f.to) }
 
 abbrev pub repeat_ways : (ℕ → Captures → List Found) → ℕ → Option ℕ → ℕ → Captures → List Found
 repeat_ways more least None i c = []
-repeat_ways more least (Some n) i c = map (found_of_row members) (at_most more n (required more least (begin i c)))
+repeat_ways more least (Some n) i c =
+    map (found_of_row members) (at_most more n (required more least (begin i c)))
 
 abbrev pub back_ways : Bool → List ℕ → Option (ℕ × ℕ) → ℕ → Captures → List Found
 back_ways fold s None i c = []

@@ -1,5 +1,6 @@
--- Preference: which of two derivations of one expression, from one start and with the same captures, is taken.
--- The greater end after POSIX.1 XBD 9.4, 'the longest'. Own rule: how derivations with one end are told apart.
+-- Preference: which of two derivations of one expression, from one start and with the same captures, is
+-- taken. The greater end after POSIX.1 XBD 9.4, 'the longest'. Own rule: how derivations with one end are
+-- told apart.
 use Rattle.std.specs.Prelude.{◌≡◌, ◌≢◌, ℕ, List, ◌⊎◌}
 use Rattle.std.specs.Ordering.{nat_cmp, ordering_then}
 use Rattle.std.specs.declared.cmp.Ordering.{Ordering}
@@ -9,8 +10,8 @@ use Rattle.ere_tree.specs.Captures.{Captures}
 use Rattle.ere_tree.specs.Derivation.{Way, Ways, parts, members, chosen, inside, next, Derives}
 
 abbrev mutual
-  -- of two ways with the same end, `Less` where the first is preferred: the parts or members in order, the earlier
-  -- alternative, and what a group holds
+  -- of two ways with the same end, `Less` where the first is preferred: the parts or members in order, the
+  -- earlier alternative, and what a group holds
   pub within : Way → Way → Ordering
   within (parts ws) (parts vs) = in_order ws vs
   within (members ws) (members vs) = in_order ws vs
@@ -20,7 +21,8 @@ abbrev mutual
 
   -- of two rows of ways, the first that differ decide, each by its own greater end first
   pub in_order : Ways → Ways → Ordering
-  in_order (next j w ws) (next k v vs) = ordering_then (ordering_then (nat_cmp k j) (within w v)) (in_order ws vs)
+  in_order (next j w ws) (next k v vs) =
+      ordering_then (ordering_then (nat_cmp k j) (within w v)) (in_order ws vs)
   in_order ws vs = Equal
 
 -- of two ways with their ends, `Less` where the first is preferred: the greater end comes first
@@ -50,7 +52,8 @@ PreferenceLeadsOn =
     → Derives s t u i j c d → Derives s t w i k c e → Derives s t v i m c f
     → IsPreferred u j w k → IsPreferred w k v m → IsPreferred u j v m
 
--- A way tells its derivation: from one start and with the same captures it has one end, and leaves one map of captures.
+-- A way tells its derivation: from one start and with the same captures it has one end, and leaves one map
+-- of captures.
 abbrev pub OneWayOneEnd : Type 0
 OneWayOneEnd =
     (s : List ℕ) (t : Tree) (w : Way) (i j k : ℕ) (c d e : Captures)

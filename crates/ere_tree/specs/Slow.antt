@@ -12,7 +12,7 @@ use Rattle.ere_tree.specs.declared.slow.Derivation.{Derivation}
 abbrev pub AreDerivations : List ℕ → Tree → ℕ → Captures → List Derivation → Type 0
 AreDerivations s t i c ds = All (λ d. Derives s t (way_of d.way) i d.to c (captures_of d.captures)) ds
 
--- each way in which the tree derives, from the place i and with the captures c, is that of one of these values
+-- each way in which the tree derives, from the place i and with the captures c, is that of one of these
 abbrev pub AreAllDerivations : List ℕ → Tree → ℕ → Captures → List Derivation → Type 0
 AreAllDerivations s t i c ds =
     (w : Way) (j : ℕ) (e : Captures) → Derives s t w i j c e → Any (λ d. way_of d.way ≡ w) ds
@@ -21,7 +21,7 @@ AreAllDerivations s t i c ds =
 abbrev pub IsPreferredTo : Derivation → Derivation → Type 0
 IsPreferredTo d best = IsPreferred (way_of d.way) d.to (way_of best.way) best.to
 
--- of derivations of one tree, from one place and with the same captures, this is one to which none is preferred
+-- of derivations of one tree, from one place and with the same captures, none is preferred to this one
 abbrev pub IsMostPreferred : List Derivation → Derivation → Type 0
 IsMostPreferred ds best =
     Contains ds best

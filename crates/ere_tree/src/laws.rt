@@ -2,7 +2,7 @@
 ghost use Rattle.ere_tree.specs.Preference.{OneIsPreferred, PreferenceLeadsOn, OneWayOneEnd};
 
 /// The law of preference.
-#[tactic(auto, using(crate::proofs::PreferenceLemmas::one_is_preferred, crate::proofs::PreferenceLemmas::preference_leads_on, crate::proofs::PreferenceLemmas::one_way_one_end))]
+#[tactic(auto, using(crate::proofs::PreferenceLemmas::laws))]
 pub fn law_of_preference()
     ensures one_is_preferred { OneIsPreferred }
     ensures leads_on { PreferenceLeadsOn }

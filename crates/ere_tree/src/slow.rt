@@ -1,4 +1,5 @@
-//! The derivations of an expression, listed one by one: the definitions as a plain, slow program, for small texts.
+//! The derivations of an expression, listed one by one: the definitions as a plain, slow program, for small
+//! texts.
 ghost use Rattle.std.specs.Prelude.{◌≡◌, ℕ, ◌-◌, ◌==◌, ◌++◌, ◌↔◌, List, [], ◌∷◌, length, MatchOption, IsTrue, IfOk, OnOk, map, slice_index};
 ghost use Rattle.ere_tree.specs.Derivation.{part, parts, members};
 ghost use Rattle.ere_tree.specs.Listing.{found_of, begun_of, trees_in, one_if, stands, is_one_of, further, each_behind, begin, required, at_most, found_of_row, found_chosen, found_inside, repeat_ways, all_ways, all_rows, alternatives};
@@ -125,7 +126,8 @@ fn put_behind(
     rows: &mut Vec<Row>,
 ) -> Result<(), AllocError>
     ensures { OnOk result (map begun_of rows.new.items ≡
-        map begun_of rows.old.items ++ each_behind may_be_empty (begun_of row.now) (map found_of found.items)) }
+        map begun_of rows.old.items
+        ++ each_behind may_be_empty (begun_of row.now) (map found_of found.items)) }
 {
     for one in found {
         if may_be_empty || row.to < one.to {
@@ -200,7 +202,7 @@ fn rows_of_parts(
     Ok(rows)
 }
 
-/// The derivations of `least` members one behind the other, and of up to `more` further ones that aren't empty.
+/// The derivations of `least` members one behind the other, and of up to `more` others that aren't empty.
 #[cycle(ways)]
 fn rows_of_members(
     alloc: Global,
@@ -231,7 +233,8 @@ fn rows_of_members(
 
 /// The derivations of a concatenation from those of its parts in a row.
 fn found_parts(alloc: Global, rows: Vec<Row>) -> Result<Vec<Derivation>, AllocError>
-    ensures { IfOk result (λ found. map found_of found.items ≡ map (found_of_row parts) (map begun_of rows.items)) }
+    ensures { IfOk result (λ found. map found_of found.items ≡
+        map (found_of_row parts) (map begun_of rows.items)) }
 {
     let mut found = Vec::new(alloc);
     for row in rows {
@@ -246,7 +249,8 @@ fn found_parts(alloc: Global, rows: Vec<Row>) -> Result<Vec<Derivation>, AllocEr
 
 /// The derivations of a repeat from those of its members in a row.
 fn found_members(alloc: Global, rows: Vec<Row>) -> Result<Vec<Derivation>, AllocError>
-    ensures { IfOk result (λ found. map found_of found.items ≡ map (found_of_row members) (map begun_of rows.items)) }
+    ensures { IfOk result (λ found. map found_of found.items ≡
+        map (found_of_row members) (map begun_of rows.items)) }
 {
     let mut found = Vec::new(alloc);
     for row in rows {
@@ -266,7 +270,8 @@ fn found_in_group(
     number: u32,
     from: usize,
 ) -> Result<Vec<Derivation>, AllocError>
-    ensures { IfOk result (λ found. map found_of found.items ≡ map (found_inside number from) (map found_of held.items)) }
+    ensures { IfOk result (λ found. map found_of found.items ≡
+        map (found_inside number from) (map found_of held.items)) }
 {
     let mut found = Vec::new(alloc);
     for one in held {
@@ -417,7 +422,7 @@ fn ways_of(
 }
 
 /// All derivations of the expression in the slice `text` from the place `from`, with no group set before.
-#[tactic(auto, using(crate::proofs::SlowLemmas::listed_derive, crate::proofs::SlowLemmas::derived_are_listed))]
+#[tactic(auto, using(crate::proofs::SlowLemmas::listed_derive))]
 pub fn derivations(
     alloc: Global,
     ere: &Ere,
@@ -425,7 +430,8 @@ pub fn derivations(
     from: usize,
 ) -> Result<Vec<Derivation>, AllocError>
     ensures sound { IfOk result (λ found. AreDerivations text.now (view ere.now) from empty found.items) }
-    ensures complete { IfOk result (λ found. AreAllDerivations text.now (view ere.now) from empty found.items) }
+    ensures complete { IfOk result (λ found.
+        AreAllDerivations text.now (view ere.now) from empty found.items) }
 {
     let unset = Settings::none(alloc);
     ways_of(alloc, ere, text, from, &unset)
@@ -440,7 +446,8 @@ fn is_preferred(one: &Derivation, other: &Derivation) -> bool
 
 /// The most preferred of some derivations and one more.
 fn better(held: Option<Derivation>, one: Derivation) -> Derivation
-    ensures { (ds : List Derivation) → MatchOption held (ds ≡ []) (IsMostPreferred ds) → IsMostPreferred (ds ++ one ∷ []) result }
+    ensures { (ds : List Derivation) → MatchOption held (ds ≡ []) (IsMostPreferred ds)
+        → IsMostPreferred (ds ++ one ∷ []) result }
 {
     match held {
         None => one,

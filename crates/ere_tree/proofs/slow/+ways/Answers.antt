@@ -11,7 +11,8 @@ use Rattle.ere_tree.proofs.slow.+ways.Goals as goal
 pub rows_of_members-loop-preserved : goal.rows_of_members-loop-preserved
 rows_of_members-loop-preserved t c =
     let more = all_ways c.args.text.now (view c.args.inner.now) in
-    ap (required more (c.args.least - (c.loop.counter + 1))) (c.in_ok-rows-2.ensures ∙ ap (λ rows. go_on true more (map begun_of rows)) c.as_slice.ensures.value)
+    ap (required more (c.args.least - (c.loop.counter + 1)))
+    (c.in_ok-rows-2.ensures ∙ ap (λ rows. go_on true more (map begun_of rows)) c.as_slice.ensures.value)
     ∙ sym (required_more more c.args.least c.loop.counter (map begun_of c.loop.rows.items) c.loop-test.true)
     ∙ c.loop.invariant
 
@@ -26,7 +27,8 @@ rows_of_members-loop-2-preserved t c =
     ap (map begun_of) c.in_ok-append.ensures.items ∙ map-append begun_of c.loop-2.all.items c.loop-2.rows.items in
     (λ n. all n ++ at_most more left (longer n))
     ∙ append_assoc (map begun_of c.loop-2.all.items) before (at_most more left (go_on false more before))
-    ∙ ap (λ rest. map begun_of c.loop-2.all.items ++ rest) (sym (at_most_more more c.args.more c.loop-2.counter before c.loop-2-test.true))
+    ∙ ap (λ rest. map begun_of c.loop-2.all.items ++ rest)
+    (sym (at_most_more more c.args.more c.loop-2.counter before c.loop-2-test.true))
     ∙ c.loop-2.invariant
 
 pub ways_of-returns-in-Repeat : goal.ways_of-returns-in-Repeat

@@ -22,7 +22,8 @@ invariant-rows_of_members-loop l =
 
 abbrev pub invariant-rows_of_members-loop-2 : goal.invariant-rows_of_members-loop-2
 invariant-rows_of_members-loop-2 l =
-    map begun_of l.all.items ++ at_most (all_ways l.text (view l.inner)) (l.more - l.counter) (map begun_of l.rows.items)
+    map begun_of l.all.items ++ at_most (all_ways l.text (view l.inner)) (l.more - l.counter)
+    (map begun_of l.rows.items)
     ≡ at_most (all_ways l.text (view l.inner)) l.more
     (required (all_ways l.text (view l.inner)) l.least (begin l.from (captures_of l.captures)))
 

@@ -19,4 +19,5 @@ OwnedWays::compare-loop-k-preserved t c =
 
 pub OwnedWays::compare-returns : goal.OwnedWays::compare-returns
 OwnedWays::compare-returns t c =
-    sym (rows_over c.args.self.now c.args.others.now c.loop-k.k (omega (arith, c.loop-k-test.false))) ∙ c.loop-k.invariant
+    sym (rows_over c.args.self.now c.args.others.now c.loop-k.k (omega (arith, c.loop-k-test.false)))
+    ∙ c.loop-k.invariant
