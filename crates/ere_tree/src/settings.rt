@@ -45,7 +45,7 @@ impl Settings {
 
     /// The part that a group holds. None where it is unset.
     pub fn get(&self, number: u32) -> Option<(usize, usize)>
-        ensures { result ≡ get (captures_of self.now) number }
+        ensures value { result ≡ get (captures_of self.now) number }
     {
         let mut held = None;
         for setting in self.held.as_slice() {

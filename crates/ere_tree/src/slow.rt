@@ -473,7 +473,7 @@ pub fn slow_hit(
     text: &[u8],
     from: usize,
 ) -> Result<Option<SlowHit>, AllocError>
-    ensures { IfOk result (λ found. MatchOption found
+    ensures hit { IfOk result (λ found. MatchOption found
         (HasNoHit text.now (view ere.now) from)
         (λ hit. IsHit text.now (view ere.now) from hit.from hit.to (captures_of hit.captures))) }
 {

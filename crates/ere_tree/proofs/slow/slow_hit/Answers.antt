@@ -8,9 +8,11 @@ use Rattle.ere_tree.proofs.slow.slow_hit.Goals as goal
 
 pub returns-in-Some : goal.returns-in-Some
 returns-in-Some c =
-    hit_here c.args.text.now (view c.args.ere.now) c.args.from c.loop-start.start c.in_ok-found.found.items c.in-Some.best
-    (omega arith) (omega arith) c.loop-start.invariant c.in_ok-found.ensures.sound c.in_ok-found.ensures.complete
-    c.in-Some.ensures
+    record {
+      hit = hit_here c.args.text.now (view c.args.ere.now) c.args.from c.loop-start.start
+          c.in_ok-found.found.items c.in-Some.best (omega arith) (omega arith) c.loop-start.invariant
+          c.in_ok-found.ensures.sound c.in_ok-found.ensures.complete c.in-Some.ensures;
+    }
 
 pub loop-start-preserved : goal.loop-start-preserved
 loop-start-preserved c = λ h k v d after before shows.
