@@ -6,3 +6,4 @@ pub mod ListingLemmas
 pub mod MembersLemmas
 pub mod EreViews
 pub mod SlowLemmas
+pub mod HitLemmas

@@ -1,6 +1,6 @@
 -- The hit of an expression in a slice.
 -- Leftmost, and longest from there, after POSIX.1 XBD 9.4. Own rule: which derivation tells the captures.
-use Rattle.std.specs.Prelude.{ℕ, List, ◌<◌, ◌≤◌, length}
+use Rattle.std.specs.Prelude.{◌≡◌, ℕ, List, ◌<◌, ◌≤◌, length}
 use Rattle.std.specs.FinMap.{empty}
 use Rattle.ere_tree.specs.Tree.{Tree}
 use Rattle.ere_tree.specs.Captures.{Captures}
@@ -20,3 +20,10 @@ pub record IsHit (s : List ℕ) (t : Tree) (from i j : ℕ) (c : Captures) : Typ
 abbrev pub HasNoHit : List ℕ → Tree → ℕ → Type 0
 HasNoHit s t from =
     (h k : ℕ) (v : Way) (d : Captures) → from ≤ h → h ≤ length s → Derives s t v h k empty d → ⊥
+
+-- The law of the hit: there is at most one. Of two hits of one tree in one slice the spans and the captures are
+-- the same.
+abbrev pub HitIsOne : Type 0
+HitIsOne =
+    (s : List ℕ) (t : Tree) (from i j h k : ℕ) (c d : Captures) → IsHit s t from i j c → IsHit s t from h k d
+    → (i ≡ h) × (j ≡ k) × (c ≡ d)

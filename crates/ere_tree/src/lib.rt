@@ -13,7 +13,7 @@ mod way;
 
 pub use byte_set::ByteSet;
 pub use ere::{ByteRun, Ere, EreList};
-pub use laws::law_of_preference;
+pub use laws::{law_of_preference, law_of_the_hit};
 pub use settings::{Setting, Settings};
 pub use slow::{Derivation, SlowHit, derivations, slow_hit};
 pub use way::{OwnedStep, OwnedWay, OwnedWays};

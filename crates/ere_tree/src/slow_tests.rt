@@ -1,5 +1,6 @@
 //! Worked examples of what is found where. Trees are built by hand: the parser is no part of what is shown.
 use crate::ere::{ByteRun, Ere, EreList};
+use crate::laws::{law_of_preference, law_of_the_hit};
 use crate::slow::{derivations, slow_hit};
 use std::alloc::{AllocError, Global};
 use std::test::Fail;
@@ -99,6 +100,17 @@ fn expression(alloc: Global, row: usize) -> Result<Ere, AllocError> {
         }
         // $
         7 => Ok(Ere::LineEnd),
+        // (a)\1, where letters match in either case
+        8 => cat(
+            alloc,
+            group(alloc, 1, text_of(alloc, b"a")?)?,
+            Ere::Ref {
+                number: 1,
+                fold: true,
+            },
+        ),
+        // (a)\1
+        9 => cat(alloc, group(alloc, 1, text_of(alloc, b"a")?)?, back(1)),
         // ^b
         _ => cat(alloc, Ere::LineStart, text_of(alloc, b"b")?),
     }
@@ -121,7 +133,8 @@ fn the_whole_way_is_chosen_together(rt: HostRuntime) -> Result<(), Fail> {
         (4, "", 0, 0, [Some((0, 0)), unset, unset]),
         (6, "abbc", 0, 4, [Some((0, 1)), Some((1, 2)), unset]),
         (7, "a\nb", 1, 1, [unset, unset, unset]),
-        (8, "b", 0, 1, [unset, unset, unset]),
+        (8, "aA", 0, 2, [Some((0, 1)), unset, unset]),
+        (10, "b", 0, 1, [unset, unset, unset]),
     ];
     for (row, text, from, to, groups) in cases {
         let ere = expression(rt.alloc(), row)?;
@@ -138,9 +151,12 @@ fn the_whole_way_is_chosen_together(rt: HostRuntime) -> Result<(), Fail> {
 }
 
 #[test]
-fn an_unset_group_is_referred_to_in_vain(rt: HostRuntime) -> Result<(), Fail> {
-    let ere = expression(rt.alloc(), 5)?;
-    assert!(rt; slow_hit(rt.alloc(), &ere, b"b", 0)?.is_none());
+fn some_are_found_nowhere(rt: HostRuntime) -> Result<(), Fail> {
+    for (row, text) in [(5, "b"), (9, "aA"), (10, "ab")] {
+        let ere = expression(rt.alloc(), row)?;
+        let hit = slow_hit(rt.alloc(), &ere, text.as_bytes(), 0)?;
+        assert!(rt; hit.is_none(), "row {row}");
+    }
     Ok(())
 }
 
@@ -149,4 +165,10 @@ fn each_way_is_listed(rt: HostRuntime) -> Result<(), Fail> {
     let ere = expression(rt.alloc(), 0)?;
     assert_eq!(rt; derivations(rt.alloc(), &ere, b"abcd", 0)?.len(), 3);
     Ok(())
+}
+
+#[test]
+fn laws_can_be_called() {
+    law_of_preference();
+    law_of_the_hit();
 }
