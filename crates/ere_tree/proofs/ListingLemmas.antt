@@ -201,6 +201,18 @@ repeat-sound_row s t least most i c f b is a ws start row fits each =
     (subst (λ v. Derives s (repeat t least most) (members v) i b.to c b.captures)
     (sym (row_from_none i c a b ws start row)) whole)
 
+-- the further members behind the required ones
+repeat-sound_both : (s : List ℕ) (t : Tree) (more : ℕ → Captures → List Found) → IsSound s t more
+    → (least : ℕ) (most : Option ℕ) (k n : ℕ) → further least most k ≡ Some n
+    → (i : ℕ) (c : Captures) (f : Found) (b : Begun) → f ≡ found_of_row members b
+    → (a : Begun) × (ws : Ways) × Among a (required more least (begin i c)) × (b.row ≡ a.row ++ listed ws)
+    × (count_of ws ≤ n) × DerivesEach s t zero ws a.to b.to a.captures b.captures
+    → Derives s (repeat t least most) f.way i f.to c f.captures
+repeat-sound_both s t more sound least most k n e i c f b is last =
+    let first = required-sound s t more sound least (begin i c) last.0 last.1 b.to b.captures last.2 last.5 in
+    repeat-sound_row s t least most i c f b is first.0 first.1 first.2 (last.3 ∙ first.3)
+    (subst (CanRepeat least most) (sym first.4) (further-fits least most k n e (count_of last.1) last.4)) first.5
+
 repeat-sound_at : (s : List ℕ) (t : Tree) (more : ℕ → Captures → List Found) → IsSound s t more
     → (least : ℕ) (most : Option ℕ) (k : ℕ) (o : Option ℕ) → further least most k ≡ o
     → (i : ℕ) (c : Captures) (f : Found) → Among f (repeat_ways more least o i c)
@@ -208,10 +220,8 @@ repeat-sound_at : (s : List ℕ) (t : Tree) (more : ℕ → Captures → List Fo
 repeat-sound_at s t more sound least most k None e i c f h = absurd h
 repeat-sound_at s t more sound least most k (Some n) e i c f h =
     let b = from_map (found_of_row members) f _ h in
-    let last = at_most-sound s t more sound n (required more least (begin i c)) b.0 b.1 in
-    let first = required-sound s t more sound least (begin i c) last.0 last.1 b.0.to b.0.captures last.2 last.5 in
-    repeat-sound_row s t least most i c f b.0 b.2 first.0 first.1 first.2 (last.3 ∙ first.3)
-    (subst (CanRepeat least most) (sym first.4) (further-fits least most k n e (count_of last.1) last.4)) first.5
+    repeat-sound_both s t more sound least most k n e i c f b.0 b.2
+    (at_most-sound s t more sound n (required more least (begin i c)) b.0 b.1)
 
 repeat-sound : (s : List ℕ) (t : Tree) (more : ℕ → Captures → List Found) → IsSound s t more
     → (least : ℕ) (most : Option ℕ) (k : ℕ) (i : ℕ) (c : Captures) (f : Found)
