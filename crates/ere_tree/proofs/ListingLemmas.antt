@@ -386,6 +386,25 @@ fits-further least (Some most) k count h b = (
   omega (arith, h.0, h.1, b),
 )
 
+-- from a row of members to the repeat
+repeat-complete_row : (more : ℕ → Captures → List Found) (least : ℕ) (o : Option ℕ) (n : ℕ) (ws : Ways) (i j : ℕ)
+    (c d : Captures) → o ≡ Some n
+    → Among (begun (listed ws) j d) (at_most more n (required more least (begin i c)))
+    → Among (found (members ws) j d) (repeat_ways more least o i c)
+repeat-complete_row more least o n ws i j c d is row =
+    subst (λ o. Among (found (members ws) j d) (repeat_ways more least o i c)) (sym is)
+    (subst (λ v. Among (found (members v) j d) (repeat_ways more least (Some n) i c)) (ways_of-listed ws)
+    (mapped (found_of_row members) (begun (listed ws) j d) _ row))
+
+repeat-complete_at : (s : List ℕ) (t : Tree) (more : ℕ → Captures → List Found) → IsComplete s t more
+    → (least : ℕ) (most : Option ℕ) (ws : Ways) (i j : ℕ) (c d : Captures) → least ≤ count_of ws
+    → DerivesEach s t least ws i j c d
+    → (n : ℕ) × (further least most (length s - i) ≡ Some n) × (count_of ws ≤ least + n)
+    → Among (found (members ws) j d) (repeat_ways more least (further least most (length s - i)) i c)
+repeat-complete_at s t more complete least most ws i j c d enough h n =
+    repeat-complete_row more least (further least most (length s - i)) n.0 ws i j c d n.1
+    (required-complete s t more complete n.0 least ws (begin i c) (begun [] i c) j d (inl refl) enough n.2 h)
+
 repeat-complete : (s : List ℕ) (t : Tree) (more : ℕ → Captures → List Found) → IsComplete s t more
     → (least : ℕ) (most : Option ℕ) (ws : Ways) (i j : ℕ) (c d : Captures) → CanRepeat least most (count_of ws)
     → DerivesEach s t least ws i j c d
@@ -394,12 +413,9 @@ repeat-complete s t more complete least most ws i j c d fits h =
     let bound : i ≤ max i (length s) = omega arith in
     let size : length s ≤ max i (length s) = omega arith in
     let end = each_stays_within s t least ws i j c d (max i (length s)) size bound h in
-    let n = fits-further least most (length s - i) (count_of ws) fits
-    (omega (arith, each_count s t least ws i j c d h, end)) in
-    let row = required-complete s t more complete n.0 least ws (begin i c) (begun [] i c) j d (inl refl) fits.0 n.2 h in
-    let one = mapped (found_of_row members) _ _ row in
-    subst (λ o. Among (found (members ws) j d) (repeat_ways more least o i c)) (sym n.1)
-    (subst (λ v. Among (found (members v) j d) (repeat_ways more least (Some n.0) i c)) (ways_of-listed ws) one)
+    repeat-complete_at s t more complete least most ws i j c d fits.0 h
+    (fits-further least most (length s - i) (count_of ws) fits
+    (omega (arith, each_count s t least ws i j c d h, end)))
 
 mutual
   pub all_ways-complete : (s : List ℕ) (t : Tree) (w : Way) (i j : ℕ) (c d : Captures) → Derives s t w i j c d
