@@ -77,7 +77,8 @@ each_count s t least done i j c d h = omega arith
 each_count s t zero (next k w ws) i j c d h =
     omega (arith, each_count s t zero ws k j h.0 d h.3, each_moves_on s t zero ws k j h.0 d h.3)
 each_count s t (suc least) (next k w ws) i j c d h =
-    omega (arith, each_count s t least ws k j h.0 d h.2, moves_on s t w i k c h.0 h.1, each_moves_on s t least ws k j h.0 d h.2)
+    let rest = each_moves_on s t least ws k j h.0 d h.2 in
+    omega (arith, each_count s t least ws k j h.0 d h.2, moves_on s t w i k c h.0 h.1, rest)
 
 -- a part of the slice is as long as its ends are apart
 pub length-part : (s : List ℕ) (i j : ℕ) → i ≤ j → j ≤ length s → length (part s i j) ≡ j - i

@@ -21,8 +21,8 @@ abbrev pub HasNoHit : List ℕ → Tree → ℕ → Type 0
 HasNoHit s t from =
     (h k : ℕ) (v : Way) (d : Captures) → from ≤ h → h ≤ length s → Derives s t v h k empty d → ⊥
 
--- The law of the hit: there is at most one. Of two hits of one tree in one slice the spans and the captures are
--- the same.
+-- The law of the hit: there is at most one. Of two hits of one tree in one slice the spans and the captures
+-- are the same.
 abbrev pub HitIsOne : Type 0
 HitIsOne =
     (s : List ℕ) (t : Tree) (from i j h k : ℕ) (c d : Captures) → IsHit s t from i j c → IsHit s t from h k d
