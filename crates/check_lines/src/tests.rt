@@ -135,8 +135,14 @@ fn a_body_has_up_to_65536_bytes(rt: HostRuntime) -> Result<(), Fail> {
     assert_eq!(rt; directives.len(), 1);
     text.append(b"a")?;
     assert!(rt; text.len() == 65_544);
-    let refused = read_checks(alloc, text.as_slice());
-    assert!(rt; refused.is_err());
+    let refused = CheckFault {
+        place: Place { line: 1, col: 1 },
+        kind: CheckKind::NotBuilt,
+    };
+    match read_checks(alloc, text.as_slice()) {
+        Err(CheckFail::Bad(fault)) => assert_eq!(rt; fault, refused),
+        _ => assert!(rt; false, "a body of 65,537 bytes was read"),
+    }
     Ok(())
 }
 
