@@ -9,6 +9,8 @@ mod message;
 mod reading;
 mod run;
 mod scan;
+#[cfg(test)]
+mod tests;
 mod verdict;
 mod words;
 
