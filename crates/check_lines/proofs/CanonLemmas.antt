@@ -1,5 +1,5 @@
 -- The canonical form in place: what is done and what is left are the whole.
-use Rattle.std.proofs.Common.{◌≡◌, ℕ, ◌+◌, ◌-◌, ◌<◌, ◌≤◌, Bool, true, false, List, [], ◌∷◌, ◌++◌, Option, None, Some, length, get_or, take, drop, refl, sym, ◌∙◌, ap, arith, map, append_assoc, append-nil, drop-cons, add-one, length-drop, take_all, cond, length-set, ◌&&◌, IsTrue}
+use Rattle.std.proofs.Common.{◌≡◌, ℕ, ◌+◌, ◌-◌, ◌<◌, ◌≤◌, Bool, true, false, List, [], ◌∷◌, ◌++◌, Option, None, Some, length, get_or, take, drop, refl, sym, ◌∙◌, ap, arith, map, append_assoc, drop-cons, add-one, length-drop, take_all, cond, length-set, ◌&&◌, IsTrue}
 use Rattle.std.proofs.lemmas.List.{drop_all, drop-drop, drop-set-lt, get_or-drop, take-set, take_more, take-append-drop, map-append}
 use Rattle.std.proofs.lemmas.List.Edits.{drop-paste}
 use Rattle.std.proofs.lemmas.Slice.{put_mid-paste}

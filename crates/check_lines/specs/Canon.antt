@@ -1,7 +1,7 @@
 -- Canonical text: what a check file and an input are compared as.
 -- After LLVM Command Guide, FileCheck, --strict-whitespace: blanks don't count one by one unless it is given, and
 -- ends of lines become newlines in all modes. Own reading: `\r\n` is the other end of a line, a lone `\r` is a byte.
-use Rattle.std.specs.Prelude.{ℕ, ◌-◌, slice_index, Bool, false, ◌==◌, ◌&&◌, ◌||◌, not, if◌then◌else◌, List, [], ◌∷◌, Option, None, Some}
+use Rattle.std.specs.Prelude.{ℕ, Bool, false, ◌==◌, ◌&&◌, ◌||◌, not, if◌then◌else◌, List, [], ◌∷◌, Option, None, Some}
 use Rattle.std.specs.List.{cons_option}
 
 -- whether a byte is a blank: a space or a tab

@@ -1,6 +1,4 @@
 use Rattle.std.proofs.Common.{◌≡◌, ◌≤◌, ◌+◌, ◌-◌, ◌∙◌, ap, sym, append-nil, length, take, ◌++◌, arith}
-use Rattle.check_lines.specs.Canon.{canonical}
-use Rattle.check_lines.specs.CanonMade.{whole_form}
 use Rattle.check_lines.specs.declared.canonical.TheConstants.{CHUNK}
 use Rattle.check_lines.proofs.CanonLemmas.{moved_quiet, form_at_end}
 use Rattle.check_lines.proofs.canonical.canon_front.Goals as goal

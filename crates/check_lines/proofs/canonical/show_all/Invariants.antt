@@ -1,4 +1,4 @@
-use Rattle.std.proofs.Common.{◌≡◌, ◌++◌, drop, map, take}
+use Rattle.std.proofs.Common.{◌≡◌, drop, map, take}
 use Rattle.check_lines.specs.CanonMade.{shown_byte}
 use Rattle.check_lines.proofs.canonical.show_all.Given as goal
 
