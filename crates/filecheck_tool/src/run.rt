@@ -1,7 +1,8 @@
 //! The top call.
-ghost use Rattle.std.specs.Prelude.{◌≡◌, ◌⊎◌, ◌≤◌, ◌<◌, ◌≢◌, IfOk};
+ghost use Rattle.std.specs.Prelude.{◌≡◌, ◌⊎◌, ◌≤◌, ◌<◌, ◌≢◌, ◌+◌, IfOk};
 ghost use Rattle.std.specs.Io.KnownBytes.{Appends};
 ghost use Rattle.tt_outside.specs.Faults.{Rose};
+ghost use Rattle.tt_outside.specs.Transfer.{TakesAtMost};
 ghost use Rattle.filecheck_tool.specs.Answer.{answer, checked_words};
 ghost use Rattle.filecheck_tool.specs.Run.{AppendsFront, FileUsed, InputUsed, Written, out_of_memory, stream};
 ghost use Rattle.filecheck_tool.specs.Sound.{IsShort};
@@ -45,6 +46,7 @@ pub fn filecheck_run<F: Files, I: Source, O: Sink, E: Sink>(
         ⊎ Rose (O.faults out.old) (O.faults out.new) ⊎ Rose (E.faults err.old) (E.faults err.new) }
     ensures memory { result ≡ 4 → (O.held out.new ≡ O.held out.old)
         × AppendsFront (E.held err.old) (E.held err.new) out_of_memory }
+    ensures taken { TakesAtMost (I.left input.old) (I.left input.new) (INPUT_LIMIT + 1) }
     ensures no_other { result ≤ 4 }
 {
     let settings = read_words(words);
@@ -95,6 +97,7 @@ fn read_input<I: Source>(
 ) -> Result<Reading, NoMemory>
     ensures used { IfOk result (InputUsed (I.left input.old) (I.left input.new) (I.steady input.old) (I.faults input.old)
         (I.faults input.new) INPUT_LIMIT checked.now) }
+    ensures taken { TakesAtMost (I.left input.old) (I.left input.new) (INPUT_LIMIT + 1) }
     ensures small { IfOk result IsShort }
 {
     if matches!(checked, Checked::Refused(_)) {
