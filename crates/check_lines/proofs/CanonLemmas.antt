@@ -23,7 +23,8 @@ canonical_from-drop : (strict behind : Bool) (text : List ℕ) (at : ℕ) → at
     (canonical_from strict (is_blank (get_or text at 0)) (drop (at + 1) text))
 unfolding canonical_from
 canonical_from-drop strict behind text at within =
-    ap (canonical_from strict behind) (drop-cons text at 0 within ∙ ap (λ n. get_or text at 0 ∷ drop n text) (sym (add-one at)))
+    ap (canonical_from strict behind)
+    (drop-cons text at 0 within ∙ ap (λ n. get_or text at 0 ∷ drop n text) (sym (add-one at)))
 
 -- how far the form in place has come: a text of the old length, whose front and rest are the form
 pub record Done (strict : Bool) (long : ℕ) (form text : List ℕ) (done at : ℕ) (behind : Bool) : Type 0 where
@@ -31,7 +32,8 @@ pub record Done (strict : Bool) (long : ℕ) (form text : List ℕ) (done at : �
   pub below : done ≤ at
   pub same : take done text ++ canonical_from strict behind (drop at text) ≡ form
 
-module _ (strict : Bool) (long : ℕ) (form text : List ℕ) (done at : ℕ) (behind : Bool) (rest : List ℕ) (so_far : Done strict long form text done at behind)
+module _ (strict : Bool) (long : ℕ) (form text : List ℕ) (done at : ℕ) (behind : Bool) (rest : List ℕ)
+    (so_far : Done strict long form text done at behind)
     (within : at < long) (rest_is : rest ≡ drop (at + 1) text) where
   inside : at < length text
   inside = omega (arith, so_far.same_length)
@@ -39,7 +41,8 @@ module _ (strict : Bool) (long : ℕ) (form text : List ℕ) (done at : ℕ) (be
   -- what is left behind the byte, after the byte was written
   left : (shown : ℕ) → canonical_from strict (is_blank (get_or text at 0)) (drop (at + 1) (set text done shown))
       ≡ canonical_from strict (is_blank (get_or text at 0)) (drop (at + 1) text)
-  left shown = ap (canonical_from strict (is_blank (get_or text at 0))) (drop-set-lt (at + 1) text done shown (omega (arith, so_far.below)))
+  left shown = ap (canonical_from strict (is_blank (get_or text at 0)))
+      (drop-set-lt (at + 1) text done shown (omega (arith, so_far.below)))
 
   opened : (kept : Option ℕ) → kept_byte strict behind (get_or text at 0) rest ≡ kept
       → canonical_from strict behind (drop at text)
@@ -50,7 +53,8 @@ module _ (strict : Bool) (long : ℕ) (form text : List ℕ) (done at : ℕ) (be
       ∙ ap (λ o. cons_option o later) (ap (kept_byte strict behind (get_or text at 0)) (sym rest_is) ∙ is)
 
   -- a byte is written, and counts where it is kept
-  pub done_next : (kept after : Bool) (shown : ℕ) → shown ≡ shown_byte strict (get_or text at 0) → after ≡ is_blank (get_or text at 0)
+  pub done_next : (kept after : Bool) (shown : ℕ) → shown ≡ shown_byte strict (get_or text at 0) →
+      after ≡ is_blank (get_or text at 0)
       → kept_byte strict behind (get_or text at 0) rest ≡ cond kept (Some (shown_byte strict (get_or text at 0))) None
       → Done strict long form (set text done shown) (done + bool_byte kept) (at + 1) after
   done_next true after shown shown_is after_is kept_is =
@@ -60,7 +64,8 @@ module _ (strict : Bool) (long : ℕ) (form text : List ℕ) (done at : ℕ) (be
       record {
         same_length = length-set _ _ _ ∙ so_far.same_length;
         below = omega (arith, so_far.below);
-        same = rw after_is (ap (λ l. take (done + 1) (set text done shown) ++ l) (left shown) ∙ ap (λ l. l ++ later) written
+        same = rw after_is (ap (λ l. take (done + 1) (set text done shown) ++ l) (left shown)
+            ∙ ap (λ l. l ++ later) written
             ∙ append_assoc (take done text) (shown ∷ []) later ∙ ap (λ b. take done text ++ b ∷ later) shown_is
             ∙ ap (λ l. take done text ++ l) (sym (opened _ kept_is)) ∙ so_far.same);
       }
@@ -70,13 +75,17 @@ module _ (strict : Bool) (long : ℕ) (form text : List ℕ) (done at : ℕ) (be
       record {
         same_length = length-set _ _ _ ∙ so_far.same_length;
         below = omega (arith, so_far.below);
-        same = rw after_is (ap (λ n. take n (set text done shown) ++ canonical_from strict (is_blank (get_or text at 0)) (drop (at + 1) (set text done shown))) count
-            ∙ ap (λ l. take done (set text done shown) ++ l) (left shown) ∙ ap (λ l. l ++ later) (take-set text done shown)
+        same = rw after_is (ap
+            (λ n. take n (set text done shown) ++ canonical_from strict (is_blank (get_or text at 0))
+            (drop (at + 1) (set text done shown))) count
+            ∙ ap (λ l. take done (set text done shown) ++ l) (left shown)
+            ∙ ap (λ l. l ++ later) (take-set text done shown)
             ∙ ap (λ l. take done text ++ l) (sym (opened _ kept_is)) ∙ so_far.same);
       }
 
 -- at the end of a text nothing is left
-pub form_at_end : (strict behind : Bool) (text : List ℕ) (at : ℕ) → length text ≤ at → canonical_from strict behind (drop at text) ≡ []
+pub form_at_end : (strict behind : Bool) (text : List ℕ) (at : ℕ) → length text ≤ at →
+    canonical_from strict behind (drop at text) ≡ []
 unfolding canonical_from
 form_at_end strict behind text at ends = ap (canonical_from strict behind) (drop_all at text ends)
 
@@ -88,7 +97,8 @@ Quiet strict behind chunk k last = (rest : List ℕ) → canonical_from strict b
 pub quiet_none : (strict behind : Bool) (chunk : List ℕ) → Quiet strict behind chunk 0 behind
 quiet_none strict behind chunk = λ rest. refl
 
-pub quiet_next : (strict behind : Bool) (chunk : List ℕ) (k : ℕ) (last : Bool) → Quiet strict behind chunk k last → k < length chunk
+pub quiet_next : (strict behind : Bool) (chunk : List ℕ) (k : ℕ) (last : Bool) → Quiet strict behind chunk k last →
+    k < length chunk
     → ((rest : List ℕ) → kept_byte strict last (get_or chunk k 0) rest ≡ Some (shown_byte strict (get_or chunk k 0)))
     → Quiet strict behind chunk (k + 1) (is_blank (get_or chunk k 0))
 unfolding canonical_from
@@ -97,12 +107,16 @@ quiet_next strict behind chunk k last so_far within kept = λ rest.
     let left = drop (k + 1) chunk ++ rest in
     let opened : drop k chunk ++ rest ≡ byte ∷ left =
     ap (λ l. l ++ rest) (drop-cons chunk k 0 within ∙ ap (λ n. byte ∷ drop n chunk) (sym (add-one k))) in
-    let shown : map (shown_byte strict) (take (k + 1) chunk) ≡ map (shown_byte strict) (take k chunk) ++ shown_byte strict byte ∷ [] =
-    ap (map (shown_byte strict)) (take_more chunk k 0 within) ∙ map-append (shown_byte strict) (take k chunk) (byte ∷ []) in
+    let shown : map (shown_byte strict) (take (k + 1) chunk)
+    ≡ map (shown_byte strict) (take k chunk) ++ shown_byte strict byte ∷ [] =
+    ap (map (shown_byte strict)) (take_more chunk k 0 within)
+    ∙ map-append (shown_byte strict) (take k chunk) (byte ∷ []) in
     so_far rest
     ∙ ap (λ l. map (shown_byte strict) (take k chunk) ++ canonical_from strict last l) opened
-    ∙ ap (λ o. map (shown_byte strict) (take k chunk) ++ cons_option o (canonical_from strict (is_blank byte) left)) (kept left)
-    ∙ sym (append_assoc (map (shown_byte strict) (take k chunk)) (shown_byte strict byte ∷ []) (canonical_from strict (is_blank byte) left))
+    ∙ ap (λ o. map (shown_byte strict) (take k chunk) ++ cons_option o (canonical_from strict (is_blank byte) left))
+    (kept left)
+    ∙ sym (append_assoc (map (shown_byte strict) (take k chunk)) (shown_byte strict byte ∷ [])
+    (canonical_from strict (is_blank byte) left))
     ∙ ap (λ l. l ++ canonical_from strict (is_blank byte) left) (sym shown)
 
 both_true : (a b : Bool) → a && b ≡ true → (a ≡ true) × (b ≡ true)
@@ -112,17 +126,21 @@ both_true false b h = cc
 -- the same, where a test so far and the test of the byte are one
 pub quiet_while : (strict behind : Bool) (chunk : List ℕ) (k : ℕ) (last so_far test after : Bool)
     → (so_far ≡ true → Quiet strict behind chunk k last) → k < length chunk
-    → (IsTrue test → (rest : List ℕ) → kept_byte strict last (get_or chunk k 0) rest ≡ Some (shown_byte strict (get_or chunk k 0)))
+    → (IsTrue test → (rest : List ℕ) →
+    kept_byte strict last (get_or chunk k 0) rest ≡ Some (shown_byte strict (get_or chunk k 0)))
     → after ≡ is_blank (get_or chunk k 0)
     → so_far && test ≡ true → Quiet strict behind chunk (k + 1) after
 quiet_while strict behind chunk k last so_far test after quiet within kept is both =
     let parts = both_true so_far test both in
     rw is (quiet_next strict behind chunk k last (quiet parts.0) within (kept parts.1))
 
-pub quiet_all : (strict behind : Bool) (chunk : List ℕ) (k : ℕ) (last : Bool) → Quiet strict behind chunk k last → length chunk ≤ k
-    → (rest : List ℕ) → canonical_from strict behind (chunk ++ rest) ≡ map (shown_byte strict) chunk ++ canonical_from strict last rest
+pub quiet_all : (strict behind : Bool) (chunk : List ℕ) (k : ℕ) (last : Bool) → Quiet strict behind chunk k last →
+    length chunk ≤ k
+    → (rest : List ℕ) → canonical_from strict behind (chunk ++ rest)
+    ≡ map (shown_byte strict) chunk ++ canonical_from strict last rest
 quiet_all strict behind chunk k last so_far ends rest =
-    so_far rest ∙ ap (λ l. map (shown_byte strict) l ++ canonical_from strict last (drop k chunk ++ rest)) (take_all k chunk ends)
+    so_far rest ∙ ap (λ l. map (shown_byte strict) l ++ canonical_from strict last (drop k chunk ++ rest))
+    (take_all k chunk ends)
     ∙ ap (λ l. map (shown_byte strict) chunk ++ canonical_from strict last (l ++ rest)) (drop_all k chunk ends)
 
 -- a byte of a chunk is shown where it stands
@@ -131,10 +149,12 @@ pub shown_next : (f : ℕ → ℕ) (xs whole : List ℕ) (i b : ℕ) → i < len
     → (take (i + 1) (set xs i b) ≡ map f (take (i + 1) whole)) × (drop (i + 1) (set xs i b) ≡ drop (i + 1) whole)
 shown_next f xs whole i b within long front rest is =
     let here : i + 0 ≡ i = omega arith in
-    let at : (l : List ℕ) → get_or (drop i l) 0 0 ≡ get_or l i 0 = λ l. get_or-drop i l 0 0 ∙ ap (λ k. get_or l k 0) here in
+    let at : (l : List ℕ) → get_or (drop i l) 0 0 ≡ get_or l i 0 =
+    λ l. get_or-drop i l 0 0 ∙ ap (λ k. get_or l k 0) here in
     let same : get_or xs i 0 ≡ get_or whole i 0 = sym (at xs) ∙ ap (λ l. get_or l 0 0) rest ∙ at whole in
     let later : (l : List ℕ) → drop (i + 1) l ≡ drop 1 (drop i l) = λ l. sym (drop-drop 1 i l) in (
-      take-set_at xs i (i + 1) b refl (omega arith) ∙ ap (λ l. l ++ b ∷ []) front ∙ ap (λ k. map f (take i whole) ++ k ∷ []) (is ∙ ap f same)
+      take-set_at xs i (i + 1) b refl (omega arith) ∙ ap (λ l. l ++ b ∷ []) front
+          ∙ ap (λ k. map f (take i whole) ++ k ∷ []) (is ∙ ap f same)
           ∙ sym (ap (map f) (take_more whole i 0 within) ∙ map-append f (take i whole) (get_or whole i 0 ∷ [])),
       drop-set-lt (i + 1) xs i b (omega arith) ∙ later xs ∙ ap (drop 1) rest ∙ sym (later whole),
     )
@@ -146,7 +166,8 @@ paste_rest text piece at n m within long past =
     let there : at + n + (m - (at + n)) ≡ m = omega arith in
     let split : (l : List ℕ) → drop m l ≡ drop (m - (at + n)) (drop (at + n) l) =
     λ l. ap (λ k. drop k l) (sym there) ∙ sym (drop-drop (m - (at + n)) (at + n) l) in
-    split (paste text at piece n) ∙ ap (drop (m - (at + n))) (drop-paste text at piece n within long) ∙ sym (split text)
+    split (paste text at piece n) ∙ ap (drop (m - (at + n))) (drop-paste text at piece n within long)
+    ∙ sym (split text)
 
 -- what lies behind a chunk that was moved down
 pub moved_rest : (text piece : List ℕ) (done at n k : ℕ) → done ≤ at → at + n ≤ length text → n ≡ length piece → k ≡ n
@@ -161,7 +182,8 @@ pub moved_quiet : (strict : Bool) (text new : List ℕ) (done at n k : ℕ) (beh
     ≡ map (shown_byte strict) (take k (drop at text)) ++ canonical_from strict last rest)
     → take (done + n) new ≡ take done text ++ map (shown_byte strict) (take n (drop at text))
     → drop (at + n) new ≡ drop (at + n) text
-    → take (done + n) new ++ canonical_from strict last (drop (at + n) new) ≡ take done text ++ canonical_from strict behind (drop at text)
+    → take (done + n) new ++ canonical_from strict last (drop (at + n) new)
+    ≡ take done text ++ canonical_from strict behind (drop at text)
 moved_quiet strict text new done at n k behind last count quiet front rest =
     let left = drop (at + n) text in
     let cut : take k (drop at text) ++ left ≡ drop at text =
@@ -169,8 +191,11 @@ moved_quiet strict text new done at n k behind last count quiet front rest =
     ∙ take-append-drop n (drop at text) in
     let shown : map (shown_byte strict) (take k (drop at text)) ≡ map (shown_byte strict) (take n (drop at text)) =
     ap (λ i. map (shown_byte strict) (take i (drop at text))) count in
-    let opened : canonical_from strict behind (drop at text) ≡ map (shown_byte strict) (take n (drop at text)) ++ canonical_from strict last left =
+    let opened : canonical_from strict behind (drop at text)
+    ≡ map (shown_byte strict) (take n (drop at text)) ++ canonical_from strict last left =
     ap (canonical_from strict behind) (sym cut) ∙ quiet left ∙ ap (λ l. l ++ canonical_from strict last left) shown in
-    ap (λ l. take (done + n) new ++ canonical_from strict last l) rest ∙ ap (λ l. l ++ canonical_from strict last left) front
-    ∙ append_assoc (take done text) (map (shown_byte strict) (take n (drop at text))) (canonical_from strict last left)
+    ap (λ l. take (done + n) new ++ canonical_from strict last l) rest
+    ∙ ap (λ l. l ++ canonical_from strict last left) front
+    ∙ append_assoc (take done text) (map (shown_byte strict) (take n (drop at text)))
+    (canonical_from strict last left)
     ∙ ap (λ l. take done text ++ l) (sym opened)

@@ -17,9 +17,11 @@ position_fits : (xs : List ℕ) → position_or_len is_newline xs ≤ length xs
 position_fits xs = prefix_len-le-length _ xs
 
 -- where the first line ends
-pub line_end_is : (text : List ℕ) (start : ℕ) → line_end text start ≡ start + position_or_len is_newline (drop start text)
+pub line_end_is : (text : List ℕ) (start : ℕ) →
+    line_end text start ≡ start + position_or_len is_newline (drop start text)
 line_end_is text start =
-    ap (λ n. start + n) (length-take-le (position_or_len is_newline (drop start text)) (drop start text) (position_fits (drop start text)))
+    ap (λ n. start + n) (length-take-le (position_or_len is_newline (drop start text)) (drop start text)
+    (position_fits (drop start text)))
 
 -- the last line
 pub last_line : (text : List ℕ) (start end : ℕ) → start ≤ length text → end ≡ line_end text start → end ≡ length text
@@ -36,7 +38,8 @@ last_line text start end low is ends =
 
 -- a line before others
 pub next_line : (text : List ℕ) (start end : ℕ) → start ≤ length text → end ≡ line_end text start → end < length text
-    → slice_split is_newline (drop start text) ≡ take (end - start) (drop start text) ∷ slice_split is_newline (drop (end + 1) text)
+    → slice_split is_newline (drop start text) ≡ take (end - start) (drop start text)
+    ∷ slice_split is_newline (drop (end + 1) text)
 next_line text start end low is inside =
     let rest = drop start text in
     let n = position_or_len is_newline rest in
@@ -46,14 +49,16 @@ next_line text start end low is inside =
     let later : start + (n + 1) ≡ end + 1 = omega arith in
     slice_split_first is_newline rest 0 found
     ∙ ap (λ k. take k rest ∷ slice_split is_newline (drop (n + 1) rest)) count
-    ∙ ap (λ l. take (end - start) rest ∷ slice_split is_newline l) (drop-drop (n + 1) start text ∙ ap (λ k. drop k text) later)
+    ∙ ap (λ l. take (end - start) rest ∷ slice_split is_newline l)
+    (drop-drop (n + 1) start text ∙ ap (λ k. drop k text) later)
 
 -- what was found before what is found later
 abbrev pub joined : List Directive → Result (List Directive) CheckFault → Result (List Directive) CheckFault
 joined found (Ok later) = Ok (found ++ later)
 joined found (Err fault) = Err fault
 
-joined_none : (found : List Directive) (later : Result (List Directive) CheckFault) → joined found (join_reading (Ok None) later) ≡ joined found later
+joined_none : (found : List Directive) (later : Result (List Directive) CheckFault) →
+    joined found (join_reading (Ok None) later) ≡ joined found later
 joined_none found later = refl
 
 joined_some : (found : List Directive) (one : Directive) (later : Result (List Directive) CheckFault)
@@ -62,7 +67,8 @@ joined_some found one (Ok later) = ap Ok (sym (append_assoc found (one ∷ []) l
 joined_some found one (Err fault) = refl
 
 -- a line is added
-joined_line : (old new : List Directive) (reading : Result (Option Directive) CheckFault) (later : Result (List Directive) CheckFault)
+joined_line : (old new : List Directive) (reading : Result (Option Directive) CheckFault)
+    (later : Result (List Directive) CheckFault)
     → AddsLine old new reading → joined old (join_reading reading later) ≡ joined new later
 joined_line old new (Ok None) later adds = ap (λ l. joined l later) (sym adds)
 joined_line old new (Ok (Some one)) later adds = joined_some old one later ∙ ap (λ l. joined l later) (sym adds)
@@ -83,10 +89,17 @@ pub record Read (text : List ℕ) (found : List Directive) (number start : ℕ) 
   pub same : joined found (reading_from number start (slice_split is_newline (drop start text))) ≡ all_lines text
 
 pub read_none : (text : List ℕ) → Read text [] 1 0
-read_none text = record { within = omega arith; counted = omega arith; bodies = All-nil (EndsBy (length text)); same = joined-start (all_lines text) }
+read_none text = record {
+  within = omega arith;
+  counted = omega arith;
+  bodies = All-nil (EndsBy (length text));
+  same =
+      joined-start (all_lines text);
+}
 
 module _ (text : List ℕ) (old new : List Directive) (number start end : ℕ) (line : List ℕ)
-    (so_far : Read text old number start) (is : end ≡ line_end text start) (line_is : line ≡ take (end - start) (drop start text)) where
+    (so_far : Read text old number start) (is : end ≡ line_end text start)
+    (line_is : line ≡ take (end - start) (drop start text)) where
   -- the last line is read
   pub read_last : end ≡ length text → AddsLine old new (line_reading number start line) → all_lines text ≡ Ok new
   unfolding reading_from
@@ -97,12 +110,14 @@ module _ (text : List ℕ) (old new : List Directive) (number start end : ℕ) (
       ∙ joined_line old new (line_reading number start line) (Ok []) adds ∙ joined-nil new
 
   -- a line before others is read
-  pub read_next : end < length text → AddsLine old new (line_reading number start line) → All (EndsBy (length text)) new
+  pub read_next : end < length text → AddsLine old new (line_reading number start line) →
+      All (EndsBy (length text)) new
       → Read text new (number + 1) (end + 1)
   unfolding reading_from
   read_next inside adds bodies =
       let lines : slice_split is_newline (drop start text) ≡ line ∷ slice_split is_newline (drop (end + 1) text) =
-      next_line text start end so_far.within is inside ∙ ap (λ l. l ∷ slice_split is_newline (drop (end + 1) text)) (sym line_is) in
+      next_line text start end so_far.within is inside
+      ∙ ap (λ l. l ∷ slice_split is_newline (drop (end + 1) text)) (sym line_is) in
       let low : start ≤ end = omega (arith, line_end_is text start) in
       let long : length line ≡ end - start =
       ap length line_is ∙ length-take-le (end - start) (drop start text) (omega (arith, length-drop start text)) in
@@ -112,7 +127,9 @@ module _ (text : List ℕ) (old new : List Directive) (number start end : ℕ) (
         counted = omega (arith, so_far.counted);
         bodies = bodies;
         same = sym (joined_line old new (line_reading number start line) _ adds)
-            ∙ ap (λ k. joined old (join_reading (line_reading number start line) (reading_from (number + 1) k (slice_split is_newline (drop (end + 1) text))))) (sym later)
+            ∙ ap (λ k. joined old
+            (join_reading (line_reading number start line)
+            (reading_from (number + 1) k (slice_split is_newline (drop (end + 1) text))))) (sym later)
             ∙ ap (λ l. joined old (reading_from number start l)) (sym lines) ∙ so_far.same;
       }
 
@@ -124,7 +141,14 @@ module _ (text : List ℕ) (old new : List Directive) (number start end : ℕ) (
       ∙ ap (λ r. joined old (join_reading r (reading_from (number + 1) (start + length line + 1) later))) refused
 
   pub ends_within : end ≤ length text
-  ends_within = omega (arith, so_far.within, line_end_is text start, position_fits (drop start text), length-drop start text)
+  ends_within = omega (
+    arith,
+    so_far.within,
+    line_end_is text start,
+    position_fits
+        (drop start text),
+    length-drop start text,
+  )
 
   pub line_within : start + length line ≤ length text
   line_within =
@@ -134,12 +158,14 @@ module _ (text : List ℕ) (old new : List Directive) (number start end : ℕ) (
       omega (arith, line_end_is text start)
 
   -- a refused line refuses the text
-  pub read_refused : (fail : CheckFail) → IsRefusalOf (line_reading number start line) fail → IsRefusalOf (all_lines text) fail
+  pub read_refused : (fail : CheckFail) → IsRefusalOf (line_reading number start line) fail →
+      IsRefusalOf (all_lines text) fail
   read_refused NoMemory refused = tt
   read_refused (Bad fault) refused =
       ⊎_elim
       (λ (inside : end < length text). refused_before fault refused (slice_split is_newline (drop (end + 1) text))
-      (next_line text start end so_far.within is inside ∙ ap (λ l. l ∷ slice_split is_newline (drop (end + 1) text)) (sym line_is)))
+      (next_line text start end so_far.within is inside
+      ∙ ap (λ l. l ∷ slice_split is_newline (drop (end + 1) text)) (sym line_is)))
       (λ (outside : length text ≤ end). let within = ends_within in refused_before fault refused []
       (last_line text start end so_far.within is (omega arith) ∙ ap (λ l. l ∷ []) (sym line_is)))
       (cases_lt end (length text))

@@ -29,7 +29,8 @@ decided_here behind line at found within here =
 -- where nothing is decided at an offset the rest decides
 pub decided_later : (behind : Bool) (line : List ℕ) (at : ℕ) → at < length line
     → decided_at behind at (drop at line) ≡ None
-    → decision_from behind at (drop at line) ≡ decision_from (is_word (get_or line at 0)) (at + 1) (drop (at + 1) line)
+    → decision_from behind at (drop at line)
+    ≡ decision_from (is_word (get_or line at 0)) (at + 1) (drop (at + 1) line)
 decided_later behind line at within here =
     decision_from-drop behind line at within
     ∙ ap (λ o. option_or o (decision_from (is_word (get_or line at 0)) (at + 1) (drop (at + 1) line))) here

@@ -12,7 +12,8 @@ use Rattle.check_lines.specs.declared.decision.Decision.{Decision}
 -- whether a byte is a letter, a digit, `-` or `_`
 abbrev pub is_word : ℕ → Bool
 is_word byte =
-    (nat_le 97 byte && nat_le byte 122) || (nat_le 65 byte && nat_le byte 90) || (nat_le 48 byte && nat_le byte 57)
+    (nat_le 97 byte && nat_le byte 122) || (nat_le 65 byte && nat_le byte 90) ||
+    (nat_le 48 byte && nat_le byte 57)
     || byte == 45 || byte == 95
 
 -- the mark that stands at the front of a text, if one does

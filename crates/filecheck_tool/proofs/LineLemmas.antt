@@ -41,7 +41,8 @@ pub record LinesFrom (text rest : List ℕ) (first number : ℕ) : Type 0 where
   pub lines : drop (first - 1) (slice_split is_newline text) ≡ slice_split is_newline rest
 
 pub lines_first : (text : List ℕ) (number : ℕ) → LinesFrom text text 1 number
-lines_first text number = record { fits = le_refl (length text); counted = omega arith; bounded = omega arith; lines = refl }
+lines_first text number =
+    record { fits = le_refl (length text); counted = omega arith; bounded = omega arith; lines = refl }
 
 module _ (text rest : List ℕ) (first number : ℕ) (so_far : LinesFrom text rest first number) where
   pub lines_next : (newline : ℕ) (later : List ℕ) → first < number → IsFirstByte is_newline rest (Some newline)
@@ -55,7 +56,8 @@ module _ (text rest : List ℕ) (first number : ℕ) (so_far : LinesFrom text re
         fits = omega (arith, ap length is, length-drop (newline + 1) rest, so_far.fits);
         counted = omega arith;
         bounded = omega arith;
-        lines = ap (λ n. drop n (slice_split is_newline text)) (sym count) ∙ sym (drop-drop 1 (first - 1) (slice_split is_newline text)) ∙ behind;
+        lines = ap (λ n. drop n (slice_split is_newline text)) (sym count)
+            ∙ sym (drop-drop 1 (first - 1) (slice_split is_newline text)) ∙ behind;
       }
 
   -- the line, counted in what is left

@@ -8,7 +8,8 @@ use Rattle.filecheck_tool.specs.Words.{texts, word_at}
 pub position_from_texts : (test : List ℕ → Bool) (at : ℕ) (words : List (String Global))
     → position_from test at (texts words) ≡ position_from (λ word. test (string_bytes word)) at words
 position_from_texts test at [] = refl
-position_from_texts test at (word ∷ words) = ap (λ later. cond (test (string_bytes word)) (Some at) later) (position_from_texts test (at + 1) words)
+position_from_texts test at (word ∷ words) =
+    ap (λ later. cond (test (string_bytes word)) (Some at) later) (position_from_texts test (at + 1) words)
 
 pub length_texts : (words : List (String Global)) → length (texts words) ≡ length words
 length_texts [] = refl

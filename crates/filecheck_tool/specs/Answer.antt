@@ -57,7 +57,8 @@ fault_answer name text place NoChecks = told 2 (unplaced (codes "no checks in '"
 
 -- a check file's canonical text is accepted or refused
 abbrev pub checked_program : List ℕ → List ℕ → Result (List Directive) CheckFault → Checked
-checked_program name text (Ok directives) = Accepted (record { name = name; text = text; directives = directives })
+checked_program name text (Ok directives) =
+    Accepted (record { name = name; text = text; directives = directives })
 checked_program name text (Err fault) = Refused (fault_answer name text fault.place fault.kind)
 
 abbrev pub checked_text : List ℕ → List ℕ → Checked
@@ -73,7 +74,8 @@ checked_file name Failed = Refused (not_readable name)
 -- the words and the check file are accepted or refused
 abbrev pub checked_settings : List (List ℕ) → Settings → Reading → Checked
 checked_settings words (File at) file = checked_file (word_at words at) file
-checked_settings words (Unknown at) file = Refused (told 2 (unplaced (codes "unknown option '") (word_at words at) (codes "'")))
+checked_settings words (Unknown at) file =
+    Refused (told 2 (unplaced (codes "unknown option '") (word_at words at) (codes "'")))
 checked_settings words NotOne file = Refused (told 2 (unplaced (codes "one check file is needed") [] []))
 
 abbrev pub checked_words : List (List ℕ) → Reading → Checked
@@ -98,7 +100,8 @@ abbrev pub unfound_message : List ℕ → List ℕ → List ℕ → Unfound → 
 unfound_message name text input unfound =
     placed name (body_place unfound.directive) (codes "error: CHECK: expected string not found in input")
     (line_numbered text unfound.directive.line)
-    ++ placed input_name (place_at input unfound.from) (codes "note: scanning from here") (line_text input unfound.from)
+    ++ placed input_name (place_at input unfound.from) (codes "note: scanning from here")
+    (line_text input unfound.from)
 
 abbrev pub verdict_answer : Program → List ℕ → Option Unfound → Answer
 verdict_answer program input None = told 0 []

@@ -19,28 +19,33 @@ use Rattle.filecheck_tool.specs.declared.words.Settings.TheVariants.{File, Unkno
 
 -- reading the file of a name gave this; it failed only where the count of faults rose, and never where no call fails
 abbrev pub FileRead : Option (List ℕ → Option (List ℕ)) → Type 0 → ℕ → ℕ → ℕ → List ℕ → Reading → Type 0
-FileRead held steady before now limit name (Whole bytes) = GivesFile held name limit (Ok bytes) × (length bytes ≤ limit)
+FileRead held steady before now limit name (Whole bytes) =
+    GivesFile held name limit (Ok bytes) × (length bytes ≤ limit)
 FileRead held steady before now limit name Missing = GivesFile held name limit (Err NoFile)
 FileRead held steady before now limit name TooLarge =
     (size : ℕ) × GivesFile held name limit (Err (TooLong size)) × (limit < size)
 FileRead held steady before now limit name Failed = Rose before now × (steady → ⊥)
 
 -- the check file was read where the words name one
-abbrev pub FileUsed : Option (List ℕ → Option (List ℕ)) → Type 0 → ℕ → ℕ → ℕ → List (List ℕ) → Settings → Reading → Type 0
-FileUsed held steady before now limit words (File at) file = FileRead held steady before now limit (word_at words at) file
+abbrev pub FileUsed : Option (List ℕ → Option (List ℕ)) → Type 0 → ℕ → ℕ → ℕ → List (List ℕ) → Settings →
+    Reading → Type 0
+FileUsed held steady before now limit words (File at) file =
+    FileRead held steady before now limit (word_at words at) file
 FileUsed held steady before now limit words (Unknown at) file = now ≡ before
 FileUsed held steady before now limit words NotOne file = now ≡ before
 
 -- reading the input gave this: all that it had left, one byte more than the limit, or a fault
 abbrev pub InputRead : Option (List ℕ) → Option (List ℕ) → Type 0 → ℕ → ℕ → ℕ → Reading → Type 0
-InputRead old new steady before now limit (Whole bytes) = Consumes old new bytes × IsAtEnd new × (length bytes ≤ limit)
+InputRead old new steady before now limit (Whole bytes) =
+    Consumes old new bytes × IsAtEnd new × (length bytes ≤ limit)
 InputRead old new steady before now limit TooLarge = TakesCount old new (limit + 1)
 InputRead old new steady before now limit Failed = Rose before now × (steady → ⊥)
 InputRead old new steady before now limit Missing = ⊥
 
 -- the input was read where the check file was accepted, and else left alone
 abbrev pub InputUsed : Option (List ℕ) → Option (List ℕ) → Type 0 → ℕ → ℕ → ℕ → Checked → Reading → Type 0
-InputUsed old new steady before now limit (Accepted program) input = InputRead old new steady before now limit input
+InputUsed old new steady before now limit (Accepted program) input =
+    InputRead old new steady before now limit input
 InputUsed old new steady before now limit (Refused refusal) input = (new ≡ old) × (now ≡ before)
 
 -- a front of the bytes was appended, perhaps all of them

@@ -23,4 +23,5 @@ scanned_behind (Some at) directive from count later = later (at + count)
 unfoldable pub scanned : List ℕ → List ℕ → List Directive → ℕ → Option Unfound
 scanned checks input [] from = None
 scanned checks input (directive ∷ directives) from =
-    scanned_behind (found_at checks input from directive) directive from (length (body_of checks directive)) (scanned checks input directives)
+    scanned_behind (found_at checks input from directive) directive from (length (body_of checks directive))
+    (scanned checks input directives)

@@ -34,7 +34,8 @@ pub fn told_of(
     name: &[u8],
     behind: &[u8],
 ) -> Result<Answer, NoMemory>
-    ensures { IfOk result (λ answer. answer ≡ told status (unplaced before.now name.now behind.now)) }
+    ensures { IfOk result
+        (λ answer. answer ≡ told status (unplaced before.now name.now behind.now)) }
 {
     Ok(told(alloc, status, unplaced(alloc, before, name, behind)?))
 }

@@ -40,7 +40,8 @@ pub fn check_settings(
 ) -> Result<Checked, NoMemory>
     requires words { WordsHold (texts words.now) settings }
     requires small { IsShort file }
-    ensures value { IfOk result (λ checked. checked ≡ checked_settings (texts words.now) settings file) }
+    ensures value { IfOk result
+        (λ checked. checked ≡ checked_settings (texts words.now) settings file) }
     ensures sound { IfOk result IsSound }
 {
     match settings {
@@ -104,7 +105,8 @@ fn check_text(alloc: Global, name: &[u8], text: Bytes) -> Result<Checked, NoMemo
 
 /// A refusal of the check file.
 fn refused(alloc: Global, name: &[u8], text: &[u8], fault: CheckFault) -> Result<Answer, NoMemory>
-    ensures { IfOk result (λ answer. answer ≡ fault_answer name.now text.now fault.place fault.kind) }
+    ensures { IfOk result
+        (λ answer. answer ≡ fault_answer name.now text.now fault.place fault.kind) }
 {
     match fault.kind {
         CheckKind::NotBuilt => {

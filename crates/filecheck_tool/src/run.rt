@@ -23,9 +23,9 @@ pub const CHECK_LIMIT: u64 = 16_777_216;
 /// The greatest length of an input, in bytes.
 pub const INPUT_LIMIT: u64 = 67_108_864;
 
-/// Runs FileCheck on words, which are without the program's name, and answers the status: 0 where the input matches the
-/// check file, 1 where it doesn't, 2 where words, check file or input are refused, 3 at a fault of what was handed in,
-/// and 4 for want of memory.
+/// Runs FileCheck on words, which are without the program's name, and answers the status: 0 where the input
+/// matches the check file, 1 where it doesn't, 2 where words, check file or input are refused, 3 at a fault of
+/// what was handed in, and 4 for want of memory.
 pub fn filecheck_run<F: Files, I: Source, O: Sink, E: Sink>(
     alloc: Global,
     words: &[String],
@@ -35,18 +35,24 @@ pub fn filecheck_run<F: Files, I: Source, O: Sink, E: Sink>(
     err: &mut E,
 ) -> u8
     ensures answer { result ≢ 4 → (file : Reading) × (read : Reading)
-        × FileUsed (F.held files.old) (F.steady files.old) (F.faults files.old) (F.faults files.new) CHECK_LIMIT
-        (texts words.now) (settings_of (texts words.now)) file
-        × InputUsed (I.left input.old) (I.left input.new) (I.steady input.old) (I.faults input.old) (I.faults input.new) INPUT_LIMIT
+        × FileUsed (F.held files.old) (F.steady files.old) (F.faults files.old)
+        (F.faults files.new) CHECK_LIMIT (texts words.now) (settings_of (texts words.now)) file
+        × InputUsed (I.left input.old) (I.left input.new) (I.steady input.old)
+        (I.faults input.old) (I.faults input.new) INPUT_LIMIT
         (checked_words (texts words.now) file) read
         × Written (answer (texts words.now) file read) result
-        (stream (O.held out.old) (O.held out.new) (O.faults out.old) (O.faults out.new) (O.room out.old))
-        (stream (E.held err.old) (E.held err.new) (E.faults err.old) (E.faults err.new) (E.room err.old)) }
-    ensures fault { result ≡ 3 → Rose (F.faults files.old) (F.faults files.new) ⊎ Rose (I.faults input.old) (I.faults input.new)
-        ⊎ Rose (O.faults out.old) (O.faults out.new) ⊎ Rose (E.faults err.old) (E.faults err.new) }
+        (stream (O.held out.old) (O.held out.new) (O.faults out.old) (O.faults out.new)
+        (O.room out.old))
+        (stream (E.held err.old) (E.held err.new) (E.faults err.old) (E.faults err.new)
+        (E.room err.old)) }
+    ensures fault { result ≡ 3 → Rose (F.faults files.old) (F.faults files.new)
+        ⊎ Rose (I.faults input.old) (I.faults input.new)
+        ⊎ Rose (O.faults out.old) (O.faults out.new)
+        ⊎ Rose (E.faults err.old) (E.faults err.new) }
     ensures memory { result ≡ 4 → (O.held out.new ≡ O.held out.old)
         × AppendsFront (E.held err.old) (E.held err.new) out_of_memory }
     ensures taken { TakesAtMost (I.left input.old) (I.left input.new) (INPUT_LIMIT + 1) }
+    ensures files_stay { F.held files.new ≡ F.held files.old }
     ensures no_other { result ≤ 4 }
 {
     let settings = read_words(words);
@@ -73,8 +79,10 @@ fn read_file<F: Files>(
     files: &mut F,
 ) -> Result<Reading, NoMemory>
     requires { WordsHold (texts words.now) settings }
-    ensures used { IfOk result (FileUsed (F.held files.old) (F.steady files.old) (F.faults files.old) (F.faults files.new) CHECK_LIMIT
+    ensures used { IfOk result (FileUsed (F.held files.old) (F.steady files.old)
+        (F.faults files.old) (F.faults files.new) CHECK_LIMIT
         (texts words.now) settings) }
+    ensures files_stay { F.held files.new ≡ F.held files.old }
     ensures small { IfOk result IsShort }
 {
     let Settings::File(at) = settings else {
@@ -95,7 +103,8 @@ fn read_input<I: Source>(
     checked: &Checked,
     input: &mut I,
 ) -> Result<Reading, NoMemory>
-    ensures used { IfOk result (InputUsed (I.left input.old) (I.left input.new) (I.steady input.old) (I.faults input.old)
+    ensures used { IfOk result (InputUsed (I.left input.old) (I.left input.new)
+        (I.steady input.old) (I.faults input.old)
         (I.faults input.new) INPUT_LIMIT checked.now) }
     ensures taken { TakesAtMost (I.left input.old) (I.left input.new) (INPUT_LIMIT + 1) }
     ensures small { IfOk result IsShort }
@@ -115,8 +124,10 @@ fn read_input<I: Source>(
 fn write_answer<O: Sink, E: Sink>(answer: &Answer, out: &mut O, err: &mut E) -> u8
     requires { answer.now.status ≤ 3 }
     ensures written { Written answer.now result
-        (stream (O.held out.old) (O.held out.new) (O.faults out.old) (O.faults out.new) (O.room out.old))
-        (stream (E.held err.old) (E.held err.new) (E.faults err.old) (E.faults err.new) (E.room err.old)) }
+        (stream (O.held out.old) (O.held out.new) (O.faults out.old) (O.faults out.new)
+        (O.room out.old))
+        (stream (E.held err.old) (E.held err.new) (E.faults err.old) (E.faults err.new)
+        (E.room err.old)) }
     ensures range { result ≤ 3 }
 {
     if write_all(out, answer.out.as_slice()).is_err() {

@@ -1,7 +1,8 @@
 //! The answer on the input.
 ghost use Rattle.std.specs.Prelude.{◌≡◌, ◌≤◌, ◌^◌, All, IfOk, length};
 ghost use Rattle.check_lines.specs.Checks.{EndsBy};
-ghost use Rattle.filecheck_tool.specs.Answer.{bytes_answer, checked_answer, input_answer, input_name, scanned_answer, unfound_message};
+ghost use Rattle.filecheck_tool.specs.Answer.{bytes_answer, checked_answer, input_answer};
+ghost use Rattle.filecheck_tool.specs.Answer.{scanned_answer, unfound_message};
 ghost use Rattle.filecheck_tool.specs.Sound.{IsShort, IsSound};
 
 use crate::answer::{Answer, told, told_of};
@@ -80,7 +81,8 @@ fn tell_unfound(
 ) -> Result<Bytes, NoMemory>
     requires within { unfound.now.from ≤ length input.now }
     requires small { length input.now ≤ 2 ^ 30 }
-    ensures { IfOk result (λ message. message ≡ unfound_message program.now.name program.now.text input.now unfound.now) }
+    ensures { IfOk result (λ message. message
+        ≡ unfound_message program.now.name program.now.text input.now unfound.now) }
 {
     let directive = unfound.directive;
     let place = Place {

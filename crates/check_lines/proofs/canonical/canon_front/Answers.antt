@@ -14,7 +14,8 @@ loop-text-preserved c =
         below = omega (arith, c.loop-text.invariant.below);
         within = omega (arith, w.move_chunk.auto.text, c.loop-text-test.true);
         same = moved_quiet c.args.strict c.loop-text.text w.move_chunk.new.text c.loop-text.made.done at CHUNK _ c.loop-text.made.behind_blank
-            w.in-Some.behind_blank count w.in-Some.ensures w.move_chunk.ensures.front w.move_chunk.ensures.rest ∙ c.loop-text.invariant.same;
+            w.in-Some.behind_blank count w.in-Some.ensures w.move_chunk.ensures.front w.move_chunk.ensures.rest
+            ∙ c.loop-text.invariant.same;
       })
       | in-None w ↦ rw (w.text-is, w.made-is) (record {
         long = w.move_bytes-made.auto.text ∙ c.loop-text.invariant.long;
@@ -30,4 +31,5 @@ returns c =
     let made = c.move_bytes.result in
     let ends : length new ≤ length c.loop-text.text = omega (arith, c.move_bytes.auto.text) in
     let nothing = form_at_end c.args.strict made.behind_blank new (length c.loop-text.text) ends in
-    sym (append-nil (take made.done new)) ∙ ap (λ l. take made.done new ++ l) (sym nothing) ∙ c.move_bytes.ensures.same ∙ c.loop-text.invariant.same
+    sym (append-nil (take made.done new)) ∙ ap (λ l. take made.done new ++ l) (sym nothing)
+    ∙ c.move_bytes.ensures.same ∙ c.loop-text.invariant.same
