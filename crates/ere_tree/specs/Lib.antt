@@ -9,14 +9,11 @@ pub mod Front
 pub mod Grammar
 pub mod Hit
 pub mod Levels
-pub mod Listing
 pub mod Place
 pub mod Preference
 pub mod Productions
 pub mod Shape
-pub mod Slow
 pub mod Token
 pub mod TokenView
 pub mod Tree
 pub mod View
-pub mod WayView

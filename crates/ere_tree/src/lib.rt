@@ -16,15 +16,10 @@ mod level;
 mod parser;
 #[cfg(test)]
 mod parser_tests;
-mod settings;
 mod shape;
-mod slow;
-#[cfg(test)]
-mod slow_tests;
 #[cfg(test)]
 mod tests;
 mod token;
-mod way;
 
 pub use bound::MAX_BOUND;
 pub use byte_set::ByteSet;
@@ -34,6 +29,3 @@ pub use fault::{EreFail, EreFault, EreKind};
 pub use hit::{Cap, Caps, Hit};
 pub use laws::{law_of_preference, law_of_the_hit};
 pub use parser::{MAX_DEPTH, MAX_SIZE, parse};
-pub use settings::{Setting, Settings};
-pub use slow::{Derivation, SlowHit, derivations, slow_hit};
-pub use way::{OwnedStep, OwnedWay, OwnedWays};

@@ -3,7 +3,9 @@ ghost use Rattle.ere_tree.specs.Shape.{greatest_number};
 ghost use Rattle.ere_tree.specs.Tree.{alt, plain, then, none};
 ghost use Rattle.ere_tree.specs.View.{view};
 
-use crate::{ByteRun, ByteSet, Cap, Caps, Ere, EreList, Hit, class};
+use crate::{
+    ByteRun, ByteSet, Cap, Caps, Ere, EreList, Hit, class, law_of_preference, law_of_the_hit,
+};
 use std::alloc::{AllocError, Global};
 use std::test::Fail;
 
@@ -128,4 +130,10 @@ fn captures_keep_what_is_unset(rt: HostRuntime) -> Result<(), Fail> {
     );
     assert_eq!(rt; Caps::new(rt.alloc()).into_vec().len(), 0);
     Ok(())
+}
+
+#[test]
+fn laws_can_be_called() {
+    law_of_preference();
+    law_of_the_hit();
 }

@@ -1,0 +1,29 @@
+-- What the slow program answers, in the words of the definitions.
+use Rattle.std.specs.Prelude.{◌≡◌, ℕ, List}
+use Rattle.std.specs.List.{All, Any, Contains}
+use Rattle.ere_tree.specs.Tree.{Tree}
+use Rattle.ere_tree.specs.Captures.{Captures}
+use Rattle.ere_tree.specs.Derivation.{Way, Derives}
+use Rattle.ere_tree.specs.Preference.{IsPreferred}
+use Rattle.ere_slow.specs.WayView.{way_of, captures_of}
+use Rattle.ere_slow.specs.declared.slow.Derivation.{Derivation}
+
+-- each of these values is a derivation of the tree, from the place i and with the captures c
+abbrev pub AreDerivations : List ℕ → Tree → ℕ → Captures → List Derivation → Type 0
+AreDerivations s t i c ds = All (λ d. Derives s t (way_of d.way) i d.to c (captures_of d.captures)) ds
+
+-- each way in which the tree derives, from the place i and with the captures c, is that of one of these
+abbrev pub AreAllDerivations : List ℕ → Tree → ℕ → Captures → List Derivation → Type 0
+AreAllDerivations s t i c ds =
+    (w : Way) (j : ℕ) (e : Captures) → Derives s t w i j c e → Any (λ d. way_of d.way ≡ w) ds
+
+-- the first value's derivation is preferred to the second's
+abbrev pub IsPreferredTo : Derivation → Derivation → Type 0
+IsPreferredTo d best = IsPreferred (way_of d.way) d.to (way_of best.way) best.to
+
+-- of derivations of one tree, from one place and with the same captures, none is preferred to this one
+abbrev pub IsMostPreferred : List Derivation → Derivation → Type 0
+IsMostPreferred ds best =
+    Contains ds best
+    × ((s : List ℕ) (t : Tree) (i : ℕ) (c : Captures) → AreDerivations s t i c ds
+    → All (λ d. IsPreferredTo d best → ⊥) ds)

@@ -1,0 +1,13 @@
+//! The plain, slow program beside the definitions of `ere_tree`: it lists the derivations of an expression one by one.
+//! Later matchers are compared with it on small texts.
+#![tactic(auto)]
+
+mod settings;
+mod slow;
+#[cfg(test)]
+mod slow_tests;
+mod way;
+
+pub use settings::{Setting, Settings};
+pub use slow::{Derivation, SlowHit, derivations, slow_hit};
+pub use way::{OwnedStep, OwnedWay, OwnedWays};

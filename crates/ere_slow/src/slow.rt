@@ -1,0 +1,490 @@
+//! The derivations of an expression, listed one by one: the definitions as a plain, slow program, for small
+//! texts.
+ghost use Rattle.std.specs.Prelude.{◌≡◌, ℕ, ◌-◌, ◌==◌, ◌++◌, ◌↔◌, List, [], ◌∷◌, length, MatchOption, IsTrue, IfOk, OnOk, map, slice_index};
+ghost use Rattle.ere_tree.specs.Derivation.{part, parts, members};
+ghost use Rattle.ere_slow.specs.Listing.{found_of, begun_of, trees_in, one_if, stands, is_one_of, further, each_behind, begin, required, at_most, found_of_row, found_chosen, found_inside, repeat_ways, all_ways, all_rows, alternatives};
+ghost use Rattle.ere_slow.specs.Listing as listing;
+ghost use Rattle.ere_tree.specs.View.{view, members_of};
+ghost use Rattle.std.specs.FinMap.{empty};
+ghost use Rattle.ere_tree.specs.Hit.{IsHit, HasNoHit};
+ghost use Rattle.ere_slow.specs.Slow.{AreDerivations, AreAllDerivations, IsPreferredTo, IsMostPreferred};
+ghost use Rattle.ere_slow.specs.WayView.{captures_of};
+
+use crate::settings::Settings;
+use crate::way::{OwnedStep, OwnedWay, OwnedWays};
+use ere_tree::{ByteSet, Ere, EreList};
+use std::alloc::{AllocError, Global};
+use std::cmp::Ordering;
+
+/// A derivation: its way, where it ends, and the captures behind it.
+#[derive(Drop, Debug)]
+pub struct Derivation {
+    pub way: OwnedWay,
+    pub to: usize,
+    pub captures: Settings,
+}
+
+/// The derivations of parts or members one behind the other, where the last ends, and the captures behind it.
+#[derive(Drop, Debug)]
+struct Row {
+    ways: OwnedWays,
+    to: usize,
+    captures: Settings,
+}
+
+/// Where an expression is found first, and the captures.
+#[derive(Drop, Debug)]
+pub struct SlowHit {
+    pub from: usize,
+    pub to: usize,
+    pub captures: Settings,
+}
+
+/// The bytes from `from` to `to`, as far as the text goes.
+fn part_of(text: &[u8], from: usize, to: usize) -> &[u8]
+    ensures { result.now ≡ part text.now from to }
+{
+    let start = from.min(text.len());
+    let end = to.min(text.len()).max(start);
+    &text[start..end]
+}
+
+/// Whether the bytes stand in the text at `from`.
+fn stands_at(text: &[u8], from: usize, bytes: &[u8], fold: bool) -> bool
+    ensures { result ≡ stands fold text.now from bytes.now }
+{
+    if from > text.len() || bytes.len() > text.len() - from {
+        return false;
+    }
+    let here = &text[from..from + bytes.len()];
+    if fold {
+        here.eq_ignore_ascii_case(bytes)
+    } else {
+        here == bytes
+    }
+}
+
+fn is_newline_at(text: &[u8], at: usize) -> bool
+    ensures { result ≡ (slice_index text.now at == 10) }
+{
+    at < text.len() && text[at] == b'\n'
+}
+
+fn is_in_set_at(set: &ByteSet, text: &[u8], at: usize) -> bool
+    ensures { result ≡ is_one_of (members_of set.now.bits) text.now at }
+{
+    at < text.len() && set.has(text[at])
+}
+
+/// The one derivation with nothing to choose, if the test holds.
+fn leaf_if(
+    alloc: Global,
+    test: bool,
+    to: usize,
+    captures: &Settings,
+) -> Result<Vec<Derivation>, AllocError>
+    ensures { IfOk result (λ found. map found_of found.items ≡ one_if test to (captures_of captures.now)) }
+{
+    let mut found = Vec::new(alloc);
+    if test {
+        let captures = captures.copy(alloc)?;
+        found.push(Derivation {
+            way: OwnedWay::Leaf,
+            to,
+            captures,
+        })?;
+    }
+    Ok(found)
+}
+
+/// The derivation of bytes, wherever they stand.
+fn text_ways(
+    alloc: Global,
+    text: &[u8],
+    from: usize,
+    bytes: &[u8],
+    fold: bool,
+    captures: &Settings,
+) -> Result<Vec<Derivation>, AllocError>
+    ensures { IfOk result (λ found. map found_of found.items ≡
+        listing.text_ways fold text.now from bytes.now (captures_of captures.now)) }
+{
+    if stands_at(text, from, bytes, fold) {
+        leaf_if(alloc, true, from + bytes.len(), captures)
+    } else {
+        Ok(Vec::new(alloc))
+    }
+}
+
+/// All rows of one row and one derivation behind it; one that is empty only if it may be.
+fn put_behind(
+    alloc: Global,
+    row: &Row,
+    found: Vec<Derivation>,
+    may_be_empty: bool,
+    rows: &mut Vec<Row>,
+) -> Result<(), AllocError>
+    ensures { OnOk result (map begun_of rows.new.items ≡
+        map begun_of rows.old.items
+        ++ each_behind may_be_empty (begun_of row.now) (map found_of found.items)) }
+{
+    for one in found {
+        if may_be_empty || row.to < one.to {
+            let mut ways = row.ways.copy(alloc)?;
+            ways.held.push(OwnedStep {
+                to: one.to,
+                way: one.way,
+            })?;
+            rows.push(Row {
+                ways,
+                to: one.to,
+                captures: one.captures,
+            })?;
+        }
+    }
+    Ok(())
+}
+
+/// Each row with each derivation of the expression behind it.
+#[cycle(ways)]
+fn go_on(
+    alloc: Global,
+    ere: &Ere,
+    text: &[u8],
+    rows: &[Row],
+    may_be_empty: bool,
+) -> Result<Vec<Row>, AllocError>
+    ensures { IfOk result (λ longer. map begun_of longer.items ≡
+        listing.go_on may_be_empty (all_ways text.now (view ere.now)) (map begun_of rows.now)) }
+{
+    let mut longer = Vec::new(alloc);
+    for row in rows {
+        let found = ways_of(alloc, ere, text, row.to, &row.captures)?;
+        put_behind(alloc, row, found, may_be_empty, &mut longer)?;
+    }
+    Ok(longer)
+}
+
+/// The row of no derivation.
+fn start(alloc: Global, from: usize, captures: &Settings) -> Result<Vec<Row>, AllocError>
+    ensures { IfOk result (λ rows. map begun_of rows.items ≡ begin from (captures_of captures.now)) }
+{
+    let captures = captures.copy(alloc)?;
+    let mut rows = Vec::new(alloc);
+    let ways = OwnedWays {
+        held: Vec::new(alloc),
+    };
+    rows.push(Row {
+        ways,
+        to: from,
+        captures,
+    })?;
+    Ok(rows)
+}
+
+/// The derivations of all parts one behind the other.
+#[cycle(ways)]
+fn rows_of_parts(
+    alloc: Global,
+    all: &EreList,
+    text: &[u8],
+    from: usize,
+    captures: &Settings,
+) -> Result<Vec<Row>, AllocError>
+    ensures { IfOk result (λ rows. map begun_of rows.items ≡
+        all_rows text.now (trees_in all.now) (begin from (captures_of captures.now))) }
+{
+    let mut rows = start(alloc, from, captures)?;
+    for part in all.as_slice() {
+        rows = go_on(alloc, part, text, rows.as_slice(), true)?;
+    }
+    Ok(rows)
+}
+
+/// The derivations of `least` members one behind the other, and of up to `more` others that aren't empty.
+#[cycle(ways)]
+fn rows_of_members(
+    alloc: Global,
+    inner: &Ere,
+    text: &[u8],
+    from: usize,
+    captures: &Settings,
+    least: u32,
+    more: usize,
+) -> Result<Vec<Row>, AllocError>
+    ensures { IfOk result (λ rows. map begun_of rows.items ≡
+        at_most (all_ways text.now (view inner.now)) more
+        (required (all_ways text.now (view inner.now)) least (begin from (captures_of captures.now)))) }
+{
+    let mut rows = start(alloc, from, captures)?;
+    for _ in 0..least {
+        rows = go_on(alloc, inner, text, rows.as_slice(), true)?;
+    }
+    let mut all = Vec::new(alloc);
+    for _ in 0..more {
+        let longer = go_on(alloc, inner, text, rows.as_slice(), false)?;
+        all.append(&mut rows)?;
+        rows = longer;
+    }
+    all.append(&mut rows)?;
+    Ok(all)
+}
+
+/// The derivations of a concatenation from those of its parts in a row.
+fn found_parts(alloc: Global, rows: Vec<Row>) -> Result<Vec<Derivation>, AllocError>
+    ensures { IfOk result (λ found. map found_of found.items ≡
+        map (found_of_row parts) (map begun_of rows.items)) }
+{
+    let mut found = Vec::new(alloc);
+    for row in rows {
+        found.push(Derivation {
+            way: OwnedWay::Parts(row.ways),
+            to: row.to,
+            captures: row.captures,
+        })?;
+    }
+    Ok(found)
+}
+
+/// The derivations of a repeat from those of its members in a row.
+fn found_members(alloc: Global, rows: Vec<Row>) -> Result<Vec<Derivation>, AllocError>
+    ensures { IfOk result (λ found. map found_of found.items ≡
+        map (found_of_row members) (map begun_of rows.items)) }
+{
+    let mut found = Vec::new(alloc);
+    for row in rows {
+        found.push(Derivation {
+            way: OwnedWay::Members(row.ways),
+            to: row.to,
+            captures: row.captures,
+        })?;
+    }
+    Ok(found)
+}
+
+/// The derivations of a group from `from`, from those of what it holds.
+fn found_in_group(
+    alloc: Global,
+    held: Vec<Derivation>,
+    number: u32,
+    from: usize,
+) -> Result<Vec<Derivation>, AllocError>
+    ensures { IfOk result (λ found. map found_of found.items ≡
+        map (found_inside number from) (map found_of held.items)) }
+{
+    let mut found = Vec::new(alloc);
+    for one in held {
+        let mut captures = one.captures;
+        captures.set(number, from, one.to)?;
+        let way = Box::new(alloc, one.way)?;
+        found.push(Derivation {
+            way: OwnedWay::Inside(way),
+            to: one.to,
+            captures,
+        })?;
+    }
+    Ok(found)
+}
+
+/// Adds the derivations of an alternation from those of one of its alternatives.
+fn put_chosen(
+    alloc: Global,
+    index: usize,
+    held: Vec<Derivation>,
+    found: &mut Vec<Derivation>,
+) -> Result<(), AllocError>
+    ensures { OnOk result (map found_of found.new.items ≡
+        map found_of found.old.items ++ map (found_chosen index) (map found_of held.items)) }
+{
+    for one in held {
+        let way = Box::new(alloc, one.way)?;
+        found.push(Derivation {
+            way: OwnedWay::Chosen { index, way },
+            to: one.to,
+            captures: one.captures,
+        })?;
+    }
+    Ok(())
+}
+
+/// The derivations of the alternatives, in their order.
+#[cycle(ways)]
+fn ways_of_alternatives(
+    alloc: Global,
+    all: &EreList,
+    text: &[u8],
+    from: usize,
+    captures: &Settings,
+) -> Result<Vec<Derivation>, AllocError>
+    ensures { IfOk result (λ found. map found_of found.items ≡
+        alternatives text.now (trees_in all.now) 0 from (captures_of captures.now)) }
+{
+    let mut found = Vec::new(alloc);
+    for (index, one) in all.as_slice().iter().enumerate() {
+        let held = ways_of(alloc, one, text, from, captures)?;
+        put_chosen(alloc, index, held, &mut found)?;
+    }
+    Ok(found)
+}
+
+/// How many members more than `least` a repeat may have, with `left` bytes behind its start.
+/// None where it can have none at all.
+fn further_members(least: u32, most: Option<u32>, left: usize) -> Option<usize>
+    ensures { result ≡ further least most left }
+{
+    match most {
+        None => Some(left),
+        Some(most) if most < least => None,
+        Some(most) => Some(left.min((most - least) as usize)),
+    }
+}
+
+/// The derivations of a repeat.
+#[cycle(ways)]
+fn ways_of_repeat(
+    alloc: Global,
+    inner: &Ere,
+    least: u32,
+    most: Option<u32>,
+    text: &[u8],
+    from: usize,
+    captures: &Settings,
+) -> Result<Vec<Derivation>, AllocError>
+    ensures { IfOk result (λ found. map found_of found.items ≡
+        repeat_ways (all_ways text.now (view inner.now)) least (further least most (length text.now - from))
+        from (captures_of captures.now)) }
+{
+    match further_members(least, most, text.len().saturating_sub(from)) {
+        None => Ok(Vec::new(alloc)),
+        Some(more) => found_members(
+            alloc,
+            rows_of_members(alloc, inner, text, from, captures, least, more)?,
+        ),
+    }
+}
+
+/// The derivations of an expression from one place and with the same captures.
+#[cycle(ways)]
+fn ways_of(
+    alloc: Global,
+    ere: &Ere,
+    text: &[u8],
+    from: usize,
+    captures: &Settings,
+) -> Result<Vec<Derivation>, AllocError>
+    ensures { IfOk result (λ found. map found_of found.items ≡
+        all_ways text.now (view ere.now) from (captures_of captures.now)) }
+{
+    match ere {
+        Ere::Empty => leaf_if(alloc, true, from, captures),
+        Ere::Plain(run) => text_ways(alloc, text, from, run.as_slice(), false, captures),
+        Ere::Set(set) => {
+            if is_in_set_at(set, text, from) {
+                leaf_if(alloc, true, from + 1, captures)
+            } else {
+                Ok(Vec::new(alloc))
+            }
+        }
+        Ere::LineStart => leaf_if(
+            alloc,
+            from == 0 || is_newline_at(text, from - 1),
+            from,
+            captures,
+        ),
+        Ere::LineEnd => leaf_if(
+            alloc,
+            from == text.len() || is_newline_at(text, from),
+            from,
+            captures,
+        ),
+        Ere::Cat(all) => found_parts(alloc, rows_of_parts(alloc, all, text, from, captures)?),
+        Ere::Alt(all) => ways_of_alternatives(alloc, all, text, from, captures),
+        Ere::Repeat { inner, least, most } => ways_of_repeat(
+            alloc, inner, *least, *most, text, from, captures,
+        ),
+        Ere::Group { number, inner } => {
+            let held = ways_of(alloc, inner, text, from, captures)?;
+            found_in_group(alloc, held, *number, from)
+        }
+        Ere::Ref { number, fold } => match captures.get(*number) {
+            None => Ok(Vec::new(alloc)),
+            Some((start, end)) => text_ways(
+                alloc,
+                text,
+                from,
+                part_of(text, start, end),
+                *fold,
+                captures,
+            ),
+        },
+    }
+}
+
+/// All derivations of the expression in the slice `text` from the place `from`, with no group set before.
+#[tactic(auto, using(crate::proofs::SlowLemmas::listed_derive))]
+pub fn derivations(
+    alloc: Global,
+    ere: &Ere,
+    text: &[u8],
+    from: usize,
+) -> Result<Vec<Derivation>, AllocError>
+    ensures sound { IfOk result (λ found. AreDerivations text.now (view ere.now) from empty found.items) }
+    ensures complete { IfOk result (λ found.
+        AreAllDerivations text.now (view ere.now) from empty found.items) }
+{
+    let unset = Settings::none(alloc);
+    ways_of(alloc, ere, text, from, &unset)
+}
+
+/// Whether the first derivation is preferred to the second.
+fn is_preferred(one: &Derivation, other: &Derivation) -> bool
+    ensures { IsTrue result ↔ IsPreferredTo one.now other.now }
+{
+    other.to.cmp(&one.to).then(one.way.compare(&other.way)) == Ordering::Less
+}
+
+/// The most preferred of some derivations and one more.
+fn better(held: Option<Derivation>, one: Derivation) -> Derivation
+    ensures { (ds : List Derivation) → MatchOption held (ds ≡ []) (IsMostPreferred ds)
+        → IsMostPreferred (ds ++ one ∷ []) result }
+{
+    match held {
+        None => one,
+        Some(best) => { if is_preferred(&one, &best) { one } else { best } }
+    }
+}
+
+/// Of derivations from one place, one to which no other is preferred. None if there are none.
+fn most_preferred(found: Vec<Derivation>) -> Option<Derivation>
+    ensures { MatchOption result (found.items ≡ []) (IsMostPreferred found.items) }
+{
+    let mut best = None;
+    for one in found {
+        best = Some(better(best, one));
+    }
+    best
+}
+
+/// The hit of the expression in the slice `text` from the place `from` on.
+pub fn slow_hit(
+    alloc: Global,
+    ere: &Ere,
+    text: &[u8],
+    from: usize,
+) -> Result<Option<SlowHit>, AllocError>
+    ensures hit { IfOk result (λ found. MatchOption found
+        (HasNoHit text.now (view ere.now) from)
+        (λ hit. IsHit text.now (view ere.now) from hit.from hit.to (captures_of hit.captures))) }
+{
+    for start in from..text.len() + 1 {
+        let found = derivations(alloc, ere, text, start)?;
+        if let Some(best) = most_preferred(found) {
+            return Ok(Some(SlowHit {
+                from: start,
+                to: best.to,
+                captures: best.captures,
+            }));
+        }
+    }
+    Ok(None)
+}

@@ -1,9 +1,0 @@
-use Rattle.std.proofs.Common.{◌≡◌, ◌++◌, [], MatchOption}
-use Rattle.std.specs.Vec.Iter.{into_iter_items}
-use Rattle.ere_tree.specs.Slow.{IsMostPreferred}
-use Rattle.ere_tree.proofs.slow.most_preferred.Given as goal
-
-abbrev pub invariant-loop-one : goal.invariant-loop-one
-invariant-loop-one l =
-    MatchOption l.best (l.yielded ≡ []) (IsMostPreferred l.yielded)
-    × (l.yielded ++ into_iter_items l.one-iterator ≡ l.fn.found.items)

@@ -1,6 +1,0 @@
-use Rattle.std.proofs.Common.{◌≡◌, map, take}
-use Rattle.ere_tree.specs.WayView.{step_of}
-use Rattle.ere_tree.proofs.way.+copy.Given as goal
-
-abbrev pub invariant-OwnedWays::copy-loop-step : goal.invariant-OwnedWays::copy-loop-step
-invariant-OwnedWays::copy-loop-step l = map step_of l.held.items ≡ map step_of (take l.step-index l.step-items)
