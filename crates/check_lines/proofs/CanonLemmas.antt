@@ -1,16 +1,16 @@
 -- The canonical form in place: what is done and what is left are the whole.
-use Rattle.std.proofs.Common.{◌≡◌, ℕ, ◌+◌, ◌-◌, ◌<◌, ◌≤◌, Bool, true, false, List, [], ◌∷◌, ◌++◌, Option, None, Some, length, get_or, take, drop, refl, sym, ◌∙◌, ap, arith, map, append_assoc, drop-cons, add-one, length-drop, take_all, cond, length-set, ◌&&◌, IsTrue}
+use Rattle.std.proofs.Common.{◌≡◌, ℕ, ◌+◌, ◌-◌, ◌<◌, ◌≤◌, Bool, true, false, List, [], ◌∷◌, ◌++◌, Option, None, Some, length, get_or, take, drop, refl, sym, ◌∙◌, ap, arith, map, append_assoc, drop-cons, add-one, length-drop, take_all, cond, length-set, ◌&&◌, IsTrue, ◌==◌, not, is_some, suc}
 use Rattle.std.proofs.lemmas.List.{drop_all, drop-drop, drop-set-lt, get_or-drop, take-set, take_more, take-append-drop, map-append}
 use Rattle.std.proofs.lemmas.List.Edits.{drop-paste}
 use Rattle.std.proofs.lemmas.Slice.{put_mid-paste}
-use Rattle.std.proofs.Math.Seq.{paste}
+use Rattle.std.proofs.Math.Seq.{paste, take-append_seam}
 use borrow.Rule.Slice.PartMut.{put_mid}
 use Rattle.std.proofs.lemmas.Grind.{take-set_at}
 use Rattle.std.proofs.Math.ListN.{set}
 use mir.Val.{bool_byte}
 use Rattle.std.specs.List.{cons_option}
-use Rattle.check_lines.specs.Canon.{canonical_from, is_blank, kept_byte}
-use Rattle.check_lines.specs.CanonMade.{shown_byte}
+use Rattle.check_lines.specs.Canon.{begins_with_newline, canonical_from, is_blank, kept_byte}
+use Rattle.check_lines.specs.CanonMade.{kept_flags, shown_byte}
 
 -- what is left of a text, as the code slices it
 pub rest_of : (text : List ℕ) (at : ℕ) → take (length text - at) (drop at text) ≡ drop at text
@@ -82,6 +82,103 @@ module _ (strict : Bool) (long : ℕ) (form text : List ℕ) (done at : ℕ) (be
             ∙ ap (λ l. l ++ later) (take-set text done shown)
             ∙ ap (λ l. take done text ++ l) (sym (opened _ kept_is)) ∙ so_far.same);
       }
+
+kept_case : (ends blank behind : Bool) (byte : ℕ)
+    → cond ends None (cond blank (cond behind None (Some 32)) (Some byte))
+    ≡ cond (is_some (cond ends None (cond blank (cond behind None (Some 32)) (Some byte)))) (Some (cond blank 32 byte)) None
+kept_case true blank behind byte = refl
+kept_case false true true byte = refl
+kept_case false true false byte = refl
+kept_case false false behind byte = refl
+
+-- what a byte's flag says
+kept_as : (strict behind : Bool) (byte : ℕ) (rest : List ℕ) (kept : Bool)
+    → is_some (kept_byte strict behind byte rest) ≡ kept
+    → kept_byte strict behind byte rest ≡ cond kept (Some (shown_byte strict byte)) None
+kept_as strict behind byte rest kept is =
+    kept_case (byte == 13 && begins_with_newline rest) (not strict && is_blank byte) behind byte
+    ∙ ap (λ k. cond k (Some (shown_byte strict byte)) None) is
+
+-- the first byte's flag
+flags-drop : (strict behind : Bool) (text : List ℕ) (at : ℕ) → at < length text
+    → kept_flags strict behind (drop at text)
+    ≡ is_some (kept_byte strict behind (get_or text at 0) (drop (at + 1) text))
+    ∷ kept_flags strict (is_blank (get_or text at 0)) (drop (at + 1) text)
+unfolding kept_flags
+flags-drop strict behind text at within =
+    ap (kept_flags strict behind)
+    (drop-cons text at 0 within ∙ ap (λ n. get_or text at 0 ∷ drop n text) (sym (add-one at)))
+
+flag_of : (kept : Bool) (byte : ℕ) → is_some (cond kept (Some byte) None) ≡ kept
+flag_of true byte = refl
+flag_of false byte = refl
+
+-- a flag is found, and is the next one
+pub flag_next : (strict last : Bool) (text : List ℕ) (kept flags : List Bool) (at k : ℕ) (flag after : Bool)
+    → at + k + 1 < length text → k < length kept
+    → take k kept ++ kept_flags strict last (drop (at + k) text) ≡ flags
+    → ((rest : List ℕ) → begins_with_newline rest ≡ (get_or text (at + k + 1) 0 == 10)
+    → kept_byte strict last (get_or text (at + k) 0) rest ≡ cond flag (Some (shown_byte strict (get_or text (at + k) 0))) None)
+    → after ≡ is_blank (get_or text (at + k) 0)
+    → take (k + 1) (set kept k flag) ++ kept_flags strict after (drop (at + (k + 1)) text) ≡ flags
+flag_next strict last text kept flags at k flag after within inside so_far is after_is =
+    let byte = get_or text (at + k) 0 in
+    let rest = drop (at + k + 1) text in
+    let later = kept_flags strict (is_blank byte) rest in
+    let next : at + (k + 1) ≡ at + k + 1 = omega arith in
+    let ahead : begins_with_newline rest ≡ (get_or text (at + k + 1) 0 == 10) =
+    ap begins_with_newline (drop-cons text (at + k + 1) 0 within) in
+    let found : is_some (kept_byte strict last byte rest) ≡ flag =
+    ap is_some (is rest ahead) ∙ flag_of flag (shown_byte strict byte) in
+    rw (after_is, next) (ap (λ l. l ++ later) (take-set_at kept k (k + 1) flag refl inside)
+    ∙ append_assoc (take k kept) (flag ∷ []) later
+    ∙ ap (λ f. take k kept ++ f ∷ later) (sym found)
+    ∙ ap (λ l. take k kept ++ l) (sym (flags-drop strict last text (at + k) (omega (arith, within))))
+    ∙ so_far)
+
+-- a list that is the front of another
+pub front_of : (front rest whole : List Bool) (k n : ℕ) → length front ≡ n → k ≡ n → take k front ++ rest ≡ whole
+    → front ≡ take n whole
+front_of front rest whole k n long ends so_far =
+    let all : take k front ≡ front = take_all k front (omega (arith, long, ends)) in
+    sym (take-append_seam front rest) ∙ ap (λ m. take m (front ++ rest)) long
+    ∙ ap (take n) (ap (λ l. l ++ rest) (sym all) ∙ so_far)
+
+module _ (strict : Bool) (long : ℕ) (form text : List ℕ) (kept : List Bool) (done at k n : ℕ) (behind : Bool)
+    (so_far : Done strict long form text done (at + k) behind)
+    (flags : take (n - k) (kept_flags strict behind (drop (at + k) text)) ≡ drop k kept)
+    (many : length kept ≡ n) (one_more : k < n) (within : at + k < long) where
+  abbrev byte : ℕ
+  byte = get_or text (at + k) 0
+
+  abbrev rest : List ℕ
+  rest = drop (at + k + 1) text
+
+  -- the flag of the byte, and those behind it
+  flags_opened : is_some (kept_byte strict behind byte rest) ∷ take (n - (k + 1)) (kept_flags strict (is_blank byte) rest)
+      ≡ drop k kept
+  flags_opened =
+      let left : n - k ≡ n - (k + 1) + 1 = omega (arith, one_more) in
+      sym (ap (λ m. take m (kept_flags strict behind (drop (at + k) text))) (left ∙ add-one (n - (k + 1)))
+      ∙ ap (take (suc (n - (k + 1)))) (flags-drop strict behind text (at + k) (omega (arith, within, so_far.same_length))))
+      ∙ flags
+
+  -- a byte whose flag is known is written
+  pub moved_next : (after : Bool) (shown : ℕ) → shown ≡ shown_byte strict byte → after ≡ is_blank byte
+      → Done strict long form (set text done shown) (done + bool_byte (get_or kept k false)) (at + (k + 1)) after
+      × (take (n - (k + 1)) (kept_flags strict after (drop (at + (k + 1)) (set text done shown))) ≡ drop (k + 1) kept)
+  moved_next after shown shown_is after_is =
+      let here : k + 0 ≡ k = omega arith in
+      let next : at + (k + 1) ≡ at + k + 1 = omega arith in
+      let flag : is_some (kept_byte strict behind byte rest) ≡ get_or kept k false =
+      ap (λ l. get_or l 0 false) flags_opened ∙ get_or-drop k kept 0 false ∙ ap (λ i. get_or kept i false) here in
+      let left : drop (at + k + 1) (set text done shown) ≡ rest =
+      drop-set-lt (at + k + 1) text done shown (omega (arith, so_far.below)) in (
+        rw next (done_next strict long form text done (at + k) behind rest so_far within refl (get_or kept k false) after
+            shown shown_is after_is (kept_as strict behind byte rest (get_or kept k false) flag)),
+        rw (after_is, next) (ap (λ l. take (n - (k + 1)) (kept_flags strict (is_blank byte) l)) left
+            ∙ ap (drop 1) flags_opened ∙ drop-drop 1 k kept),
+      )
 
 -- at the end of a text nothing is left
 pub form_at_end : (strict behind : Bool) (text : List ℕ) (at : ℕ) → length text ≤ at →

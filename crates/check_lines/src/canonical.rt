@@ -1,8 +1,8 @@
 //! The form in which a check file and an input are compared.
-ghost use Rattle.std.specs.Prelude.{◌≡◌, ◌≤◌, ◌+◌, ◌++◌, ℕ, List, IfOk, IfSome, IsTrue};
+ghost use Rattle.std.specs.Prelude.{◌≡◌, ◌≤◌, ◌<◌, ◌+◌, ◌++◌, ℕ, List, IfOk, IfSome, IsTrue};
 ghost use Rattle.std.specs.Prelude.{None, Some, if◌then◌else◌, drop, length, map, take};
 ghost use Rattle.check_lines.specs.Canon.{begins_with_newline, canonical, canonical_from, is_blank, kept_byte};
-ghost use Rattle.check_lines.specs.CanonMade.{shown_byte, whole_form};
+ghost use Rattle.check_lines.specs.CanonMade.{kept_flags, shown_byte, whole_form};
 ghost use Rattle.check_lines.specs.Cut.{IsCut, IsOfCut, Piece};
 
 use std::alloc::Global;
@@ -44,7 +44,7 @@ struct Made {
 }
 
 /// Puts the canonical form of a text at its front, and answers how long it is. A chunk in which each byte is kept is
-/// moved as one; another is moved byte by byte.
+/// moved as one; another is moved byte by byte, once it is known which of its bytes are kept.
 fn canon_front(text: &mut [u8], strict: bool) -> usize
     ensures { take result text.new ≡ canonical strict text.old }
 {
@@ -53,13 +53,13 @@ fn canon_front(text: &mut [u8], strict: bool) -> usize
         behind_blank: false,
     };
     let mut at = 0;
-    while text.len() - at >= CHUNK {
+    while text.len() - at > CHUNK {
         made = match quiet_end(strict, made.behind_blank, &text[at..at + CHUNK]) {
             Some(behind_blank) => Made {
                 done: move_chunk(text, strict, made.done, at),
                 behind_blank,
             },
-            None => move_bytes(text, strict, made, at, at + CHUNK),
+            None => move_kept(text, strict, made, at),
         };
         at += CHUNK;
     }
@@ -116,6 +116,41 @@ fn show_all(chunk: &mut [u8], strict: bool)
     }
 }
 
+/// Which bytes of a chunk something stands for, where a byte stands behind the chunk.
+fn kept_in(text: &[u8], strict: bool, behind_blank: bool, at: usize) -> [bool; CHUNK]
+    requires { at + CHUNK < length text.now }
+    ensures long { length result ≡ CHUNK }
+    ensures flags { result ≡ take CHUNK (kept_flags strict behind_blank (drop at text.now)) }
+{
+    let mut kept = [false; CHUNK];
+    let mut last = behind_blank;
+    for k in 0..CHUNK {
+        let byte = text[at + k];
+        kept[k] = is_kept(strict, last, byte, text[at + k + 1] == b'\n');
+        last = blank(byte);
+    }
+    kept
+}
+
+/// Moves a chunk that a byte stands behind.
+fn move_kept(text: &mut [u8], strict: bool, made: Made, at: usize) -> Made
+    requires below { made.done ≤ at }
+    requires within { at + CHUNK < length text.old }
+    ensures below { result.done ≤ at + CHUNK }
+    ensures same { whole_form strict text.new result (at + CHUNK) ≡ whole_form strict text.old made at }
+{
+    let kept = kept_in(text, strict, made.behind_blank, at);
+    let mut done = made.done;
+    let mut behind_blank = made.behind_blank;
+    for k in 0..CHUNK {
+        let byte = text[at + k];
+        text[done] = shown(strict, byte);
+        done += kept[k] as usize;
+        behind_blank = blank(byte);
+    }
+    Made { done, behind_blank }
+}
+
 /// Moves the bytes from `at` to before `end`. Each is written, and the next one goes over it where it isn't kept.
 fn move_bytes(text: &mut [u8], strict: bool, made: Made, at: usize, end: usize) -> Made
     requires below { made.done ≤ at }
@@ -128,7 +163,8 @@ fn move_bytes(text: &mut [u8], strict: bool, made: Made, at: usize, end: usize) 
     let mut behind_blank = made.behind_blank;
     for k in at..end {
         let byte = text[k];
-        let kept = is_kept(strict, behind_blank, byte, &text[k + 1..]);
+        let before_newline = starts_line_end(&text[k + 1..]);
+        let kept = is_kept(strict, behind_blank, byte, before_newline);
         text[done] = shown(strict, byte);
         done += kept as usize;
         behind_blank = blank(byte);
@@ -136,13 +172,14 @@ fn move_bytes(text: &mut [u8], strict: bool, made: Made, at: usize, end: usize) 
     Made { done, behind_blank }
 }
 
-/// Whether something stands for a byte.
+/// Whether something stands for a byte, which stands before a newline or not. There is no branch.
 #[inline(always)]
-fn is_kept(strict: bool, behind_blank: bool, byte: u8, rest: &[u8]) -> bool
-    ensures { kept_byte strict behind_blank byte rest.now ≡ (if result then Some (shown_byte strict byte) else None) }
+fn is_kept(strict: bool, behind_blank: bool, byte: u8, before_newline: bool) -> bool
+    ensures { (rest : List ℕ) → begins_with_newline rest ≡ before_newline → kept_byte strict behind_blank byte rest
+        ≡ (if result then Some (shown_byte strict byte) else None) }
 {
     let is_dropped = !strict & behind_blank & blank(byte);
-    !is_dropped & !(byte == b'\r' && starts_line_end(rest))
+    !is_dropped & !((byte == b'\r') & before_newline)
 }
 
 /// What stands for a byte that is kept.

@@ -18,10 +18,10 @@ loop-text-preserved c =
             ∙ c.loop-text.invariant.same;
       })
       | in-None w ↦ rw (w.text-is, w.made-is) (record {
-        long = w.move_bytes-made.auto.text ∙ c.loop-text.invariant.long;
-        below = w.move_bytes-made.ensures.below;
-        within = omega (arith, w.move_bytes-made.auto.text, c.loop-text-test.true);
-        same = w.move_bytes-made.ensures.same ∙ c.loop-text.invariant.same;
+        long = w.move_kept-made.auto.text ∙ c.loop-text.invariant.long;
+        below = w.move_kept-made.ensures.below;
+        within = omega (arith, w.move_kept-made.auto.text, c.loop-text-test.true);
+        same = w.move_kept-made.ensures.same ∙ c.loop-text.invariant.same;
       })
     ]
 
