@@ -1,11 +1,12 @@
 -- The cut of a text: there is one, there is no other, and canonical text is what stands for its pieces.
-use Rattle.std.proofs.Common.{◌≡◌, ℕ, Bool, true, false, ◌&&◌, eqb, cond, List, [], ◌∷◌, ◌++◌, None, Some, refl, sym, ◌∙◌, ap, subst, arith, drop}
+-- By induction over the pieces, and over the text from its end; each byte is decided by the next one alone.
+-- The hard one is `run_one`, where of a run of blanks the last is kept, and stands for the run.
+use Rattle.std.proofs.Common.{◌≡◌, ℕ, Bool, true, false, not, ◌&&◌, ◌||◌, eqb, cond, List, [], ◌∷◌, ◌++◌, get_or, refl, sym, ◌∙◌, ap, subst, arith, drop}
 use Rattle.std.specs.Prelude.{All}
-use Rattle.std.specs.List.{cons_option}
 use Rattle.std.proofs.lemmas.Bool.Decides.{nat_tests}
 use Rattle.std.proofs.lemmas.List.Elements.{All-head, All-tail, All-cons, All-nil}
-use Rattle.check_lines.specs.Canon.{begins_with_newline, canonical, canonical_from, is_blank, kept_byte}
-use Rattle.check_lines.specs.Cut.{Piece, pair, run, single, bytes_in, standing, begins_with_blank, ArePieces, IsCut, IsOfCut}
+use Rattle.check_lines.specs.Canonical.{canon, is_blank, is_kept, shown}
+use Rattle.check_lines.specs.Cut.{Piece, pair, run, single, bytes_in, standing, begins_with_blank, begins_with_newline, ArePieces, IsCut, IsOfCut}
 
 abbrev IsBlank : ℕ → Type 0
 IsBlank byte = is_blank byte ≡ true
@@ -16,89 +17,95 @@ not_return byte blank = grind (arith, nat_tests)
 not_newline : (byte : ℕ) → IsBlank byte → eqb byte 10 ≡ false
 not_newline byte blank = grind (arith, nat_tests)
 
--- what is kept of a blank, and of another byte that isn't of a pair
-kept_blank : (strict behind : Bool) (byte : ℕ) (rest : List ℕ) → IsBlank byte
-    → kept_byte strict behind byte rest ≡ cond strict (Some byte) (cond behind None (Some 32))
-kept_blank true behind byte rest blank =
-    ap (λ t. cond (t && begins_with_newline rest) None (Some byte)) (not_return byte blank)
-kept_blank false behind byte rest blank =
-    ap (λ t. cond (t && begins_with_newline rest) None
-    (cond (is_blank byte) (cond behind None (Some 32)) (Some byte))) (not_return byte blank)
-    ∙ ap (λ t. cond t (cond behind None (Some 32)) (Some byte)) blank
+-- ---- a byte that is kept, and one that isn't
 
-kept_single : (strict behind : Bool) (byte : ℕ) (rest : List ℕ) → is_blank byte ≡ false
-    → eqb byte 13 && begins_with_newline rest ≡ false → kept_byte strict behind byte rest ≡ Some byte
-kept_single true behind byte rest other alone = ap (λ t. cond t None (Some byte)) alone
-kept_single false behind byte rest other alone =
-    ap (λ t. cond t None (cond (is_blank byte) (cond behind None (Some 32)) (Some byte))) alone
-    ∙ ap (λ t. cond t (cond behind None (Some 32)) (Some byte)) other
+kept : (strict : Bool) (byte : ℕ) (rest : List ℕ) → is_kept strict byte (get_or rest 0 0) ≡ true
+    → canon strict (byte ∷ rest) ≡ shown strict byte ∷ canon strict rest
+unfolding canon
+kept strict byte rest is = ap (λ t. cond t (shown strict byte ∷ canon strict rest) (canon strict rest)) is
 
--- a blank before the front counts only where the text begins with one
-behind_any : (strict : Bool) (rest : List ℕ) → begins_with_blank rest ≡ false
-    → canonical_from strict true rest ≡ canonical_from strict false rest
-unfolding canonical_from
-behind_any strict [] other = refl
-behind_any true (byte ∷ rest) other = refl
-behind_any false (byte ∷ rest) other =
-    let kept =
-    λ (behind t : Bool). cond (eqb byte 13 && begins_with_newline rest) None
-    (cond t (cond behind None (Some 32)) (Some byte)) in
-    ap (λ t. cons_option (kept true t) (canonical_from false (is_blank byte) rest)) other
-    ∙ ap (λ t. cons_option (kept false t) (canonical_from false (is_blank byte) rest)) (sym other)
+dropped : (strict : Bool) (byte : ℕ) (rest : List ℕ) → is_kept strict byte (get_or rest 0 0) ≡ false
+    → canon strict (byte ∷ rest) ≡ canon strict rest
+unfolding canon
+dropped strict byte rest isnt = ap (λ t. cond t (shown strict byte ∷ canon strict rest) (canon strict rest)) isnt
 
--- the blanks of a run behind its first
-run_strict : (others rest : List ℕ) → All IsBlank others
-    → canonical_from true true (others ++ rest) ≡ others ++ canonical_from true true rest
-unfolding canonical_from
-run_strict [] rest blanks = refl
-run_strict (byte ∷ others) rest blanks =
-    let blank : IsBlank byte = All-head IsBlank byte others blanks in
-    ap (λ k. cons_option k (canonical_from true (is_blank byte) (others ++ rest)))
-    (kept_blank true true byte (others ++ rest) blank)
-    ∙ ap (λ t. byte ∷ canonical_from true t (others ++ rest)) blank
-    ∙ ap (λ l. byte ∷ l) (run_strict others rest (All-tail IsBlank byte others blanks))
+begins_by_first : (rest : List ℕ) → begins_with_newline rest ≡ eqb (get_or rest 0 0) 10
+begins_by_first [] = refl
+begins_by_first (byte ∷ rest) = refl
 
-run_one : (others rest : List ℕ) → All IsBlank others
-    → canonical_from false true (others ++ rest) ≡ canonical_from false true rest
-unfolding canonical_from
-run_one [] rest blanks = refl
-run_one (byte ∷ others) rest blanks =
-    let blank : IsBlank byte = All-head IsBlank byte others blanks in
-    ap (λ k. cons_option k (canonical_from false (is_blank byte) (others ++ rest)))
-    (kept_blank false true byte (others ++ rest) blank)
-    ∙ ap (λ t. canonical_from false t (others ++ rest)) blank
-    ∙ run_one others rest (All-tail IsBlank byte others blanks)
+blank_by_first : (rest : List ℕ) → begins_with_blank rest ≡ is_blank (get_or rest 0 0)
+blank_by_first [] = refl
+blank_by_first (byte ∷ rest) = refl
 
--- canonical text is what stands for the pieces
-canonical_of_pieces : (strict : Bool) (pieces : List Piece) → ArePieces pieces
-    → canonical_from strict false (bytes_in pieces) ≡ standing strict pieces
-unfolding canonical_from bytes_in standing ArePieces
-canonical_of_pieces strict [] are = refl
-canonical_of_pieces strict (pair ∷ later) are =
-    ap (λ k. cons_option k (canonical_from strict false (bytes_in later)))
-    (kept_single strict false 10 (bytes_in later) refl refl)
-    ∙ ap (λ l. 10 ∷ l) (canonical_of_pieces strict later are.1)
-canonical_of_pieces strict (single byte ∷ later) are =
-    ap (λ k. cons_option k (canonical_from strict (is_blank byte) (bytes_in later)))
-    (kept_single strict false byte (bytes_in later) are.0.0 are.0.1)
-    ∙ ap (λ t. byte ∷ canonical_from strict t (bytes_in later)) are.0.0
-    ∙ ap (λ l. byte ∷ l) (canonical_of_pieces strict later are.1)
-canonical_of_pieces true (run first others ∷ later) are =
-    let blank : IsBlank first = All-head IsBlank first others are.0.0 in
-    let rest = bytes_in later in
-    ap (λ k. cons_option k (canonical_from true (is_blank first) (others ++ rest)))
-    (kept_blank true false first (others ++ rest) blank)
-    ∙ ap (λ t. first ∷ canonical_from true t (others ++ rest)) blank
-    ∙ ap (λ l. first ∷ l) (run_strict others rest (All-tail IsBlank first others are.0.0)
-    ∙ ap (λ l. others ++ l) (behind_any true rest are.0.1 ∙ canonical_of_pieces true later are.1))
-canonical_of_pieces false (run first others ∷ later) are =
-    let blank : IsBlank first = All-head IsBlank first others are.0.0 in
-    let rest = bytes_in later in
-    ap (λ k. cons_option k (canonical_from false (is_blank first) (others ++ rest)))
-    (kept_blank false false first (others ++ rest) blank)
-    ∙ ap (λ t. 32 ∷ canonical_from false t (others ++ rest)) blank
-    ∙ ap (λ l. 32 ∷ l) (run_one others rest (All-tail IsBlank first others are.0.0)
-    ∙ behind_any false rest are.0.1 ∙ canonical_of_pieces false later are.1)
+blank_tests : (strict ends next : Bool) → (not ((false && ends) || ((not strict && true) && next))) ≡ (strict || not next)
+blank_tests true ends next = refl
+blank_tests false ends next = refl
+
+-- without `strict` a blank is kept where none follows
+kept_blank : (strict : Bool) (byte next : ℕ) → IsBlank byte → is_kept strict byte next ≡ (strict || not (is_blank next))
+kept_blank strict byte next blank =
+    ap (λ t. not ((t && eqb next 10) || ((not strict && is_blank byte) && is_blank next))) (not_return byte blank)
+    ∙ ap (λ t. not ((false && eqb next 10) || ((not strict && t) && is_blank next))) blank
+    ∙ blank_tests strict (eqb next 10) (is_blank next)
+
+other_tests : (strict next : Bool) → not (false || ((not strict && false) && next)) ≡ true
+other_tests true next = refl
+other_tests false next = refl
+
+-- a byte that is no blank, and not the `\r` of a pair, is kept
+kept_other : (strict : Bool) (byte : ℕ) (rest : List ℕ) → is_blank byte ≡ false
+    → eqb byte 13 && begins_with_newline rest ≡ false → is_kept strict byte (get_or rest 0 0) ≡ true
+kept_other strict byte rest other alone =
+    let next = get_or rest 0 0 in
+    ap (λ t. not ((eqb byte 13 && eqb next 10) || ((not strict && t) && is_blank next))) other
+    ∙ ap (λ t. not (t || ((not strict && false) && is_blank next)))
+    (ap (λ t. eqb byte 13 && t) (sym (begins_by_first rest)) ∙ alone)
+    ∙ other_tests strict (is_blank next)
+
+shown_other : (strict : Bool) (byte : ℕ) → is_blank byte ≡ false → shown strict byte ≡ byte
+shown_other true byte other = refl
+shown_other false byte other = ap (λ t. cond t 32 byte) other
+
+single_stands : (strict : Bool) (byte : ℕ) (rest : List ℕ) → is_blank byte ≡ false
+    → eqb byte 13 && begins_with_newline rest ≡ false → canon strict (byte ∷ rest) ≡ byte ∷ canon strict rest
+single_stands strict byte rest other alone =
+    kept strict byte rest (kept_other strict byte rest other alone)
+    ∙ ap (λ b. b ∷ canon strict rest) (shown_other strict byte other)
+
+-- ---- canonical text is what stands for the pieces
+
+run_strict : (blanks rest : List ℕ) → All IsBlank blanks → canon true (blanks ++ rest) ≡ blanks ++ canon true rest
+run_strict [] rest are = refl
+run_strict (byte ∷ blanks) rest are =
+    kept true byte (blanks ++ rest) (kept_blank true byte _ (All-head IsBlank byte blanks are))
+    ∙ ap (λ l. byte ∷ l) (run_strict blanks rest (All-tail IsBlank byte blanks are))
+
+run_one : (first : ℕ) (others rest : List ℕ) → All IsBlank (first ∷ others) → begins_with_blank rest ≡ false
+    → canon false ((first ∷ others) ++ rest) ≡ 32 ∷ canon false rest
+run_one first [] rest are ends =
+    let blank : IsBlank first = All-head IsBlank first [] are in
+    kept false first rest (kept_blank false first _ blank ∙ ap not (sym (blank_by_first rest) ∙ ends))
+    ∙ ap (λ t. cond t 32 first ∷ canon false rest) blank
+run_one first (next ∷ others) rest are ends =
+    let later = All-tail IsBlank first (next ∷ others) are in
+    dropped false first (next ∷ others ++ rest) (kept_blank false first next (All-head IsBlank first (next ∷ others) are)
+    ∙ ap not (All-head IsBlank next others later))
+    ∙ run_one next others rest later ends
+
+canon_of_pieces : (strict : Bool) (pieces : List Piece) → ArePieces pieces
+    → canon strict (bytes_in pieces) ≡ standing strict pieces
+unfolding canon bytes_in standing ArePieces
+canon_of_pieces strict [] are = refl
+canon_of_pieces strict (pair ∷ later) are =
+    dropped strict 13 (10 ∷ bytes_in later) refl ∙ single_stands strict 10 (bytes_in later) refl refl
+    ∙ ap (λ l. 10 ∷ l) (canon_of_pieces strict later are.1)
+canon_of_pieces strict (single byte ∷ later) are =
+    single_stands strict byte (bytes_in later) are.0.0 are.0.1 ∙ ap (λ l. byte ∷ l) (canon_of_pieces strict later are.1)
+canon_of_pieces true (run first others ∷ later) are =
+    run_strict (first ∷ others) (bytes_in later) are.0.0
+    ∙ ap (λ l. (first ∷ others) ++ l) (canon_of_pieces true later are.1)
+canon_of_pieces false (run first others ∷ later) are =
+    run_one first others (bytes_in later) are.0.0 are.0.1 ∙ ap (λ l. 32 ∷ l) (canon_of_pieces false later are.1)
 
 -- a byte before pieces is cut with them
 abbrev HasCut : List ℕ → Type 0
@@ -168,11 +175,11 @@ has_cut (byte ∷ rest) =
     subst (λ l. HasCut (byte ∷ l)) of_rest.1.0 (put_byte byte of_rest.0 of_rest.1.1 (is_blank byte) refl)
 
 -- and canonical text is given by it
-pub canonical_of_cut : (strict : Bool) (text out : List ℕ) → canonical strict text ≡ out → IsOfCut strict text out
-canonical_of_cut strict text out is =
+pub canon_of_cut : (strict : Bool) (text out : List ℕ) → canon strict text ≡ out → IsOfCut strict text out
+canon_of_cut strict text out is =
     let of_text = has_cut text in
     let stands : standing strict of_text.0 ≡ out =
-    sym (canonical_of_pieces strict of_text.0 of_text.1.1) ∙ ap (canonical_from strict false) of_text.1.0 ∙ is in
+    sym (canon_of_pieces strict of_text.0 of_text.1.1) ∙ ap (canon strict) of_text.1.0 ∙ is in
     (of_text.0, of_text.1, stands)
 
 -- the cut, byte by byte from the end

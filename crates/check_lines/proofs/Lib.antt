@@ -2,4 +2,7 @@ pub mod CanonLemmas
 pub mod ChecksLemmas
 pub mod CutLemmas
 pub mod DecisionLemmas
-pub mod PlainLemmas
+pub mod LineLemmas
+pub mod PrefixLemmas
+pub mod SuffixLemmas
+pub mod UnusedLemmas

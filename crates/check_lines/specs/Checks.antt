@@ -1,79 +1,26 @@
 -- The directives of a check file, or its first refusal.
--- After LLVM Command Guide, FileCheck: a directive's text is the rest of its line, without blanks at both ends.
--- Own rules: the order of refusals, and that a file without a directive is refused.
-use Rattle.std.specs.Prelude.{◌≡◌, ◌≤◌, ⊤, ◌++◌, ℕ, ◌+◌, ◌-◌, ◌==◌, nat_le, Bool, false, ◌&&◌, not, if◌then◌else◌, List, [], ◌∷◌, take, drop, length, codes, Option, None, Some, is_some, Result, Ok, Err}
-use Rattle.std.specs.List.{prefix_len, suffix_len, slice_split}
-use Rattle.tt_base.specs.Occurrence.{first_from}
-use Rattle.tt_base.specs.Place.{is_newline, span_of}
-use Rattle.check_lines.specs.Canon.{is_blank}
-use Rattle.check_lines.specs.Decision.{decision}
-use Rattle.check_lines.specs.declared.decision.TheConstants.{CHECK_LEN}
-use Rattle.check_lines.specs.declared.line.TheConstants.{MAX_BODY}
-use Rattle.check_lines.specs.declared.decision.Decision.{Decision}
-use Rattle.check_lines.specs.declared.decision.Mark.{Mark}
-use Rattle.check_lines.specs.declared.decision.Mark.TheVariants.{Comment, Check, Unbuilt}
+-- After LLVM Command Guide, FileCheck: directives count in the order of their lines, and --allow-unused-prefixes.
+-- Own rules: the first line that is refused refuses the file, and so do, behind all lines, a file without a directive, and one
+-- of several check prefixes that no directive has.
+use Rattle.std.specs.Prelude.{◌≡◌, ◌≢◌, ◌⊎◌, ◌<◌, ◌≤◌, ⊤, ◌++◌, ℕ, zero, suc, ◌+◌, ◌-◌, ◌==◌, nat_lt, Bool, true, false, ◌&&◌, ◌||◌, not, if◌then◌else◌, List, [], ◌∷◌, take, drop, length, slice_index, All, AllPairs, Contains, Option, None, Some, Result, Ok, Err}
+use Rattle.std.specs.List.{list_any, slice_split}
+use Rattle.tt_base.specs.Place.{is_newline, line_end, place_at}
+use Rattle.check_lines.specs.Line.{fault_at, is_earlier, read_line}
 use Rattle.check_lines.specs.declared.directive.Directive.{Directive}
-use Rattle.check_lines.specs.declared.directive.Kind.TheVariants.{Plain}
 use Rattle.check_lines.specs.declared.fault.CheckFail.{CheckFail}
 use Rattle.check_lines.specs.declared.fault.CheckFail.TheVariants.{Bad, NoMemory}
 use Rattle.check_lines.specs.declared.fault.CheckFault.{CheckFault}
 use Rattle.check_lines.specs.declared.fault.CheckKind.{CheckKind}
-use Rattle.check_lines.specs.declared.fault.CheckKind.TheVariants.{NotBuilt, NoChecks}
+use Rattle.check_lines.specs.declared.fault.CheckKind.TheVariants.{NoChecks, UnusedPrefix}
 
--- where the text behind an offset begins, without the blanks before it
-abbrev pub body_from : List ℕ → ℕ → ℕ
-body_from line behind = behind + prefix_len is_blank (drop behind line)
+-- a line begins at an offset: at the front of the text, or behind a newline
+pub record BeginsLine (text : List ℕ) (start : ℕ) : Type 0 where
+  pub within : start ≤ length text
+  pub behind : 0 < start → is_newline (slice_index text (start - 1)) ≡ true
 
--- how long the rest of a line is without the blanks at its end
-abbrev pub body_len : List ℕ → ℕ
-body_len rest = length rest - suffix_len is_blank rest
-
--- whether a text has another in it
-abbrev pub has_part : List ℕ → List ℕ → Bool
-has_part text part = is_some (first_from part 0 text)
-
--- whether a body is of a form that is built: plain text of 1 to MAX_BODY bytes
-abbrev pub is_built : List ℕ → Bool
-is_built body =
-    not (length body == 0) && nat_le (length body) MAX_BODY && not
-    (has_part body (codes "{{")) && not (has_part body (codes "[["))
-
-abbrev pub fault_at : ℕ → ℕ → CheckKind → CheckFault
-fault_at line col kind = record { place = record { line = line; col = col }; kind = kind }
-
--- the plain directive whose body begins at an offset of its line and is so long
-abbrev pub plain_directive : ℕ → ℕ → ℕ → ℕ → ℕ → Directive
-plain_directive number start head from count = record {
-  line = number;
-  head = head + 1;
-  col = from + 1;
-  prefix = 0;
-  kind = Plain;
-  literal = false;
-  body = span_of (start + from) count;
-}
-
--- a line whose offset `head` has `CHECK:`
-abbrev pub checked_line : ℕ → ℕ → List ℕ → ℕ → Result (Option Directive) CheckFault
-checked_line number start line head =
-    let from = body_from line (head + CHECK_LEN) in
-    let count = body_len (drop from line) in
-    if is_built (take count (drop from line)) then Ok (Some (plain_directive number start head from count))
-    else Err (fault_at number (head + 1) NotBuilt)
-
--- what a decided line holds
-abbrev pub marked_line : ℕ → ℕ → List ℕ → ℕ → Mark → Result (Option Directive) CheckFault
-marked_line number start line head Comment = Ok None
-marked_line number start line head Check = checked_line number start line head
-marked_line number start line head Unbuilt = Err (fault_at number (head + 1) NotBuilt)
-
--- what a line holds: a directive, nothing, or its refusal. Lines count from 1, and `start` is where the line begins
-abbrev pub decided_line : ℕ → ℕ → List ℕ → Option Decision → Result (Option Directive) CheckFault
-decided_line number start line None = Ok None
-decided_line number start line (Some found) = marked_line number start line found.at found.mark
-
-abbrev pub line_reading : ℕ → ℕ → List ℕ → Result (Option Directive) CheckFault
-line_reading number start line = decided_line number start line (decision line)
+-- whether one of the directives counts as an earlier match of what begins at an offset
+abbrev pub earlier_at : List Directive → ℕ → Bool
+earlier_at directives start = list_any (λ one. is_earlier one.kind && nat_lt one.at start) directives
 
 -- a line's reading before that of the lines behind it
 abbrev pub join_reading : Result (Option Directive) CheckFault → Result (List Directive) CheckFault
@@ -83,37 +30,144 @@ join_reading (Ok None) later = later
 join_reading (Ok (Some one)) (Ok later) = Ok (one ∷ later)
 join_reading (Ok (Some one)) (Err fault) = Err fault
 
--- the directives of lines, of which the first has this number and begins here
-unfoldable pub reading_from : ℕ → ℕ → List (List ℕ) → Result (List Directive) CheckFault
-reading_from number start [] = Ok []
-reading_from number start (line ∷ lines) =
-    join_reading (line_reading number start line) (reading_from (number + 1) (start + length line + 1) lines)
+-- whether a match comes before what is behind a line
+abbrev pub earlier_behind : Bool → Result (Option Directive) CheckFault → Bool
+earlier_behind earlier (Err fault) = earlier
+earlier_behind earlier (Ok None) = earlier
+earlier_behind earlier (Ok (Some one)) = earlier || is_earlier one.kind
 
--- a file without a directive is refused
-abbrev pub some_checks : Result (List Directive) CheckFault → Result (List Directive) CheckFault
-some_checks (Err fault) = Err fault
-some_checks (Ok []) = Err (fault_at 1 1 NoChecks)
-some_checks (Ok (one ∷ later)) = Ok (one ∷ later)
+module _ (checks comments : List (List ℕ)) (keep : Bool) where
+  -- ---- as a reader of a check file takes it
 
--- what all lines of a text hold
-abbrev pub all_lines : List ℕ → Result (List Directive) CheckFault
-all_lines text = reading_from 1 0 (slice_split is_newline text)
+  -- what the line that begins at an offset holds, behind a match or not
+  abbrev pub line_at : List ℕ → Bool → ℕ → Result (Option Directive) CheckFault
+  line_at text earlier start =
+      read_line checks comments keep earlier (place_at text start).line start
+      (take (line_end text start - start) (drop start text))
 
--- the check program of a text: its directives in line order, or its first refusal
-abbrev pub checks_in : List ℕ → Result (List Directive) CheckFault
-checks_in text = some_checks (all_lines text)
+  -- the line that begins at an offset holds a directive, among these
+  abbrev pub HoldsAt : List ℕ → List Directive → ℕ → Directive → Type 0
+  HoldsAt text directives start one =
+      BeginsLine text start × (line_at text (earlier_at directives start) start ≡ Ok (Some one))
+
+  -- the line that begins at an offset is refused
+  abbrev pub RefusedAt : List ℕ → List Directive → ℕ → CheckFault → Type 0
+  RefusedAt text directives start fault =
+      BeginsLine text start × (line_at text (earlier_at directives start) start ≡ Err fault)
+
+  -- the lines that begin before an offset hold these directives: each is held by such a line, each such line that holds one
+  -- has it here, they come in the order of the text, and no such line is refused
+  pub record HoldBefore (text : List ℕ) (end : ℕ) (directives : List Directive) : Type 0 where
+    pub held : All (λ one. (start : ℕ) × (start < end) × HoldsAt text directives start one) directives
+    pub whole : (start : ℕ) (one : Directive) → start < end → HoldsAt text directives start one → Contains directives one
+    pub ordered : AllPairs (λ one later. one.at < later.at) directives
+    pub accepted : (start : ℕ) (fault : CheckFault) → start < end → ¬ RefusedAt text directives start fault
+
+  -- all lines of the text hold these directives
+  abbrev pub AreDirectives : List ℕ → List Directive → Type 0
+  AreDirectives text directives = HoldBefore text (length text + 1) directives
+
+  -- the line that begins at an offset is refused, behind lines that aren't and hold these directives
+  pub record IsFirstRefusal (text : List ℕ) (fault : CheckFault) : Type 0 where
+    pub start : ℕ
+    pub before : List Directive
+    pub hold : HoldBefore text start before
+    pub refused : RefusedAt text before start fault
+
+  -- ---- the same as a value
+
+  -- the directives of lines, of which the first has this number and begins here, behind a match or not
+  unfoldable pub read_lines_from : Bool → ℕ → ℕ → List (List ℕ) → Result (List Directive) CheckFault
+  read_lines_from earlier number start [] = Ok []
+  read_lines_from earlier number start (line ∷ lines) =
+      join_reading (read_line checks comments keep earlier number start line)
+      (read_lines_from (earlier_behind earlier (read_line checks comments keep earlier number start line))
+      (number + 1) (start + length line + 1) lines)
+
+  -- what all lines of a text hold
+  abbrev pub read_lines : List ℕ → Result (List Directive) CheckFault
+  read_lines text = read_lines_from false 1 0 (slice_split is_newline text)
+
+-- ---- behind all lines
+
+-- whether one of the directives has the check prefix of a number
+abbrev pub is_used : List Directive → ℕ → Bool
+is_used directives index = list_any (λ one. one.prefix == index) directives
+
+-- the first check prefix from a number on that no directive has, of those that are left
+abbrev pub unused_from : List Directive → ℕ → ℕ → Option ℕ
+unused_from directives index zero = None
+unused_from directives index (suc left) =
+    if is_used directives index then unused_from directives (index + 1) left else Some index
+
+-- the check prefix that is refused: one of several that no directive has, unless such are allowed
+abbrev pub unused_prefix : Bool → ℕ → List Directive → Option ℕ
+unused_prefix allow count directives =
+    if allow || not (nat_lt 1 count) then None else unused_from directives 0 count
+
+-- a fault of the whole file
+abbrev pub whole_fault : CheckKind → CheckFault
+whole_fault kind = fault_at 1 0 0 kind
+
+abbrev pub unless_unused : Option ℕ → List Directive → Result (List Directive) CheckFault
+unless_unused None directives = Ok directives
+unless_unused (Some index) directives = Err (whole_fault (UnusedPrefix index))
+
+-- directives that are some, unless they may lack, and use each prefix
+abbrev pub complete : Bool → Bool → ℕ → List Directive → Result (List Directive) CheckFault
+complete allow may_lack count directives =
+    if length directives == 0 && not may_lack then Err (whole_fault NoChecks)
+    else unless_unused (unused_prefix allow count directives) directives
+
+abbrev pub completed : Bool → Bool → ℕ → Result (List Directive) CheckFault → Result (List Directive) CheckFault
+completed allow may_lack count (Err fault) = Err fault
+completed allow may_lack count (Ok directives) = complete allow may_lack count directives
+
+-- the directives of a text in line order, or its first refusal
+abbrev pub read_checks : List (List ℕ) → List (List ℕ) → Bool → Bool → Bool → List ℕ → Result (List Directive) CheckFault
+read_checks checks comments allow keep may_lack text =
+    completed allow may_lack (length checks) (read_lines checks comments keep text)
+
+-- a text is refused by its first refused line, or because of the directives that its lines hold
+abbrev pub IsDueRefusal : List (List ℕ) → List (List ℕ) → Bool → Bool → Bool → List ℕ → CheckFail → Type 0
+IsDueRefusal checks comments allow keep may_lack text (Bad fault) =
+    IsFirstRefusal checks comments keep text fault
+    ⊎ ((directives : List Directive) × AreDirectives checks comments keep text directives
+    × (complete allow may_lack (length checks) directives ≡ Err fault))
+IsDueRefusal checks comments allow keep may_lack text NoMemory = ⊤
+
+-- a text is refused by its first refused line
+abbrev pub FailIsFirst : List (List ℕ) → List (List ℕ) → Bool → List ℕ → CheckFail → Type 0
+FailIsFirst checks comments keep text (Bad fault) = IsFirstRefusal checks comments keep text fault
+FailIsFirst checks comments keep text NoMemory = ⊤
+
+-- a refusal that is told of the whole file
+abbrev pub FailIsWhole : CheckFail → Type 0
+FailIsWhole (Bad fault) = (fault.at ≡ 0) × (fault.place ≡ record { line = 1; col = 1 })
+FailIsWhole NoMemory = ⊤
+
+-- ---- what is told of places and prefixes
+
+-- the line and the columns that a directive tells are those of its offsets, its body lies in the text, and its prefix is one
+-- of so many
+pub record IsPlaced (text : List ℕ) (count : ℕ) (one : Directive) : Type 0 where
+  pub head : record { line = one.line; col = one.head } ≡ place_at text one.at
+  pub body : record { line = one.line; col = one.col } ≡ place_at text one.body.from
+  pub within : one.body.to ≤ length text
+  pub prefix : one.prefix < count
+
+-- the place that a refusal tells is that of its offset
+abbrev pub FailIsPlaced : List ℕ → CheckFail → Type 0
+FailIsPlaced text (Bad fault) = (fault.place ≡ place_at text fault.at) × (fault.at ≤ length text)
+FailIsPlaced text NoMemory = ⊤
 
 -- what a refusal says of a reading: it is the reading's fault, or memory was wanting
 abbrev pub IsRefusalOf : {T : Type 0} → Result T CheckFault → CheckFail → Type 0
 IsRefusalOf reading (Bad fault) = reading ≡ Err fault
 IsRefusalOf reading NoMemory = ⊤
 
--- the new list is the old one with what a line holds
-abbrev pub AddsLine : List Directive → List Directive → Result (Option Directive) CheckFault → Type 0
-AddsLine old new (Ok None) = new ≡ old
-AddsLine old new (Ok (Some one)) = new ≡ old ++ one ∷ []
-AddsLine old new (Err fault) = ⊥
-
--- a directive's body ends at or before an offset
-abbrev pub EndsBy : ℕ → Directive → Type 0
-EndsBy offset directive = directive.body.to ≤ offset
+-- the new list is the old one with what a line holds, and a flag says whether that counts as an earlier match
+abbrev pub AddsLine : List Directive → List Directive → Bool → Result (Option Directive) CheckFault → Type 0
+AddsLine old new found (Ok None) = (new ≡ old) × (found ≡ false)
+AddsLine old new found (Ok (Some one)) = (new ≡ old ++ one ∷ []) × (found ≡ is_earlier one.kind)
+AddsLine old new found (Err fault) = ⊥

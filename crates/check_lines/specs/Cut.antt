@@ -1,8 +1,8 @@
 -- Canonical text, said of a text as a whole.
--- After LLVM Command Guide, FileCheck, --strict-whitespace, as Canon.antt: a text is cut, in the only way there is,
+-- After LLVM Command Guide, FileCheck, --strict-whitespace, as Canonical.antt: a text is cut, in the only way there is,
 -- into pairs `\r\n`, maximal runs of blanks, and other single bytes, and something stands for each piece.
 use Rattle.std.specs.Prelude.{◌≡◌, ⊤, ℕ, Bool, true, false, ◌==◌, ◌&&◌, if◌then◌else◌, List, [], ◌∷◌, ◌++◌, All}
-use Rattle.check_lines.specs.Canon.{begins_with_newline, is_blank}
+use Rattle.check_lines.specs.Canonical.{is_blank}
 
 -- a piece of a text: a pair `\r\n`, a run of blanks (its first and the others), or another single byte
 pub data Piece : Type 0 where
@@ -32,6 +32,11 @@ bytes_in (piece ∷ later) = bytes_of piece ++ bytes_in later
 unfoldable pub standing : Bool → List Piece → List ℕ
 standing strict [] = []
 standing strict (piece ∷ later) = stands_for strict piece ++ standing strict later
+
+-- whether a text begins with a newline
+abbrev pub begins_with_newline : List ℕ → Bool
+begins_with_newline [] = false
+begins_with_newline (byte ∷ rest) = byte == 10
 
 -- whether a text begins with a blank
 abbrev pub begins_with_blank : List ℕ → Bool

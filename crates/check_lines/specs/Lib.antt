@@ -1,5 +1,9 @@
-pub mod Canon
-pub mod CanonMade
+pub mod Canonical
 pub mod Checks
+pub mod Chunk
+pub mod Class
 pub mod Cut
 pub mod Decision
+pub mod Line
+pub mod Prefix
+pub mod Suffix

@@ -1,44 +1,71 @@
 //! The directives of a whole check file.
-ghost use Rattle.std.specs.Prelude.{◌≡◌, ◌+◌, ◌≤◌, ◌^◌, ℕ, All, Ok, IfErr, IfOk, OnOk, MatchResult, length};
-ghost use Rattle.check_lines.specs.Checks.{AddsLine, EndsBy, IsRefusalOf, all_lines, checks_in, fault_at, line_reading};
-ghost use Rattle.check_lines.specs.declared.fault.CheckKind.TheVariants.{NoChecks};
+ghost use Rattle.std.specs.Prelude.{◌≡◌, ◌+◌, ◌<◌, ◌≤◌, ◌^◌, All, Ok, IfErr, IfOk, MatchResult, length};
+ghost use Rattle.std.specs.List.{position_from};
+ghost use Rattle.std.specs.Prelude.{not};
+ghost use Rattle.check_lines.specs.Checks.{AddsLine, AreDirectives, FailIsFirst, FailIsPlaced, FailIsWhole, IsDueRefusal, IsPlaced, IsRefusalOf, complete, read_checks, read_lines, unused_prefix, whole_fault};
+ghost use Rattle.check_lines.specs.Line.{LiesAmong, LiesOnLine, is_earlier, read_line};
 
-use crate::directive::Directive;
+use crate::decision::Prefixes;
+use crate::directive::{Directive, Kind};
 use crate::fault::{CheckFail, CheckFault, CheckKind};
-use crate::line::read_line;
+use crate::line::{LineAt, Rules, read_line};
 use std::alloc::Global;
-use tt_base::{Items, Place, line_of};
+use tt_base::{Bytes, Items, NoMemory, Place, line_of};
 
-/// The directives of a check file's canonical text, in line order.
-pub fn read_checks(alloc: Global, text: &[u8]) -> Result<Items<Directive>, CheckFail>
+/// The directives of a check file's canonical text, in line order, by check prefixes and comment prefixes.
+/// `keep_blanks` makes the blanks at both ends of a body part of it; with `may_lack` there may be no directive.
+pub fn read_checks(
+    alloc: Global,
+    text: &[u8],
+    prefixes: &[Bytes],
+    comments: &[Bytes],
+    allow_unused: bool,
+    keep_blanks: bool,
+    may_lack: bool,
+) -> Result<Items<Directive>, CheckFail>
     requires { length text.now ≤ 2 ^ 30 }
+    ensures by_lines { MatchResult result
+        (AreDirectives prefixes.now comments.now keep_blanks text.now)
+        (IsDueRefusal prefixes.now comments.now allow_unused keep_blanks may_lack text.now) }
     ensures value { MatchResult result
-        (λ directives. checks_in text.now ≡ Ok directives)
-        (λ fail. IsRefusalOf (checks_in text.now) fail) }
-    ensures within { IfOk result (All (EndsBy (length text.now))) }
+        (λ directives. read_checks prefixes.now comments.now allow_unused keep_blanks may_lack text.now ≡ Ok directives)
+        (λ fail. IsRefusalOf (read_checks prefixes.now comments.now allow_unused keep_blanks may_lack text.now) fail) }
+    ensures placed { MatchResult result (All (IsPlaced text.now (length prefixes.now))) (FailIsPlaced text.now) }
 {
-    let directives = read_lines(alloc, text)?;
-    if directives.is_empty() {
-        return Err(CheckFail::Bad(no_checks()));
-    }
-    Ok(directives)
+    let rules = Rules {
+        prefixes: Prefixes {
+            checks: prefixes,
+            comments,
+        },
+        keep_blanks,
+    };
+    let directives = read_lines(alloc, text, &rules)?;
+    complete(alloc, allow_unused, may_lack, prefixes.len(), directives)
 }
 
 /// What all lines hold.
-fn read_lines(alloc: Global, text: &[u8]) -> Result<Items<Directive>, CheckFail>
+fn read_lines(alloc: Global, text: &[u8], rules: &Rules<'_>) -> Result<Items<Directive>, CheckFail>
     requires { length text.now ≤ 2 ^ 30 }
+    ensures by_lines { MatchResult result
+        (AreDirectives rules.now.prefixes.checks.now rules.now.prefixes.comments.now rules.now.keep_blanks text.now)
+        (FailIsFirst rules.now.prefixes.checks.now rules.now.prefixes.comments.now rules.now.keep_blanks text.now) }
     ensures value { MatchResult result
-        (λ directives. all_lines text.now ≡ Ok directives)
-        (λ fail. IsRefusalOf (all_lines text.now) fail) }
-    ensures within { IfOk result (All (EndsBy (length text.now))) }
+        (λ directives. read_lines rules.now.prefixes.checks.now rules.now.prefixes.comments.now rules.now.keep_blanks text.now
+        ≡ Ok directives)
+        (λ fail. IsRefusalOf (read_lines rules.now.prefixes.checks.now rules.now.prefixes.comments.now rules.now.keep_blanks text.now)
+        fail) }
+    ensures placed { MatchResult result
+        (All (IsPlaced text.now (length rules.now.prefixes.checks.now))) (FailIsPlaced text.now) }
 {
     let mut directives = Items::new(alloc);
+    let mut earlier = false;
     let mut number = 1;
     let mut start = 0;
     loop {
         let end = line_of(text, start).to;
-        match add_line(&mut directives, number, start, &text[start..end]) {
-            Ok(()) => {}
+        let place = LineAt { number, start };
+        match add_line(&mut directives, rules, earlier, place, &text[start..end]) {
+            Ok(found) => earlier = earlier | found,
             Err(fail) => return Err(fail),
         }
         if end == text.len() {
@@ -49,36 +76,103 @@ fn read_lines(alloc: Global, text: &[u8]) -> Result<Items<Directive>, CheckFail>
     }
 }
 
-/// Adds what one line holds.
+/// Adds what one line holds, and answers whether it counts as an earlier match.
 fn add_line(
     directives: &mut Items<Directive>,
-    number: u32,
-    start: usize,
+    rules: &Rules<'_>,
+    earlier: bool,
+    place: LineAt,
     line: &[u8],
-) -> Result<(), CheckFail>
-    requires { start + length line.now ≤ 2 ^ 30 }
-    ensures ok { OnOk result
-        (AddsLine directives.old directives.new (line_reading number start line.now)) }
-    ensures err { IfErr result (λ fail. IsRefusalOf (line_reading number start line.now) fail) }
-    ensures within { (limit : ℕ) → start + length line.now ≤ limit → All (EndsBy limit) directives.old
-        → OnOk result (All (EndsBy limit) directives.new) }
+) -> Result<bool, CheckFail>
+    requires { place.start + length line.now ≤ 2 ^ 30 }
+    ensures ok { IfOk result (λ found. AddsLine directives.old directives.new found (read_line
+        rules.now.prefixes.checks.now rules.now.prefixes.comments.now rules.now.keep_blanks earlier place.number place.start line.now)) }
+    ensures err { IfErr result (λ fail. IsRefusalOf (read_line rules.now.prefixes.checks.now rules.now.prefixes.comments.now
+        rules.now.keep_blanks earlier place.number place.start line.now) fail) }
+    ensures lies { LiesOnLine place.number place.start (place.start + length line.now) (read_line
+        rules.now.prefixes.checks.now rules.now.prefixes.comments.now rules.now.keep_blanks earlier place.number place.start line.now) }
+    ensures among { LiesAmong (length rules.now.prefixes.checks.now) (read_line
+        rules.now.prefixes.checks.now rules.now.prefixes.comments.now rules.now.keep_blanks earlier place.number place.start line.now) }
 {
-    match read_line(number, start, line) {
-        Ok(None) => Ok(()),
+    match read_line(rules, earlier, place, line) {
+        Ok(None) => Ok(false),
         Ok(Some(directive)) => match directives.push(directive) {
-            Ok(()) => Ok(()),
+            Ok(()) => Ok(is_earlier(directive.kind)),
             Err(_) => Err(CheckFail::NoMemory),
         },
         Err(fault) => Err(CheckFail::Bad(fault)),
     }
 }
 
-/// The refusal of a file without a directive.
-fn no_checks() -> CheckFault
-    ensures { result ≡ fault_at 1 1 NoChecks }
+/// Whether a kind counts as an earlier match: each but NOT and DAG.
+fn is_earlier(kind: Kind) -> bool
+    ensures { result ≡ is_earlier kind }
+{
+    match kind {
+        Kind::Not | Kind::Dag => false,
+        Kind::Plain | Kind::Next | Kind::Same | Kind::Empty | Kind::Label | Kind::Count(_) => true,
+    }
+}
+
+/// Directives that are some, unless they may lack, and use each of so many prefixes.
+fn complete(
+    alloc: Global,
+    allow_unused: bool,
+    may_lack: bool,
+    count: usize,
+    directives: Items<Directive>,
+) -> Result<Items<Directive>, CheckFail>
+    requires { All (λ one. one.prefix < count) directives }
+    ensures value { MatchResult result
+        (λ same. (same ≡ directives) × (complete allow_unused may_lack count directives ≡ Ok directives))
+        (λ fail. IsRefusalOf (complete allow_unused may_lack count directives) fail) }
+    ensures whole { IfErr result FailIsWhole }
+{
+    if directives.is_empty() && !may_lack {
+        return Err(CheckFail::Bad(whole_fault(CheckKind::NoChecks)));
+    }
+    match unused_prefix(alloc, allow_unused, count, directives.as_slice())? {
+        None => Ok(directives),
+        Some(index) => Err(CheckFail::Bad(whole_fault(CheckKind::UnusedPrefix(index)))),
+    }
+}
+
+/// One of several check prefixes that no directive has, unless such are allowed: the first.
+fn unused_prefix(
+    alloc: Global,
+    allow_unused: bool,
+    count: usize,
+    directives: &[Directive],
+) -> Result<Option<usize>, NoMemory>
+    requires { All (λ one. one.prefix < count) directives.now }
+    ensures { IfOk result (λ index. index ≡ unused_prefix allow_unused count directives.now) }
+{
+    if allow_unused || count <= 1 {
+        return Ok(None);
+    }
+    let Ok(mut used) = Vec::from_elem(alloc, false, count) else {
+        return Err(NoMemory);
+    };
+    for one in directives {
+        used[one.prefix] = true;
+    }
+    Ok(first_unset(used.as_slice()))
+}
+
+/// The number of the first flag that isn't set.
+fn first_unset(flags: &[bool]) -> Option<usize>
+    ensures { result ≡ position_from not 0 flags.now }
+{
+    flags.iter().position(|flag| !*flag)
+}
+
+/// A fault of the whole file.
+fn whole_fault(kind: CheckKind) -> CheckFault
+    ensures { result ≡ whole_fault kind }
 {
     CheckFault {
+        at: 0,
         place: Place { line: 1, col: 1 },
-        kind: CheckKind::NoChecks,
+        kind,
     }
 }

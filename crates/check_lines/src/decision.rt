@@ -1,19 +1,27 @@
 //! What decides a line.
-ghost use Rattle.std.specs.Prelude.{◌≡◌, IfSome};
-ghost use Rattle.check_lines.specs.Decision.{HasCheck, decided_at, decision, is_word, mark_at};
+ghost use Rattle.std.specs.Prelude.{◌≡◌, ◌<◌, ◌≤◌, ◌^◌, IfSome, length};
+ghost use Rattle.check_lines.specs.Decision.{IsDecision, MarkLies, check_mark, comment_mark, decide, decided_at, is_word, mark_at};
 
-/// The length of `CHECK:`.
-pub const CHECK_LEN: usize = 6;
+use crate::prefix::{Standing, meant};
+use crate::suffix::{Spelling, suffix};
+use tt_base::Bytes;
+
+/// The prefixes of both kinds.
+#[derive(Clone, Copy, Debug)]
+pub struct Prefixes<'a> {
+    /// Those of directives.
+    pub checks: &'a [Bytes],
+    /// Those that hide the rest of their lines.
+    pub comments: &'a [Bytes],
+}
 
 /// What stands at an offset and decides its line.
 #[derive(Clone, Copy, Debug, PartialEq, Eq)]
 pub enum Mark {
     /// `COM:` or `RUN:`: the rest of the line is hidden.
     Comment,
-    /// `CHECK:`: a plain directive.
-    Check,
-    /// `CHECK-` or `CHECK{`: a directive of a form that isn't built yet.
-    Unbuilt,
+    /// `CHECK-NEXT:`: a check prefix, and what is spelled behind it.
+    Check(Standing, Spelling),
 }
 
 /// A mark and its offset in the line.
@@ -24,13 +32,15 @@ pub struct Decision {
 }
 
 /// What decides a line, if anything does.
-pub fn decide(line: &[u8]) -> Option<Decision>
-    ensures value { result ≡ decision line.now }
-    ensures within { IfSome result (λ found. HasCheck line.now found.at found.mark) }
+pub fn decide(prefixes: &Prefixes<'_>, line: &[u8]) -> Option<Decision>
+    requires { length line.now ≤ 2 ^ 30 }
+    ensures least { IsDecision prefixes.now.checks.now prefixes.now.comments.now line.now result }
+    ensures value { result ≡ decide prefixes.now.checks.now prefixes.now.comments.now line.now }
+    ensures lies { IfSome result (λ found. MarkLies (length prefixes.now.checks.now) line.now found.at found.mark) }
 {
     let mut behind_word = false;
     for at in 0..line.len() {
-        match decided_at(behind_word, at, &line[at..]) {
+        match decided_at(prefixes, behind_word, at, &line[at..]) {
             Some(decision) => return Some(decision),
             None => behind_word = is_word(line[at]),
         }
@@ -38,32 +48,66 @@ pub fn decide(line: &[u8]) -> Option<Decision>
     None
 }
 
-fn decided_at(behind_word: bool, at: usize, text: &[u8]) -> Option<Decision>
-    ensures value { result ≡ decided_at behind_word at text.now }
-    ensures within { IfSome result (λ found. (found.at ≡ at) × HasCheck text.now 0 found.mark) }
+fn decided_at(
+    prefixes: &Prefixes<'_>,
+    behind_word: bool,
+    at: usize,
+    text: &[u8],
+) -> Option<Decision>
+    requires { length text.now ≤ 2 ^ 30 }
+    ensures value { result ≡ decided_at prefixes.now.checks.now prefixes.now.comments.now behind_word at text.now }
+    ensures lies { IfSome result (λ found. (found.at ≡ at) × MarkLies (length prefixes.now.checks.now) text.now 0 found.mark) }
 {
     if behind_word {
         return None;
     }
-    match mark_at(text) {
+    match mark_at(prefixes, text) {
         Some(mark) => Some(Decision { at, mark }),
         None => None,
     }
 }
 
 /// The mark at the front of a text.
-fn mark_at(text: &[u8]) -> Option<Mark>
-    ensures value { result ≡ mark_at text.now }
-    ensures within { IfSome result (λ mark. HasCheck text.now 0 mark) }
+fn mark_at(prefixes: &Prefixes<'_>, text: &[u8]) -> Option<Mark>
+    requires { length text.now ≤ 2 ^ 30 }
+    ensures value { result ≡ mark_at prefixes.now.checks.now prefixes.now.comments.now text.now }
+    ensures lies { IfSome result (MarkLies (length prefixes.now.checks.now) text.now 0) }
 {
-    if text.starts_with(b"COM:") || text.starts_with(b"RUN:") {
+    match meant(prefixes.checks, text) {
+        None => match meant(prefixes.comments, text) {
+            None => None,
+            Some(comment) => comment_mark(&text[comment.length..]),
+        },
+        Some(check) => match meant(prefixes.comments, text) {
+            None => check_mark(check, suffix(&text[check.length..])),
+            Some(comment) => {
+                if check.length < comment.length {
+                    comment_mark(&text[comment.length..])
+                } else {
+                    check_mark(check, suffix(&text[check.length..]))
+                }
+            }
+        },
+    }
+}
+
+fn comment_mark(rest: &[u8]) -> Option<Mark>
+    ensures value { result ≡ comment_mark rest.now }
+    ensures lies { IfSome result (λ mark. 0 < length rest.now) }
+{
+    if rest.starts_with(b":") {
         Some(Mark::Comment)
-    } else if text.starts_with(b"CHECK:") {
-        Some(Mark::Check)
-    } else if text.starts_with(b"CHECK-") || text.starts_with(b"CHECK{") {
-        Some(Mark::Unbuilt)
     } else {
         None
+    }
+}
+
+fn check_mark(prefix: Standing, spelling: Option<Spelling>) -> Option<Mark>
+    ensures { result ≡ check_mark prefix spelling }
+{
+    match spelling {
+        Some(spelling) => Some(Mark::Check(prefix, spelling)),
+        None => None,
     }
 }
 

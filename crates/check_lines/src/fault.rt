@@ -1,20 +1,34 @@
 //! Why a check file is refused.
 use tt_base::{NoMemory, Place};
 
-/// What is wrong with a check file.
+/// What is wrong with a check file, in the order in which a line is refused.
 #[derive(Clone, Copy, Debug, PartialEq, Eq)]
 pub enum CheckKind {
-    /// A form that isn't built yet, as `CHECK-NEXT: a`, `CHECK{LITERAL}: a`, `CHECK: {{a}}` or `CHECK:` with
-    /// nothing behind it, at the prefix.
+    /// `CHECK-COUNT-0: a`, at the prefix: a COUNT asks for 1 to 100,000 matches.
+    BadCount,
+    /// `CHECK-NOT-NEXT: a`, at the prefix.
+    NotCombination,
+    /// `CHECK{FOO}: a`, at the prefix.
+    BadModifier,
+    /// `CHECK:` with nothing behind it, behind the colon.
+    EmptyPattern,
+    /// `CHECK-EMPTY: a`, at the body.
+    NonEmptyForEmpty,
+    /// `CHECK-NEXT: a` before any other directive, at the prefix.
+    NoEarlierCheck,
+    /// A form that isn't built yet: `CHECK-NOT: a` at the prefix, `CHECK: {{a}}` at the body.
     NotBuilt,
     /// No line holds a directive.
     NoChecks,
+    /// No directive has the check prefix of this number, from 0.
+    UnusedPrefix(usize),
 }
-
 /// What is wrong, and where.
 #[derive(Clone, Copy, Debug, PartialEq, Eq)]
 pub struct CheckFault {
-    /// The place in the canonical text; 1:1 where the whole file is meant.
+    /// The offset in the canonical text; 0 where the whole file is meant.
+    pub at: usize,
+    /// The place of that offset.
     pub place: Place,
     pub kind: CheckKind,
 }

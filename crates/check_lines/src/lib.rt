@@ -4,12 +4,13 @@
 
 mod canonical;
 mod checks;
+mod class;
 mod decision;
 mod directive;
 mod fault;
 mod line;
-#[cfg(test)]
-mod plain;
+mod prefix;
+mod suffix;
 #[cfg(test)]
 mod tests;
 

@@ -1,141 +1,243 @@
 //! What one line of a check file holds.
-ghost use Rattle.std.specs.Prelude.{◌≡◌, ◌+◌, ◌≤◌, ◌<◌, ◌^◌, IfOk, IfSome, length};
-ghost use Rattle.std.specs.List.{prefix_len, suffix_len};
-ghost use Rattle.check_lines.specs.Canon.{is_blank};
-ghost use Rattle.check_lines.specs.declared.fault.CheckKind.TheVariants.{NotBuilt};
-ghost use Rattle.check_lines.specs.Checks.{EndsBy, body_from, body_len, checked_line, fault_at, has_part, is_built, line_reading, plain_directive};
+ghost use Rattle.std.specs.Prelude.{◌≡◌, ◌+◌, ◌<◌, ◌≤◌, ◌^◌, ℕ, Err, IfSome, Ok, Some, length};
+ghost use Rattle.check_lines.specs.Line.{LiesAmong, LiesOnLine, asks_earlier, body_length, body_start, checked, directive, fault_at, has_part, is_built, is_later, mistake, read_line, takes_none, unless_mistaken};
 
-use crate::canonical::blank;
-use crate::decision::{CHECK_LEN, Mark, decide};
+use crate::class::{Class, back_length, front_length};
+use crate::decision::{Mark, Prefixes, decide};
 use crate::directive::{Directive, Kind};
 use crate::fault::{CheckFault, CheckKind};
+use crate::suffix::{Spelled, Spelling};
 use tt_base::{Place, Span, find_in};
 
 /// The greatest length of a body, in bytes.
 pub const MAX_BODY: usize = 65_536;
 
-/// What a line holds. Its number counts from 1, and `start` is where it begins in its text.
-pub fn read_line(number: u32, start: usize, line: &[u8]) -> Result<Option<Directive>, CheckFault>
-    requires { start + length line.now ≤ 2 ^ 30 }
-    ensures value { result ≡ line_reading number start line.now }
-    ensures within { IfOk result (λ found. IfSome found (EndsBy (start + length line.now))) }
+/// How lines are read.
+#[derive(Clone, Copy, Debug)]
+pub struct Rules<'a> {
+    pub prefixes: Prefixes<'a>,
+    /// Whether the blanks at both ends of a body are part of it.
+    pub keep_blanks: bool,
+}
+
+/// Where a line stands.
+#[derive(Clone, Copy, Debug, PartialEq, Eq)]
+pub struct LineAt {
+    /// Its number, from 1.
+    pub number: u32,
+    /// The offset in the text at which it begins.
+    pub start: usize,
+}
+
+/// What decides that a line holds a directive. Offsets count in the line.
+#[derive(Clone, Copy, Debug, PartialEq, Eq)]
+struct Head {
+    /// Where its prefix begins.
+    at: usize,
+    /// Where its colon ends.
+    behind: usize,
+    /// The number of its prefix.
+    prefix: usize,
+    suffix: Spelled,
+}
+
+/// What a line holds; `earlier` says whether a directive before it counts as an earlier match.
+pub fn read_line(
+    rules: &Rules<'_>,
+    earlier: bool,
+    place: LineAt,
+    line: &[u8],
+) -> Result<Option<Directive>, CheckFault>
+    requires { place.start + length line.now ≤ 2 ^ 30 }
+    ensures value { result ≡ read_line rules.now.prefixes.checks.now rules.now.prefixes.comments.now rules.now.keep_blanks earlier
+        place.number place.start line.now }
+    ensures lies { LiesOnLine place.number place.start (place.start + length line.now) result }
+    ensures among { LiesAmong (length rules.now.prefixes.checks.now) result }
 {
-    match decide(line) {
+    match decide(&rules.prefixes, line) {
         None => Ok(None),
         Some(found) => match found.mark {
             Mark::Comment => Ok(None),
-            Mark::Check => checked(number, start, line, found.at),
-            Mark::Unbuilt => Err(not_built(number, found.at)),
+            Mark::Check(prefix, spelling) => match spelling {
+                Spelling::Bad(kind) => Err(fault_at(place, found.at, kind)),
+                Spelling::Good(suffix) => {
+                    let head = Head {
+                        at: found.at,
+                        behind: found.at + prefix.length + suffix.count,
+                        prefix: prefix.index,
+                        suffix,
+                    };
+                    checked(rules.keep_blanks, earlier, place, line, head)
+                }
+            },
         },
     }
 }
 
-/// A line with `CHECK:` at the offset `head`.
+/// A line with a good suffix behind a prefix.
 fn checked(
-    number: u32,
-    start: usize,
+    keep: bool,
+    earlier: bool,
+    place: LineAt,
     line: &[u8],
-    head: usize,
+    head: Head,
 ) -> Result<Option<Directive>, CheckFault>
-    requires fits { start + length line.now ≤ 2 ^ 30 }
-    requires within { head + CHECK_LEN ≤ length line.now }
-    ensures value { result ≡ checked_line number start line.now head }
-    ensures within { IfOk result (λ found. IfSome found (EndsBy (start + length line.now))) }
+    requires fits { place.start + length line.now ≤ 2 ^ 30 }
+    requires ordered { head.at ≤ head.behind }
+    requires within { head.behind ≤ length line.now }
+    ensures value { result ≡ checked keep earlier place.number place.start line.now head.at head.behind head.suffix
+        head.prefix }
+    ensures lies { LiesOnLine place.number place.start (place.start + length line.now) result }
+    ensures among { (count : ℕ) → head.prefix < count → LiesAmong count result }
 {
-    let from = body_start(line, head + CHECK_LEN);
+    let from = body_start(keep, line, head.behind);
     let rest = &line[from..];
-    let count = body_length(rest);
-    if is_built(&rest[..count]) {
-        Ok(Some(plain(number, start, head, from, count)))
-    } else {
-        Err(not_built(number, head))
-    }
+    let count = body_length(keep, rest);
+    let one = directive(place, head, from, count);
+    unless_mistaken(place, mistake(earlier, &rest[..count], head, from), one)
 }
 
-/// The plain directive with its prefix at `head` and a body of `count` bytes at `from`, offsets in its line.
-fn plain(number: u32, start: usize, head: usize, from: usize, count: usize) -> Directive
-    requires below { head < 2 ^ 30 }
-    requires fits { start + from + count ≤ 2 ^ 30 }
-    ensures value { result ≡ plain_directive number start head from count }
-    ensures within { EndsBy (start + from + count) result }
+/// The directive with a body of `count` bytes at `from`.
+fn directive(place: LineAt, head: Head, from: usize, count: usize) -> Directive
+    requires ordered { head.at ≤ from }
+    requires fits { place.start + from + count ≤ 2 ^ 30 }
+    ensures value { result ≡ directive place.number place.start head.at from count head.suffix head.prefix }
+    ensures lies { LiesOnLine place.number place.start (place.start + from + count) (Ok (Some result)) }
 {
     Directive {
-        line: number,
-        head: head as u32 + 1,
+        at: place.start + head.at,
+        line: place.number,
+        head: head.at as u32 + 1,
         col: from as u32 + 1,
-        prefix: 0,
-        kind: Kind::Plain,
-        literal: false,
-        body: Span::of(start + from, count),
+        prefix: head.prefix,
+        kind: head.suffix.kind,
+        literal: head.suffix.literal,
+        body: Span::of(place.start + from, count),
     }
 }
 
-/// Where the text behind an offset begins, without the blanks before it.
-fn body_start(line: &[u8], behind: usize) -> usize
-    requires { behind ≤ length line.now }
-    ensures value { result ≡ body_from line.now behind }
-    ensures within { result ≤ length line.now }
+fn unless_mistaken(
+    place: LineAt,
+    mistake: Option<(usize, CheckKind)>,
+    one: Directive,
+) -> Result<Option<Directive>, CheckFault>
+    requires { IfSome mistake (λ mistake. place.start + mistake.0 ≤ 2 ^ 30) }
+    ensures value { result ≡ unless_mistaken place.number place.start mistake one }
+    ensures lies { (end : ℕ) → LiesOnLine place.number place.start end (Ok (Some one))
+        → IfSome mistake (λ mistake. place.start + mistake.0 ≤ end) → LiesOnLine place.number place.start end result }
+    ensures among { (count : ℕ) → one.prefix < count → LiesAmong count result }
 {
-    behind + blanks_before(&line[behind..])
+    match mistake {
+        None => Ok(Some(one)),
+        Some((at, kind)) => Err(fault_at(place, at, kind)),
+    }
 }
 
-/// How long the rest of a line is without the blanks at its end.
-fn body_length(rest: &[u8]) -> usize
-    ensures value { result ≡ body_len rest.now }
-    ensures within { result ≤ length rest.now }
-{
-    rest.len() - blanks_behind(rest)
-}
-
-/// The refusal of a form that isn't built yet, at the prefix.
-fn not_built(number: u32, head: usize) -> CheckFault
-    requires { head < 2 ^ 30 }
-    ensures { result ≡ fault_at number (head + 1) NotBuilt }
+/// A fault at an offset of a line.
+fn fault_at(place: LineAt, at: usize, kind: CheckKind) -> CheckFault
+    requires { place.start + at ≤ 2 ^ 30 }
+    ensures value { result ≡ fault_at place.number place.start at kind }
+    ensures lies { (end : ℕ) → place.start + at ≤ end → LiesOnLine place.number place.start end (Err result) }
 {
     CheckFault {
+        at: place.start + at,
         place: Place {
-            line: number,
-            col: head as u32 + 1,
+            line: place.number,
+            col: at as u32 + 1,
         },
-        kind: CheckKind::NotBuilt,
+        kind,
     }
 }
 
-/// Whether a body is plain text of 1 to `MAX_BODY` bytes.
-fn is_built(body: &[u8]) -> bool
-    ensures value { result ≡ is_built body.now }
+/// The first thing that is wrong with a directive, and where in its line.
+fn mistake(earlier: bool, body: &[u8], head: Head, from: usize) -> Option<(usize, CheckKind)>
+    ensures value { result ≡ mistake earlier head.suffix body.now head.at head.behind from }
+    ensures lies { (end : ℕ) → head.at ≤ end → head.behind ≤ end → from ≤ end
+        → IfSome result (λ mistake. mistake.0 ≤ end) }
 {
-    !body.is_empty() && body.len() <= MAX_BODY && !has_part(body, b"{{") && !has_part(body, b"[[")
+    let kind = head.suffix.kind;
+    if !takes_none(kind) && body.is_empty() {
+        Some((head.behind, CheckKind::EmptyPattern))
+    } else if takes_none(kind) && !body.is_empty() {
+        Some((from, CheckKind::NonEmptyForEmpty))
+    } else if asks_earlier(kind) && !earlier {
+        Some((head.at, CheckKind::NoEarlierCheck))
+    } else if is_later(kind) {
+        Some((head.at, CheckKind::NotBuilt))
+    } else if !is_built(head.suffix.literal, body) {
+        Some((from, CheckKind::NotBuilt))
+    } else {
+        None
+    }
+}
+
+/// Whether a kind takes no body.
+fn takes_none(kind: Kind) -> bool
+    ensures { result ≡ takes_none kind }
+{
+    match kind {
+        Kind::Empty => true,
+        Kind::Plain | Kind::Next | Kind::Same | Kind::Not => false,
+        Kind::Dag | Kind::Label | Kind::Count(_) => false,
+    }
+}
+
+/// Whether a kind asks for an earlier match.
+fn asks_earlier(kind: Kind) -> bool
+    ensures { result ≡ asks_earlier kind }
+{
+    match kind {
+        Kind::Next | Kind::Same | Kind::Empty => true,
+        Kind::Plain | Kind::Not | Kind::Dag | Kind::Label | Kind::Count(_) => false,
+    }
+}
+
+/// Whether a kind isn't built yet.
+fn is_later(kind: Kind) -> bool
+    ensures { result ≡ is_later kind }
+{
+    match kind {
+        Kind::Not | Kind::Dag | Kind::Label => true,
+        Kind::Plain | Kind::Next | Kind::Same | Kind::Empty | Kind::Count(_) => false,
+    }
+}
+
+/// Where the body behind an offset begins.
+fn body_start(keep: bool, line: &[u8], behind: usize) -> usize
+    requires { behind ≤ length line.now }
+    ensures value { result ≡ body_start keep line.now behind }
+    ensures above { behind ≤ result }
+    ensures within { result ≤ length line.now }
+{
+    let blanks = front_length(Class::Blank, &line[behind..]);
+    if keep || line.len() == behind + blanks {
+        behind
+    } else {
+        behind + blanks
+    }
+}
+
+/// How long the body at the front of the rest of a line is.
+fn body_length(keep: bool, rest: &[u8]) -> usize
+    ensures value { result ≡ body_length keep rest.now }
+    ensures within { result ≤ length rest.now }
+{
+    if keep {
+        rest.len()
+    } else {
+        rest.len() - back_length(Class::Blank, rest)
+    }
+}
+
+/// Whether a body is of a form that is built.
+fn is_built(literal: bool, body: &[u8]) -> bool
+    ensures { result ≡ is_built literal body.now }
+{
+    body.len() <= MAX_BODY && (literal || (!has_part(body, b"{{") && !has_part(body, b"[[")))
 }
 
 fn has_part(text: &[u8], part: &[u8]) -> bool
     ensures { result ≡ has_part text.now part.now }
 {
     find_in(text, part, 0, text.len()).is_some()
-}
-
-/// How many blanks a text begins with.
-fn blanks_before(text: &[u8]) -> usize
-    ensures value { result ≡ prefix_len is_blank text.now }
-    ensures within { result ≤ length text.now }
-{
-    for (at, &byte) in text.iter().enumerate() {
-        if !blank(byte) {
-            return at;
-        }
-    }
-    text.len()
-}
-
-/// How many blanks a text ends with.
-fn blanks_behind(text: &[u8]) -> usize
-    ensures value { result ≡ suffix_len is_blank text.now }
-    ensures within { result ≤ length text.now }
-{
-    for at in (0..text.len()).rev() {
-        if !blank(text[at]) {
-            return text.len() - 1 - at;
-        }
-    }
-    text.len()
 }

@@ -1,9 +1,8 @@
 //! Cases of the public calls with ample memory.
-use crate::decision::decide;
-use crate::plain::{plain_canon, plain_checks, plain_decision};
-use crate::{CheckFail, CheckFault, CheckKind, Directive, canon, canon_owned, read_checks};
+use crate::{CheckFail, CheckKind, Directive, Kind, canon, canon_owned, read_checks};
+use std::alloc::Global;
 use std::test::Fail;
-use tt_base::{Bytes, Items, Place};
+use tt_base::{Bytes, Items, NoMemory, Place};
 
 #[test]
 fn runs_of_blanks_and_line_ends_become_one_byte(rt: HostRuntime) -> Result<(), Fail> {
@@ -54,6 +53,43 @@ fn two_bytes_become_one_at_each_offset(rt: HostRuntime) -> Result<(), Fail> {
     Ok(())
 }
 
+fn list_of(alloc: Global, names: &[&str]) -> Result<Items<Bytes>, NoMemory> {
+    let mut list = Items::new(alloc);
+    for name in names {
+        list.push(Bytes::from_slice(alloc, name.as_bytes())?)?;
+    }
+    Ok(list)
+}
+
+/// The directives by these check prefixes, and the comment prefixes COM and RUN.
+/// A text longer than any that is read counts as want of memory.
+fn read_by(
+    alloc: Global,
+    prefixes: &[&str],
+    allow_unused: bool,
+    text: &[u8],
+) -> Result<Items<Directive>, CheckFail> {
+    if text.len() > 1 << 30 {
+        return Err(CheckFail::NoMemory);
+    }
+    let prefixes = list_of(alloc, prefixes)?;
+    let comments = list_of(alloc, &["COM", "RUN"])?;
+    read_checks(
+        alloc,
+        text,
+        prefixes.as_slice(),
+        comments.as_slice(),
+        allow_unused,
+        false,
+        false,
+    )
+}
+
+/// The directives by the prefix CHECK.
+fn read(alloc: Global, text: &[u8]) -> Result<Items<Directive>, CheckFail> {
+    read_by(alloc, &["CHECK"], false, text)
+}
+
 #[test]
 fn a_directive_has_the_rest_of_its_line(rt: HostRuntime) -> Result<(), Fail> {
     let alloc = rt.alloc();
@@ -66,9 +102,12 @@ fn a_directive_has_the_rest_of_its_line(rt: HostRuntime) -> Result<(), Fail> {
         ("MYCHECK: CHECK: a", 1, 10, 17, 16, 17),
         ("CHECK: a RUN: b", 1, 1, 8, 7, 15),
         ("RUN:\nXCOM: CHECK: a", 2, 7, 14, 18, 19),
+        ("CHECK-NOTE: CHECK: a", 1, 13, 20, 19, 20),
+        ("RUN CHECK: a", 1, 5, 12, 11, 12),
+        ("x CHECK-COUNT-2: y", 1, 3, 18, 17, 18),
     ];
     for (text, line, head, col, from, to) in cases {
-        let directives = read_checks(alloc, text.as_bytes())?;
+        let directives = read(alloc, text.as_bytes())?;
         assert_eq!(rt; directives.len(), 1, "{text:?}");
         for one in directives.as_slice() {
             assert_eq!(rt;
@@ -79,8 +118,159 @@ fn a_directive_has_the_rest_of_its_line(rt: HostRuntime) -> Result<(), Fail> {
             assert_eq!(rt; (one.body.from, one.body.to), (from, to), "{text:?}");
         }
     }
-    let directives = read_checks(alloc, b"CHECK: a\nb\nCHECK: c")?;
-    assert_eq!(rt; lines_of(&directives), (2, 1, 3));
+    Ok(())
+}
+
+#[test]
+fn a_suffix_gives_the_kind(rt: HostRuntime) -> Result<(), Fail> {
+    let alloc = rt.alloc();
+    let cases = [
+        ("CHECK: a", Kind::Plain, false),
+        ("CHECK-NEXT: a", Kind::Next, false),
+        ("CHECK-SAME: a", Kind::Same, false),
+        ("CHECK-EMPTY:", Kind::Empty, false),
+        ("CHECK-EMPTY:  ", Kind::Empty, false),
+        ("CHECK-COUNT-1: a", Kind::Count(1), false),
+        ("CHECK-COUNT-03: a", Kind::Count(3), false),
+        ("CHECK-COUNT-100000: a", Kind::Count(100_000), false),
+        ("CHECK{LITERAL}: {{a", Kind::Plain, true),
+        ("CHECK-NEXT{ LITERAL }: a", Kind::Next, true),
+        ("CHECK-COUNT-2{LITERAL}: [[", Kind::Count(2), true),
+    ];
+    for (text, kind, literal) in cases {
+        let mut all = Bytes::from_slice(alloc, b"CHECK: first\n")?;
+        all.append(text.as_bytes())?;
+        let directives = read(alloc, all.as_slice())?;
+        match directives.as_slice() {
+            [_, one] => assert_eq!(rt; (one.kind, one.literal), (kind, literal), "{text:?}"),
+            _ => assert!(rt; false, "{text:?} isn't one directive"),
+        }
+    }
+    Ok(())
+}
+
+#[test]
+fn the_first_refused_line_refuses_the_file(rt: HostRuntime) {
+    let alloc = rt.alloc();
+    let cases = [
+        ("", 1, 1, CheckKind::NoChecks),
+        ("a\nMYCHECK: x", 1, 1, CheckKind::NoChecks),
+        ("CHECK x", 1, 1, CheckKind::NoChecks),
+        ("CHECK-FOO: x\nCHECK-NOTE: x", 1, 1, CheckKind::NoChecks),
+        ("CHECK-COUNT: a\nCHECK{a", 1, 1, CheckKind::NoChecks),
+        ("RUN: CHECK: x", 1, 1, CheckKind::NoChecks),
+        ("a COM: CHECK: x", 1, 1, CheckKind::NoChecks),
+        ("CHECK-COUNT-0: a", 1, 1, CheckKind::BadCount),
+        ("x CHECK-COUNT-: a", 1, 3, CheckKind::BadCount),
+        ("CHECK-COUNT-100001: a", 1, 1, CheckKind::BadCount),
+        (
+            "CHECK-COUNT-99999999999999999999: a",
+            1,
+            1,
+            CheckKind::BadCount,
+        ),
+        ("CHECK-COUNT-1 : a", 1, 1, CheckKind::BadCount),
+        ("CHECK-NOT-NEXT: a", 1, 1, CheckKind::NotCombination),
+        ("CHECK-DAG-NOT: a", 1, 1, CheckKind::NotCombination),
+        ("CHECK{FOO}: a", 1, 1, CheckKind::BadModifier),
+        ("CHECK{}: a", 1, 1, CheckKind::BadModifier),
+        ("CHECK-NEXT{LITERAL, a}: a", 1, 1, CheckKind::BadModifier),
+        ("CHECK:", 1, 7, CheckKind::EmptyPattern),
+        ("a\n CHECK: \nCHECK-NEXT: b", 2, 8, CheckKind::EmptyPattern),
+        (
+            "CHECK: a\nCHECK-EMPTY:  b",
+            2,
+            15,
+            CheckKind::NonEmptyForEmpty,
+        ),
+        ("CHECK-NEXT: a", 1, 1, CheckKind::NoEarlierCheck),
+        ("CHECK-EMPTY:", 1, 1, CheckKind::NoEarlierCheck),
+        ("CHECK-NOT: a", 1, 1, CheckKind::NotBuilt),
+        ("CHECK: {{a", 1, 8, CheckKind::NotBuilt),
+        ("CHECK: a [[X]]", 1, 8, CheckKind::NotBuilt),
+        ("CHECK: a\nb CHECK: {{b\n", 2, 10, CheckKind::NotBuilt),
+    ];
+    for (text, line, col, kind) in cases {
+        match read(alloc, text.as_bytes()) {
+            Err(CheckFail::Bad(fault)) => assert_eq!(rt;
+                (fault.place, fault.kind),
+                (Place { line, col }, kind),
+                "{text:?}"
+            ),
+            _ => assert!(rt; false, "{text:?} was read"),
+        }
+    }
+}
+
+#[test]
+fn the_longest_prefix_counts(rt: HostRuntime) -> Result<(), Fail> {
+    let alloc = rt.alloc();
+    let cases = [
+        ("A: x", Some(0)),
+        ("AB: x", Some(1)),
+        ("A-B: x", Some(2)),
+        ("A-COUNT-2: x", Some(0)),
+        ("ABC: x", None),
+        ("A-BC: x", None),
+        ("RUN-X: A: x", Some(0)),
+        ("COMA: x", None),
+    ];
+    for (text, prefix) in cases {
+        match (
+            read_by(alloc, &["A", "AB", "A-B"], true, text.as_bytes()),
+            prefix,
+        ) {
+            (Ok(directives), Some(prefix)) => {
+                for one in directives.as_slice() {
+                    assert_eq!(rt; one.prefix, prefix, "{text:?}");
+                }
+            }
+            (Err(CheckFail::Bad(fault)), None) => assert_eq!(rt;
+                fault.kind,
+                CheckKind::NoChecks,
+                "{text:?}"
+            ),
+            _ => assert!(rt; false, "{text:?}"),
+        }
+    }
+    Ok(())
+}
+
+#[test]
+fn an_unused_prefix_is_refused(rt: HostRuntime) -> Result<(), Fail> {
+    let alloc = rt.alloc();
+    let cases = [
+        (["A", "B"].as_slice(), "B: x", Some(0)),
+        (["A", "B"].as_slice(), "A: x", Some(1)),
+        (["A", "B"].as_slice(), "A: x\nB: y", None),
+        (["A"].as_slice(), "A: x", None),
+    ];
+    for (prefixes, text, unused) in cases {
+        match (read_by(alloc, prefixes, false, text.as_bytes()), unused) {
+            (Ok(_), None) => {}
+            (Err(CheckFail::Bad(fault)), Some(index)) => assert_eq!(rt;
+                fault.kind,
+                CheckKind::UnusedPrefix(index),
+                "{text:?}"
+            ),
+            _ => assert!(rt; false, "{text:?}"),
+        }
+    }
+    Ok(())
+}
+
+#[test]
+fn blanks_are_kept_where_that_is_asked(rt: HostRuntime) -> Result<(), Fail> {
+    let alloc = rt.alloc();
+    let prefixes = list_of(alloc, &["CHECK"])?;
+    let text = b"CHECK: a ";
+    let directives = read_checks(alloc, text, prefixes.as_slice(), &[], false, true, false)?;
+    for one in directives.as_slice() {
+        assert_eq!(rt; (one.body.from, one.body.to, one.col), (6, 9, 7));
+    }
+    assert_eq!(rt; directives.len(), 1);
+    let none = read_checks(alloc, b"x", prefixes.as_slice(), &[], false, false, true)?;
+    assert!(rt; none.is_empty());
     Ok(())
 }
 
@@ -94,33 +284,29 @@ fn lines_of(directives: &Items<Directive>) -> (usize, u32, u32) {
 }
 
 #[test]
-fn the_first_refused_line_refuses_the_file(rt: HostRuntime) {
+fn a_hundred_thousand_directives_are_read(rt: HostRuntime) -> Result<(), Fail> {
     let alloc = rt.alloc();
-    let cases = [
-        ("", 1, 1, CheckKind::NoChecks),
-        ("a\nMYCHECK: x", 1, 1, CheckKind::NoChecks),
-        ("CHECK x", 1, 1, CheckKind::NoChecks),
-        ("RUN: CHECK: x", 1, 1, CheckKind::NoChecks),
-        ("a COM: CHECK: x", 1, 1, CheckKind::NoChecks),
-        ("a CHECK-NOTE: x", 1, 3, CheckKind::NotBuilt),
-        ("CHECK{LITERAL}: a", 1, 1, CheckKind::NotBuilt),
-        ("CHECK:", 1, 1, CheckKind::NotBuilt),
-        ("CHECK: {{a", 1, 1, CheckKind::NotBuilt),
-        ("CHECK: a [[X]]", 1, 1, CheckKind::NotBuilt),
-        ("a\n CHECK: \nCHECK-NEXT: b", 2, 2, CheckKind::NotBuilt),
-        ("CHECK: a\nb CHECK: {{b\n", 2, 3, CheckKind::NotBuilt),
-    ];
-    for (text, line, col, kind) in cases {
-        let place = Place { line, col };
-        match read_checks(alloc, text.as_bytes()) {
-            Err(CheckFail::Bad(fault)) => assert_eq!(rt;
-                fault,
-                CheckFault { place, kind },
-                "{text:?}"
-            ),
-            _ => assert!(rt; false, "{text:?} was read"),
-        }
+    let mut text = Bytes::new(alloc);
+    for _ in 0..100_000 {
+        text.append(b"CHECK: a\n")?;
     }
+    assert!(rt; text.len() == 900_000);
+    let directives = read(alloc, text.as_slice())?;
+    assert_eq!(rt; lines_of(&directives), (100_000, 1, 100_000));
+    Ok(())
+}
+
+#[test]
+fn a_line_of_a_mebibyte_is_read(rt: HostRuntime) -> Result<(), Fail> {
+    let alloc = rt.alloc();
+    let large = vec![in alloc; b'a'; 1 << 20]?;
+    let mut text = Bytes::from_slice(alloc, large.as_slice())?;
+    text.append(b" CHECK: b")?;
+    let text = canon(alloc, text.as_slice(), false)?;
+    assert!(rt; text.len() == (1 << 20) + 9);
+    let directives = read(alloc, text.as_slice())?;
+    assert_eq!(rt; lines_of(&directives), (1, 1, 1));
+    Ok(())
 }
 
 #[test]
@@ -131,114 +317,16 @@ fn a_body_has_up_to_65536_bytes(rt: HostRuntime) -> Result<(), Fail> {
         text.append(b"a")?;
     }
     assert!(rt; text.len() == 65_543);
-    let directives = read_checks(alloc, text.as_slice())?;
+    let directives = read(alloc, text.as_slice())?;
     assert_eq!(rt; directives.len(), 1);
     text.append(b"a")?;
     assert!(rt; text.len() == 65_544);
-    let refused = CheckFault {
-        place: Place { line: 1, col: 1 },
-        kind: CheckKind::NotBuilt,
-    };
-    match read_checks(alloc, text.as_slice()) {
-        Err(CheckFail::Bad(fault)) => assert_eq!(rt; fault, refused),
+    match read(alloc, text.as_slice()) {
+        Err(CheckFail::Bad(fault)) => assert_eq!(rt;
+            (fault.place, fault.kind),
+            (Place { line: 1, col: 8 }, CheckKind::NotBuilt)
+        ),
         _ => assert!(rt; false, "a body of 65,537 bytes was read"),
     }
     Ok(())
-}
-
-#[test]
-fn the_fast_canon_is_the_plain_one(rt: HostRuntime) -> Result<(), Fail> {
-    let alloc = rt.alloc();
-    let alphabet = [b' ', b'\t', b'\r', b'\n', b'a'];
-    let texts_of = [1usize, 5, 25, 125, 625, 3125];
-    for length in 0..6 {
-        for number in 0..texts_of[length] {
-            let mut text = [b' '; 5];
-            let mut left = number;
-            for at in 0..5 {
-                text[at] = alphabet[left % 5];
-                left /= 5;
-            }
-            for strict in [false, true] {
-                let want = plain_canon(alloc, &text[..length], strict)?;
-                let out = canon(alloc, &text[..length], strict)?;
-                assert_eq!(rt;
-                    out.as_slice(),
-                    want.as_slice(),
-                    "{text:?} up to {length}, strict {strict}"
-                );
-            }
-        }
-    }
-    Ok(())
-}
-
-#[test]
-fn the_fast_decision_is_the_plain_one(rt: HostRuntime) {
-    let parts = [
-        b"COM:".as_slice(),
-        b"RUN:",
-        b"CHECK:",
-        b"CHECK-",
-        b"CHECK{",
-        b"CHECK",
-        b"CHEC",
-        b"x",
-        b"-",
-        b" ",
-    ];
-    for first in parts {
-        for second in parts {
-            for third in parts {
-                let mut line = [b'.'; 18];
-                put(&mut line, 0, first);
-                put(&mut line, first.len(), second);
-                put(&mut line, first.len() + second.len(), third);
-                assert_eq!(rt; decide(&line), plain_decision(false, 0, &line), "{line:?}");
-            }
-        }
-    }
-}
-
-/// Writes a part into a line, as far as it fits.
-fn put(line: &mut [u8], from: usize, part: &[u8]) {
-    for (at, byte) in part.iter().enumerate() {
-        if at < line.len() && from < line.len() - at {
-            line[from + at] = *byte;
-        }
-    }
-}
-
-#[test]
-fn the_fast_reading_is_the_plain_one(rt: HostRuntime) {
-    let alloc = rt.alloc();
-    let lines = [
-        "",
-        "x",
-        "CHECK: a",
-        " b CHECK:b ",
-        "RUN: CHECK: c",
-        "CHECK-NEXT: d",
-        "CHECK:",
-        "MYCHECK: e",
-    ];
-    for first in lines {
-        for second in lines {
-            for third in lines {
-                let mut text = [b'\n'; 44];
-                put(&mut text, 0, first.as_bytes());
-                put(&mut text, first.len() + 1, second.as_bytes());
-                put(&mut text, first.len() + second.len() + 2, third.as_bytes());
-                match (read_checks(alloc, &text), plain_checks(alloc, &text)) {
-                    (Ok(read), Ok(want)) => assert_eq!(rt;
-                        read.as_slice(),
-                        want.as_slice(),
-                        "{text:?}"
-                    ),
-                    (Err(read), Err(want)) => assert_eq!(rt; read, want, "{text:?}"),
-                    _ => assert!(rt; false, "{text:?} is read by one alone"),
-                }
-            }
-        }
-    }
 }

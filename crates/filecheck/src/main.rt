@@ -1,13 +1,16 @@
 //! `filecheck FILE < INPUT`: checks that the lines of a check file are found in the input, in order.
-//! All that it says and how it ends is `filecheck_run`'s; here are the real words, files and streams.
+//! All that it says and how it ends is `filecheck_tool`'s; here are the real words, files and streams.
 #![tactic(auto)]
 
-use filecheck_tool::filecheck_run;
-use std::alloc::Global;
-use std::env::{self, Env};
+ghost use Rattle.std.specs.IoError.{error_kind};
+ghost use Rattle.tt_run.specs.Run.{stream};
+ghost use Rattle.filecheck.specs.NoWords.{NoWords};
+
+use filecheck_tool::{filecheck_run, refuse_words, tell_memory};
 use std::io::{self, ErrorKind};
 use std::process::ExitCode;
-use tt_outside::write_all;
+use tt_main::words;
+use tt_outside::Sink;
 use tt_real::{StdErr, StdFiles, StdOut, StdSource};
 
 fn main(rt: HostRuntime) -> ExitCode {
@@ -29,21 +32,12 @@ fn main(rt: HostRuntime) -> ExitCode {
     ))
 }
 
-/// The words of the command line, without the program's name.
-fn words<R: Env + AllocGlobal>(rt: &R) -> io::Result<Vec<String>> {
-    let mut words = env::args(rt)?;
-    words.next();
-    Ok(words.collect(rt.alloc())?)
-}
-
 /// Tells why there are no words: one of them isn't text, or there was no memory for them.
-fn no_words(error: &io::Error, err: &mut StdErr) -> u8 {
-    let (status, message): (u8, &[u8]) = match error.kind() {
-        ErrorKind::OutOfMemory => (4, b"filecheck: error: out of memory\n"),
-        _ => (2, b"filecheck: error: a word isn't text\n"),
-    };
-    match write_all(err, message) {
-        Ok(()) => status,
-        Err(_) => 3,
+fn no_words<E: Sink>(error: &io::Error, err: &mut E) -> u8
+    ensures { NoWords (error_kind error.now) result (stream E.held E.faults E.room err.old err.new) }
+{
+    match error.kind() {
+        ErrorKind::OutOfMemory => tell_memory(err),
+        _ => refuse_words(err),
     }
 }

@@ -1,3 +1,3 @@
-pub mod LineLemmas
-pub mod ScanLemmas
+pub mod EachLemmas
+pub mod FaultLemmas
 pub mod WordsLemmas

@@ -1,6 +1,9 @@
 pub mod Answer
-pub mod Messages
+pub mod Message
+pub mod Prefixes
+pub mod Program
+pub mod Refusal
 pub mod Run
-pub mod Scan
-pub mod Sound
+pub mod Spot
+pub mod Verdict
 pub mod Words

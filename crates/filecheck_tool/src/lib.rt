@@ -3,19 +3,20 @@
 #![tactic(auto)]
 
 mod answer;
-mod checked;
-mod line;
+mod finding;
 mod message;
-mod reading;
+mod prefixes;
+mod program;
+mod refusal;
 mod run;
-mod scan;
+mod spot;
 #[cfg(test)]
 mod tests;
 mod verdict;
 mod words;
 
-pub use answer::Answer;
-pub use checked::{Checked, Program};
-pub use reading::Reading;
-pub use run::{CHECK_LIMIT, INPUT_LIMIT, filecheck_run};
-pub use words::Settings;
+pub use finding::{Finding, Note, Remark, Trouble};
+pub use program::Program;
+pub use refusal::{Refusal, Stop};
+pub use run::{CHECK_LIMIT, INPUT_LIMIT, filecheck_run, refuse_words, tell_memory};
+pub use spot::Spot;

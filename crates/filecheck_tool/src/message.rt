@@ -1,45 +1,116 @@
 //! The messages of FileCheck, byte by byte.
 ghost use Rattle.std.specs.Prelude.{◌≡◌, ◌++◌, IfOk, OnOk, replicate};
 ghost use Rattle.std.specs.Fmt.{decimal};
-ghost use Rattle.filecheck_tool.specs.Messages.{placed, unplaced};
+ghost use Rattle.filecheck_tool.specs.Message.{note_text, notes_text, placed, told, told_of, trouble_text, unplaced};
+ghost use Rattle.filecheck_tool.specs.declared.finding.Trouble.TheVariants.{NotFoundAgain};
 
+use crate::finding::{Finding, Note, Remark, Trouble};
+use crate::spot::Spot;
 use std::alloc::Global;
-use tt_base::{Bytes, NoMemory, Place};
+use tt_base::{Bytes, NoMemory};
 
-/// A message at a place of a text: what is told there, and the text of the line.
-pub fn placed(
-    alloc: Global,
-    name: &[u8],
-    place: Place,
-    what: &[u8],
-    line: &[u8],
-) -> Result<Bytes, NoMemory>
-    ensures { IfOk result (λ message. message ≡ placed name.now place what.now line.now) }
+/// What is told of findings, in order.
+pub fn told(alloc: Global, findings: &[Finding]) -> Result<Bytes, NoMemory>
+    ensures { IfOk result (λ message. message ≡ told findings.now) }
 {
-    let mut message = Bytes::from_slice(alloc, name)?;
+    let mut message = Bytes::new(alloc);
+    for finding in findings {
+        message.append(told_of(alloc, finding)?.as_slice())?;
+    }
+    Ok(message)
+}
+
+fn told_of(alloc: Global, finding: &Finding) -> Result<Bytes, NoMemory>
+    ensures { IfOk result (λ message. message ≡ told_of finding.now) }
+{
+    let mut what = Bytes::from_slice(alloc, b"error: ")?;
+    what.append(finding.name.as_slice())?;
+    what.append(b": ")?;
+    what.append(trouble_text(alloc, finding.trouble)?.as_slice())?;
+    let mut message = placed(alloc, &finding.check, what.as_slice())?;
+    message.append(notes_text(alloc, finding.notes.as_slice())?.as_slice())?;
+    Ok(message)
+}
+
+/// What is told of a directive.
+fn trouble_text(alloc: Global, trouble: Trouble) -> Result<Bytes, NoMemory>
+    ensures { IfOk result (λ text. text ≡ trouble_text trouble) }
+{
+    match trouble {
+        Trouble::NotFound => Bytes::from_slice(alloc, b"expected string not found in input"),
+        Trouble::NotFoundAgain(done, n) => counted_text(alloc, done, n),
+        Trouble::OnSameLine => Bytes::from_slice(alloc, b"is on the same line as previous match"),
+        Trouble::NotOnNextLine => {
+            Bytes::from_slice(alloc, b"is not on the line after the previous match")
+        }
+        Trouble::NotOnSameLine => {
+            Bytes::from_slice(alloc, b"is not on the same line as previous match")
+        }
+    }
+}
+
+fn counted_text(alloc: Global, done: u32, n: u32) -> Result<Bytes, NoMemory>
+    ensures { IfOk result (λ text. text ≡ trouble_text (NotFoundAgain done n)) }
+{
+    let mut text = Bytes::from_slice(alloc, b"expected string not found in input (")?;
+    append_number(alloc, &mut text, done)?;
+    text.append(b" of ")?;
+    append_number(alloc, &mut text, n)?;
+    text.append(b" found)")?;
+    Ok(text)
+}
+
+/// What is told of places in the input, in order.
+fn notes_text(alloc: Global, notes: &[Note]) -> Result<Bytes, NoMemory>
+    ensures { IfOk result (λ message. message ≡ notes_text notes.now) }
+{
+    let mut message = Bytes::new(alloc);
+    for note in notes {
+        message.append(note_text(alloc, note)?.as_slice())?;
+    }
+    Ok(message)
+}
+
+fn note_text(alloc: Global, note: &Note) -> Result<Bytes, NoMemory>
+    ensures { IfOk result (λ message. message ≡ note_text note.now) }
+{
+    match note.remark {
+        Remark::ScanningFrom => placed(alloc, &note.spot, b"note: scanning from here"),
+        Remark::MatchWasHere => placed(alloc, &note.spot, b"note: match was here"),
+        Remark::PreviousEnded => placed(alloc, &note.spot, b"note: previous match ended here"),
+    }
+}
+
+/// A message at a spot.
+pub fn placed(alloc: Global, spot: &Spot, what: &[u8]) -> Result<Bytes, NoMemory>
+    ensures { IfOk result (λ message. message ≡ placed spot.now what.now) }
+{
+    let mut message = Bytes::from_slice(alloc, spot.name.as_slice())?;
     message.append(b":")?;
-    append_number(alloc, &mut message, place.line)?;
+    append_number(alloc, &mut message, spot.place.line)?;
     message.append(b":")?;
-    append_number(alloc, &mut message, place.col)?;
+    append_number(alloc, &mut message, spot.place.col)?;
     message.append(b": ")?;
     message.append(what)?;
     message.append(b"\n")?;
-    message.append(line)?;
+    message.append(spot.line.as_slice())?;
     message.append(b"\n")?;
-    append_spaces(alloc, &mut message, place.col.saturating_sub(1) as usize)?;
+    append_spaces(
+        alloc,
+        &mut message,
+        spot.place.col.saturating_sub(1) as usize,
+    )?;
     message.append(b"^")?;
     message.append(b"\n")?;
     Ok(message)
 }
 
-/// A message that is told of no place, about a name between two texts.
-pub fn unplaced(alloc: Global, before: &[u8], name: &[u8], behind: &[u8]) -> Result<Bytes, NoMemory>
-    ensures { IfOk result (λ message. message ≡ unplaced before.now name.now behind.now) }
+/// A message that is told of no place.
+pub fn unplaced(alloc: Global, text: &[u8]) -> Result<Bytes, NoMemory>
+    ensures { IfOk result (λ message. message ≡ unplaced text.now) }
 {
     let mut message = Bytes::from_slice(alloc, b"filecheck: error: ")?;
-    message.append(before)?;
-    message.append(name)?;
-    message.append(behind)?;
+    message.append(text)?;
     message.append(b"\n")?;
     Ok(message)
 }

@@ -1,21 +1,29 @@
 //! The top call.
-ghost use Rattle.std.specs.Prelude.{◌≡◌, ◌⊎◌, ◌≤◌, ◌<◌, ◌≢◌, ◌+◌, IfOk};
-ghost use Rattle.std.specs.Io.KnownBytes.{Appends};
+ghost use Rattle.std.specs.Prelude.{◌≡◌, ◌⊎◌, ◌≤◌, ◌≢◌, ◌+◌, ◌^◌, IfOk, List, Result};
 ghost use Rattle.tt_outside.specs.Faults.{Rose};
 ghost use Rattle.tt_outside.specs.Transfer.{TakesAtMost};
-ghost use Rattle.filecheck_tool.specs.Answer.{answer, checked_words};
-ghost use Rattle.filecheck_tool.specs.Run.{AppendsFront, FileUsed, InputUsed, Written, out_of_memory, stream};
-ghost use Rattle.filecheck_tool.specs.Sound.{IsShort};
-ghost use Rattle.filecheck_tool.specs.Words.{WordsHold, settings_of, texts};
+ghost use Rattle.tt_run.specs.Run.{Answered, Told, Written, files, source, stream};
+ghost use Rattle.filecheck_tool.specs.Answer.{answer_to, text_of};
+ghost use Rattle.filecheck_tool.specs.Message.{cannot_write, out_of_memory};
+ghost use Rattle.filecheck_tool.specs.Program.{IsSound};
+ghost use Rattle.filecheck_tool.specs.Refusal.{accepted};
+ghost use Rattle.filecheck_tool.specs.Run.{OutcomeFrom, ProgramFrom};
+ghost use Rattle.filecheck_tool.specs.Words.{named, texts};
+ghost use Rattle.filecheck_tool.specs.declared.program.Program.{Program};
+ghost use Rattle.filecheck_tool.specs.declared.refusal.Refusal.TheVariants.{WordNotText};
+ghost use Rattle.filecheck_tool.specs.declared.refusal.Stop.{Stop};
+ghost use Rattle.filecheck_tool.specs.declared.finding.Finding.{Finding};
 
-use crate::answer::Answer;
-use crate::checked::{Checked, check_settings};
-use crate::reading::Reading;
-use crate::verdict::answer_checked;
-use crate::words::{Settings, read_words, word};
+use crate::answer::answer_to;
+use crate::finding::Finding;
+use crate::program::{Program, program_read};
+use crate::refusal::{StepFail, Stop, settled};
+use crate::verdict::verdict_read;
+use crate::words::named;
 use std::alloc::Global;
-use tt_base::NoMemory;
-use tt_outside::{Files, FilesFault, Sink, Source, TakeFault, take_all, write_all};
+use tt_base::{Items, NoMemory};
+use tt_outside::{Files, Sink, Source};
+use tt_run::{answer_on, read_named, read_source, tell, write_answer};
 
 /// The greatest length of a check file, in bytes.
 pub const CHECK_LIMIT: u64 = 16_777_216;
@@ -29,122 +37,91 @@ pub const INPUT_LIMIT: u64 = 67_108_864;
 pub fn filecheck_run<F: Files, I: Source, O: Sink, E: Sink>(
     alloc: Global,
     words: &[String],
-    files: &mut F,
+    from: &mut F,
     input: &mut I,
     out: &mut O,
     err: &mut E,
 ) -> u8
-    ensures answer { result ≢ 4 → (file : Reading) × (read : Reading)
-        × FileUsed (F.held files.old) (F.steady files.old) (F.faults files.old)
-        (F.faults files.new) CHECK_LIMIT (texts words.now) (settings_of (texts words.now)) file
-        × InputUsed (I.left input.old) (I.left input.new) (I.steady input.old)
-        (I.faults input.old) (I.faults input.new) INPUT_LIMIT
-        (checked_words (texts words.now) file) read
-        × Written (answer (texts words.now) file read) result
-        (stream (O.held out.old) (O.held out.new) (O.faults out.old) (O.faults out.new)
-        (O.room out.old))
-        (stream (E.held err.old) (E.held err.new) (E.faults err.old) (E.faults err.new)
-        (E.room err.old)) }
-    ensures fault { result ≡ 3 → Rose (F.faults files.old) (F.faults files.new)
+    ensures answer { result ≢ 4 → (program : Result Program Stop) × (outcome : Result (List Finding) Stop)
+        × ProgramFrom (files F.held F.steady F.faults from.old from.new) (2 ^ 24)
+        (accepted (named (texts words.now))) program
+        × OutcomeFrom (source I.left I.steady I.faults input.old input.new) (2 ^ 26) program outcome
+        × Written cannot_write (answer_to outcome) result
+        (stream O.held O.faults O.room out.old out.new) (stream E.held E.faults E.room err.old err.new) }
+    ensures fault { result ≡ 3 → Rose (F.faults from.old) (F.faults from.new)
         ⊎ Rose (I.faults input.old) (I.faults input.new)
         ⊎ Rose (O.faults out.old) (O.faults out.new)
         ⊎ Rose (E.faults err.old) (E.faults err.new) }
     ensures memory { result ≡ 4 → (O.held out.new ≡ O.held out.old)
-        × AppendsFront (E.held err.old) (E.held err.new) out_of_memory }
-    ensures taken { TakesAtMost (I.left input.old) (I.left input.new) (INPUT_LIMIT + 1) }
-    ensures files_stay { F.held files.new ≡ F.held files.old }
+        × Told out_of_memory (stream E.held E.faults E.room err.old err.new) }
+    ensures taken { TakesAtMost (I.left input.old) (I.left input.new) (2 ^ 26 + 1) }
+    ensures files_stay { F.held from.new ≡ F.held from.old }
     ensures no_other { result ≤ 4 }
 {
-    let settings = read_words(words);
-    let Ok(file) = read_file(alloc, words, settings, files) else {
+    let Ok(program) = program_from(alloc, words, from) else {
         return tell_memory(err);
     };
-    let Ok(checked) = check_settings(alloc, words, settings, file) else {
+    let Ok(outcome) = outcome_from(alloc, program, input) else {
         return tell_memory(err);
     };
-    let Ok(read) = read_input(alloc, &checked, input) else {
+    let Ok(answer) = answer_to(alloc, &outcome) else {
         return tell_memory(err);
     };
-    let Ok(spoken) = answer_checked(alloc, checked, read) else {
-        return tell_memory(err);
-    };
-    write_answer(&spoken, out, err)
+    write_answer(b"filecheck: error: cannot write\n", &answer, out, err)
 }
 
-/// What reading the check file gave, where the words name one.
-fn read_file<F: Files>(
+/// The program of the check file that the words name.
+fn program_from<F: Files>(
     alloc: Global,
     words: &[String],
-    settings: Settings,
-    files: &mut F,
-) -> Result<Reading, NoMemory>
-    requires { WordsHold (texts words.now) settings }
-    ensures used { IfOk result (FileUsed (F.held files.old) (F.steady files.old)
-        (F.faults files.old) (F.faults files.new) CHECK_LIMIT
-        (texts words.now) settings) }
-    ensures files_stay { F.held files.new ≡ F.held files.old }
-    ensures small { IfOk result IsShort }
+    from: &mut F,
+) -> Result<Result<Program, Stop>, NoMemory>
+    ensures value { IfOk result (ProgramFrom (files F.held F.steady F.faults from.old from.new) (2 ^ 24)
+        (accepted (named (texts words.now)))) }
+    ensures sound { IfOk result (λ program. IfOk program IsSound) }
+    ensures files_stay { F.held from.new ≡ F.held from.old }
 {
-    let Settings::File(at) = settings else {
-        return Ok(Reading::Missing);
+    let name = match named(alloc, words) {
+        Ok(name) => name,
+        Err(StepFail::Stopped(stop)) => return Ok(Err(stop)),
+        Err(StepFail::NoMemory) => return Err(NoMemory),
     };
-    match files.read_all(alloc, word(words, at), CHECK_LIMIT) {
-        Ok(bytes) => Ok(Reading::Whole(bytes)),
-        Err(FilesFault::Missing) => Ok(Reading::Missing),
-        Err(FilesFault::TooLarge { .. }) => Ok(Reading::TooLarge),
-        Err(FilesFault::Failed) => Ok(Reading::Failed),
-        Err(FilesFault::NoMemory) => Err(NoMemory),
-    }
+    let file = read_named(alloc, name, CHECK_LIMIT, from)?;
+    settled(program_read(alloc, name.as_bytes(), file))
 }
 
-/// What reading the input gave, where the check file was accepted.
-fn read_input<I: Source>(
+/// What the program finds amiss in the input.
+fn outcome_from<I: Source>(
     alloc: Global,
-    checked: &Checked,
+    program: Result<Program, Stop>,
     input: &mut I,
-) -> Result<Reading, NoMemory>
-    ensures used { IfOk result (InputUsed (I.left input.old) (I.left input.new)
-        (I.steady input.old) (I.faults input.old)
-        (I.faults input.new) INPUT_LIMIT checked.now) }
-    ensures taken { TakesAtMost (I.left input.old) (I.left input.new) (INPUT_LIMIT + 1) }
-    ensures small { IfOk result IsShort }
+) -> Result<Result<Items<Finding>, Stop>, NoMemory>
+    requires { IfOk program IsSound }
+    ensures value { IfOk result (OutcomeFrom (source I.left I.steady I.faults input.old input.new) (2 ^ 26)
+        program) }
+    ensures taken { TakesAtMost (I.left input.old) (I.left input.new) (2 ^ 26 + 1) }
 {
-    if matches!(checked, Checked::Refused(_)) {
-        return Ok(Reading::Missing);
-    }
-    match take_all(alloc, input, INPUT_LIMIT) {
-        Ok(bytes) => Ok(Reading::Whole(bytes)),
-        Err(TakeFault::TooLarge) => Ok(Reading::TooLarge),
-        Err(TakeFault::Failed) => Ok(Reading::Failed),
-        Err(TakeFault::NoMemory) => Err(NoMemory),
+    match program {
+        Ok(program) => {
+            let read = read_source(alloc, INPUT_LIMIT, input)?;
+            settled(verdict_read(alloc, &program, read))
+        }
+        Err(stop) => Ok(Err(stop)),
     }
 }
 
-/// Writes the answer, and answers the status.
-fn write_answer<O: Sink, E: Sink>(answer: &Answer, out: &mut O, err: &mut E) -> u8
-    requires { answer.now.status ≤ 3 }
-    ensures written { Written answer.now result
-        (stream (O.held out.old) (O.held out.new) (O.faults out.old) (O.faults out.new)
-        (O.room out.old))
-        (stream (E.held err.old) (E.held err.new) (E.faults err.old) (E.faults err.new)
-        (E.room err.old)) }
-    ensures range { result ≤ 3 }
-{
-    if write_all(out, answer.out.as_slice()).is_err() {
-        let _ = write_all(err, b"filecheck: error: cannot write\n");
-        return 3;
-    }
-    if write_all(err, answer.err.as_slice()).is_err() {
-        return 3;
-    }
-    answer.status
-}
-
-/// Tells the want of memory, as far as the error stream takes it.
-fn tell_memory<E: Sink>(err: &mut E) -> u8
+/// Tells the want of memory, as far as the error stream takes it, and answers 4.
+pub fn tell_memory<E: Sink>(err: &mut E) -> u8
     ensures status { result ≡ 4 }
-    ensures told { AppendsFront (E.held err.old) (E.held err.new) out_of_memory }
+    ensures told { Told out_of_memory (stream E.held E.faults E.room err.old err.new) }
 {
-    let _ = write_all(err, b"filecheck: error: out of memory\n");
+    tell(b"filecheck: error: out of memory\n", err);
     4
+}
+
+/// Refuses words of which one isn't text. It takes no memory.
+pub fn refuse_words<E: Sink>(err: &mut E) -> u8
+    ensures { Answered (text_of WordNotText) 2 result (stream E.held E.faults E.room err.old err.new) }
+{
+    answer_on(b"filecheck: error: a word isn't text\n", 2, err)
 }

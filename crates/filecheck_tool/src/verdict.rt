@@ -1,105 +1,224 @@
-//! The answer on the input.
-ghost use Rattle.std.specs.Prelude.{◌≡◌, ◌≤◌, ◌^◌, All, IfOk, length};
-ghost use Rattle.check_lines.specs.Checks.{EndsBy};
-ghost use Rattle.filecheck_tool.specs.Answer.{bytes_answer, checked_answer, input_answer};
-ghost use Rattle.filecheck_tool.specs.Answer.{scanned_answer, unfound_message};
-ghost use Rattle.filecheck_tool.specs.Sound.{IsShort, IsSound};
+//! Whether the input has what the check file asks for.
+ghost use Rattle.std.specs.Prelude.{◌≡◌, ◌≤◌, ◌^◌, ◌∷◌, ◌++◌, [], Contains, IfOk, IfSome, OnOk, length, slice_get};
+ghost use Rattle.check_lines.specs.Checks.{IsPlaced};
+ghost use Rattle.check_run.specs.Found.{OffsetsLie};
+ghost use Rattle.check_run.specs.Scan.{FaultLies, FaultsLie};
+ghost use Rattle.filecheck_tool.specs.Program.{IsSound};
+ghost use Rattle.filecheck_tool.specs.Refusal.{Gives, accepted};
+ghost use Rattle.filecheck_tool.specs.Verdict.{filled, finding_of, findings_at, findings_of, note_at, notes_of, suffix_of, trouble_of, verdict, verdict_read};
+ghost use Rattle.filecheck_tool.specs.declared.finding.Remark.TheVariants.{MatchWasHere, PreviousEnded};
+ghost use Rattle.tt_run.specs.Run.{IsShort};
 
-use crate::answer::{Answer, told, told_of};
-use crate::checked::{Checked, Program};
-use crate::line::line_numbered;
-use crate::message::placed;
-use crate::reading::Reading;
-use crate::scan::{Unfound, scan};
-use check_lines::canon_owned;
+use crate::finding::{Finding, Note, Remark, Trouble};
+use crate::program::{Program, whole};
+use crate::refusal::{Refusal, StepFail, refuse};
+use crate::spot::{spot_at, spot_of};
+use check_lines::{Directive, Kind, canon_owned};
+use check_run::{Fault, FaultKind, check};
 use std::alloc::Global;
-use tt_base::{Bytes, NoMemory, Place, line_of, place_of};
+use tt_base::{Bytes, Items, NoMemory, Place};
+use tt_run::Reading;
 
 /// How the input is named.
 const INPUT: &[u8] = b"<stdin>";
 
-/// The answer on what reading the input gave. A refusal stands, whatever it gave.
-pub fn answer_checked(alloc: Global, checked: Checked, input: Reading) -> Result<Answer, NoMemory>
-    requires sound { IsSound checked }
-    requires small { IsShort input }
-    ensures { IfOk result (λ answer. answer ≡ checked_answer checked input) }
+/// What is found amiss in what reading the input gave.
+pub fn verdict_read(
+    alloc: Global,
+    program: &Program,
+    read: Reading,
+) -> Result<Items<Finding>, StepFail>
+    requires sound { IsSound program.now }
+    requires short { IsShort (2 ^ 30) read }
+    ensures { Gives (λ findings. findings) result (verdict_read program.now read) }
 {
-    match checked {
-        Checked::Refused(refusal) => Ok(refusal),
-        Checked::Accepted(program) => answer_input(alloc, &program, input),
-    }
+    let bytes = whole(alloc, INPUT, read)?;
+    let bytes = filled(alloc, INPUT, bytes)?;
+    let input = canon_owned(bytes, false);
+    Ok(verdict(alloc, program, input.as_slice())?)
 }
 
-fn answer_input(alloc: Global, program: &Program, input: Reading) -> Result<Answer, NoMemory>
-    requires sound { All (EndsBy (length program.now.text)) program.now.directives }
-    requires small { IsShort input }
-    ensures { IfOk result (λ answer. answer ≡ input_answer program.now input) }
-{
-    match input {
-        Reading::Whole(bytes) => answer_bytes(alloc, program, bytes),
-        Reading::TooLarge => told_of(alloc, 2, b"'", INPUT, b"' is too large"),
-        Reading::Missing | Reading::Failed => told_of(alloc, 3, b"cannot read '", INPUT, b"'"),
-    }
-}
-
-fn answer_bytes(alloc: Global, program: &Program, bytes: Bytes) -> Result<Answer, NoMemory>
-    requires sound { All (EndsBy (length program.now.text)) program.now.directives }
-    requires small { length bytes ≤ 2 ^ 30 }
-    ensures { IfOk result (λ answer. answer ≡ bytes_answer program.now bytes) }
+/// Bytes, if there is one.
+fn filled(alloc: Global, name: &[u8], bytes: Bytes) -> Result<Bytes, StepFail>
+    requires { length bytes ≤ 2 ^ 30 }
+    ensures value { Gives (λ same. same) result (accepted (filled name.now bytes)) }
+    ensures short { IfOk result (λ same. length same ≤ 2 ^ 30) }
 {
     if bytes.is_empty() {
-        return told_of(alloc, 2, b"'", INPUT, b"' is empty");
+        return refuse(Refusal::IsEmpty(Bytes::from_slice(alloc, name)?));
     }
-    let input = canon_owned(bytes, false);
-    answer_text(alloc, program, input.as_slice())
+    Ok(bytes)
 }
 
-fn answer_text(alloc: Global, program: &Program, input: &[u8]) -> Result<Answer, NoMemory>
-    requires sound { All (EndsBy (length program.now.text)) program.now.directives }
-    requires small { length input.now ≤ 2 ^ 30 }
-    ensures { IfOk result (λ answer. answer ≡ scanned_answer program.now input.now) }
+/// What is found amiss in a canonical input.
+fn verdict(alloc: Global, program: &Program, input: &[u8]) -> Result<Items<Finding>, NoMemory>
+    requires sound { IsSound program.now }
+    requires short { length input.now ≤ 2 ^ 30 }
+    ensures { IfOk result (λ findings. findings ≡ verdict program.now input.now) }
 {
-    match scan(
-        program.text.as_slice(),
-        input,
-        program.directives.as_slice(),
-    ) {
-        None => Ok(told(alloc, 0, Bytes::new(alloc))),
-        Some(unfound) => {
-            let message = tell_unfound(alloc, program, input, &unfound)?;
-            Ok(told(alloc, 1, message))
-        }
-    }
+    let verdict = check(alloc, &program.checks, input)?;
+    findings_of(alloc, program, input, verdict.faults.as_slice())
 }
 
-/// A directive that isn't found, with the place from which it was looked for.
-fn tell_unfound(
+/// What is told of faults, in order.
+fn findings_of(
     alloc: Global,
     program: &Program,
     input: &[u8],
-    unfound: &Unfound,
-) -> Result<Bytes, NoMemory>
-    requires within { unfound.now.from ≤ length input.now }
-    requires small { length input.now ≤ 2 ^ 30 }
-    ensures { IfOk result (λ message. message
-        ≡ unfound_message program.now.name program.now.text input.now unfound.now) }
+    faults: &[Fault],
+) -> Result<Items<Finding>, NoMemory>
+    requires sound { IsSound program.now }
+    requires short { length input.now ≤ 2 ^ 30 }
+    requires lie { FaultsLie program.now.checks input.now faults.now }
+    ensures { IfOk result (λ findings. findings ≡ findings_of program.now input.now faults.now) }
 {
-    let directive = unfound.directive;
+    let mut findings = Items::new(alloc);
+    for fault in faults {
+        add_finding(alloc, &mut findings, program, input, fault)?;
+    }
+    Ok(findings)
+}
+
+fn add_finding(
+    alloc: Global,
+    findings: &mut Items<Finding>,
+    program: &Program,
+    input: &[u8],
+    fault: &Fault,
+) -> Result<(), NoMemory>
+    requires sound { IsSound program.now }
+    requires short { length input.now ≤ 2 ^ 30 }
+    requires lie { FaultLies program.now.checks input.now fault.now }
+    ensures { OnOk result (findings.new ≡ findings.old ++ findings_at program.now input.now fault.now) }
+{
+    match directive_at(program.directives.as_slice(), fault.directive) {
+        Some(directive) => findings.push(finding_of(alloc, program, input, directive, fault.kind)?),
+        None => Ok(()),
+    }
+}
+
+fn directive_at(directives: &[Directive], index: usize) -> Option<Directive>
+    ensures value { result ≡ slice_get directives.now index }
+    ensures among { IfSome result (Contains directives.now) }
+{
+    directives.get(index).copied()
+}
+
+fn finding_of(
+    alloc: Global,
+    program: &Program,
+    input: &[u8],
+    directive: Directive,
+    kind: FaultKind,
+) -> Result<Finding, NoMemory>
+    requires small { length program.now.text ≤ 2 ^ 30 }
+    requires placed { IsPlaced program.now.text (length program.now.prefixes) directive }
+    requires short { length input.now ≤ 2 ^ 30 }
+    requires lies { OffsetsLie input.now kind }
+    ensures { IfOk result (λ finding. finding ≡ finding_of program.now input.now directive kind) }
+{
+    let mut name = Bytes::from_slice(
+        alloc,
+        program.prefixes.as_slice()[directive.prefix].as_slice(),
+    )?;
+    name.append(suffix_of(directive.kind))?;
     let place = Place {
         line: directive.line,
         col: directive.col,
     };
-    let line = line_numbered(program.text.as_slice(), directive.line);
-    let what = b"error: CHECK: expected string not found in input";
-    let mut message = placed(alloc, program.name.as_slice(), place, what, line)?;
-    let from = line_of(input, unfound.from);
-    let note = placed(
-        alloc,
-        INPUT,
-        place_of(input, unfound.from),
-        b"note: scanning from here",
-        &input[from.from..from.to],
-    )?;
-    message.append(note.as_slice())?;
-    Ok(message)
+    Ok(Finding {
+        name,
+        trouble: trouble_of(directive.kind, kind),
+        check: spot_of(
+            alloc,
+            program.name.as_slice(),
+            program.text.as_slice(),
+            directive.body.from,
+            place,
+        )?,
+        notes: notes_of(alloc, input, kind)?,
+    })
+}
+
+/// The suffix by which a kind is told.
+fn suffix_of(kind: Kind) -> &'static [u8]
+    ensures { result.now ≡ suffix_of kind }
+{
+    match kind {
+        Kind::Plain => b"",
+        Kind::Next => b"-NEXT",
+        Kind::Same => b"-SAME",
+        Kind::Empty => b"-EMPTY",
+        Kind::Not => b"-NOT",
+        Kind::Dag => b"-DAG",
+        Kind::Label => b"-LABEL",
+        Kind::Count(_) => b"-COUNT",
+    }
+}
+
+/// What is wrong with a directive of a kind.
+fn trouble_of(kind: Kind, fault: FaultKind) -> Trouble
+    ensures { result ≡ trouble_of kind fault }
+{
+    match fault {
+        FaultKind::NotFound { from: _, done } => match kind {
+            Kind::Count(n) => Trouble::NotFoundAgain(done, n),
+            Kind::Plain | Kind::Next | Kind::Same | Kind::Empty => Trouble::NotFound,
+            Kind::Not | Kind::Dag | Kind::Label => Trouble::NotFound,
+        },
+        FaultKind::WrongLine { newlines, .. } => {
+            if newlines == 0 {
+                Trouble::OnSameLine
+            } else {
+                Trouble::NotOnNextLine
+            }
+        }
+        FaultKind::NotSameLine { .. } => Trouble::NotOnSameLine,
+    }
+}
+
+/// The places in the input that are told with a fault.
+fn notes_of(alloc: Global, input: &[u8], kind: FaultKind) -> Result<Items<Note>, NoMemory>
+    requires short { length input.now ≤ 2 ^ 30 }
+    requires lies { OffsetsLie input.now kind }
+    ensures { IfOk result (λ notes. notes ≡ notes_of input.now kind) }
+{
+    match kind {
+        FaultKind::NotFound { from, .. } => {
+            let mut notes = Items::new(alloc);
+            notes.push(note_at(alloc, Remark::ScanningFrom, input, from)?)?;
+            Ok(notes)
+        }
+        FaultKind::WrongLine { found, last, .. } => both_notes(alloc, input, found, last),
+        FaultKind::NotSameLine { found, last } => both_notes(alloc, input, found, last),
+    }
+}
+
+fn both_notes(
+    alloc: Global,
+    input: &[u8],
+    found: usize,
+    last: usize,
+) -> Result<Items<Note>, NoMemory>
+    requires short { length input.now ≤ 2 ^ 30 }
+    requires found { found ≤ length input.now }
+    requires last { last ≤ length input.now }
+    ensures { IfOk result (λ notes. notes ≡ note_at MatchWasHere input.now found ∷ note_at PreviousEnded input.now last ∷ []) }
+{
+    let mut notes = Items::new(alloc);
+    notes.push(note_at(alloc, Remark::MatchWasHere, input, found)?)?;
+    notes.push(note_at(alloc, Remark::PreviousEnded, input, last)?)?;
+    Ok(notes)
+}
+
+/// A place in the input.
+fn note_at(alloc: Global, remark: Remark, input: &[u8], at: usize) -> Result<Note, NoMemory>
+    requires within { at ≤ length input.now }
+    requires short { length input.now ≤ 2 ^ 30 }
+    ensures { IfOk result (λ note. note ≡ note_at remark input.now at) }
+{
+    Ok(Note {
+        remark,
+        spot: spot_at(alloc, INPUT, input, at)?,
+    })
 }

@@ -1,2 +1,3 @@
-pub mod Known
+pub mod CrewLemmas
 pub mod MemoryLemmas
+pub mod TransferLemmas

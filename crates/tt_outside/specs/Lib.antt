@@ -1,6 +1,11 @@
 pub mod Faults
+pub mod Fits
+pub mod Gave
 pub mod GivesFile
 pub mod Memory
 pub mod Named
 pub mod Plan
+pub mod PlanOf
+pub mod Planned
+pub mod Seats
 pub mod Transfer

@@ -1,13 +1,16 @@
-//! The trusted edge: the system's streams and files as the sources, sinks and files of `tt_outside`. What the
-//! system does is trusted; each error of it is a fault that is counted, and nothing is told of the bytes.
+//! The trusted edge: the system's streams, files and programs as the sources, sinks, files and crew of `tt_outside`.
+//! What the system does is trusted; each error of it is a fault that is counted, and nothing is told of the bytes.
 #![tactic(auto)]
 
+mod child;
+mod crew;
 mod files;
 mod reader;
 #[cfg(test)]
 mod tests;
 mod writer;
 
+pub use crew::{StdCrew, StdHand};
 pub use files::StdFiles;
 pub use reader::{ReaderSource, StdSource};
 pub use writer::{StdErr, StdOut, WriterSink};

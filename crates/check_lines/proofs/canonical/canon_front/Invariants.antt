@@ -1,14 +1,13 @@
-use Rattle.std.proofs.Common.{◌≡◌, ◌≤◌, ◌-◌, length}
-use Rattle.check_lines.specs.Canon.{canonical}
-use Rattle.check_lines.specs.CanonMade.{whole_form}
+use Rattle.std.proofs.Common.{◌≡◌, ◌≤◌, ◌-◌, ◌++◌, length, take, drop}
+use Rattle.check_lines.specs.Canonical.{canon}
 use Rattle.check_lines.proofs.canonical.canon_front.Given as goal
 
 abbrev pub invariant-loop-text : goal.invariant-loop-text
 invariant-loop-text l = record {
   long : length l.text ≡ length l.fn.text;
-  below : l.made.done ≤ l.at;
+  below : l.done ≤ l.at;
   within : l.at ≤ length l.text;
-  same : whole_form l.strict l.text l.made l.at ≡ canonical l.strict l.fn.text;
+  same : take l.done l.text ++ canon l.strict (drop l.at l.text) ≡ canon l.strict l.fn.text;
 }
 
 abbrev pub decreases-loop-text : goal.decreases-loop-text

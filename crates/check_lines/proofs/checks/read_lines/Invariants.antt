@@ -1,9 +1,11 @@
 use Rattle.std.proofs.Common.{◌-◌, length}
-use Rattle.check_lines.proofs.ChecksLemmas.{Read}
+use Rattle.check_lines.proofs.ChecksLemmas.{ReadBefore}
 use Rattle.check_lines.proofs.checks.read_lines.Given as goal
 
-abbrev pub invariant-loop-fail : goal.invariant-loop-fail
-invariant-loop-fail l = Read l.text l.directives l.number l.start
+abbrev pub invariant-loop-found : goal.invariant-loop-found
+invariant-loop-found l =
+    ReadBefore l.rules.prefixes.checks.now l.rules.prefixes.comments.now l.rules.keep_blanks l.text l.directives l.earlier
+    l.number l.start
 
-abbrev pub decreases-loop-fail : goal.decreases-loop-fail
-decreases-loop-fail l = length l.text - l.start
+abbrev pub decreases-loop-found : goal.decreases-loop-found
+decreases-loop-found l = length l.text - l.start

@@ -1,0 +1,177 @@
+-- What one line of a check file holds.
+-- After LLVM Command Guide, FileCheck: a directive's text is the rest of its line, without blanks at both ends.
+-- Own rules: which forms are refused, and in which order on one line; a body of another form than plain text of at most
+-- 65,536 bytes isn't built yet.
+use Rattle.std.specs.Prelude.{◌≡◌, ◌<◌, ◌≤◌, ⊤, ℕ, ◌+◌, ◌-◌, ◌==◌, ◌^◌, nat_le, Bool, true, false, ◌&&◌, ◌||◌, not, if◌then◌else◌, List, take, drop, length, codes, Option, None, Some, is_some, Result, Ok, Err}
+use Rattle.std.specs.List.{prefix_len, suffix_len}
+use Rattle.tt_base.specs.Occurrence.{first_from}
+use Rattle.tt_base.specs.Place.{span_of}
+use Rattle.tt_base.specs.declared.place.Place.{Place}
+use Rattle.check_lines.specs.Class.{has}
+use Rattle.check_lines.specs.Decision.{decide}
+use Rattle.check_lines.specs.declared.class.Class.TheVariants.{Blank}
+use Rattle.check_lines.specs.declared.decision.Decision.{Decision}
+use Rattle.check_lines.specs.declared.decision.Mark.{Mark}
+use Rattle.check_lines.specs.declared.decision.Mark.TheVariants.{Comment, Check}
+use Rattle.check_lines.specs.declared.directive.Directive.{Directive}
+use Rattle.check_lines.specs.declared.directive.Kind.{Kind}
+use Rattle.check_lines.specs.declared.directive.Kind.TheVariants.{Plain, Next, Same, Empty, Not, Dag, Label, Count}
+use Rattle.check_lines.specs.declared.fault.CheckFault.{CheckFault}
+use Rattle.check_lines.specs.declared.fault.CheckKind.{CheckKind}
+use Rattle.check_lines.specs.declared.fault.CheckKind.TheVariants.{EmptyPattern, NonEmptyForEmpty, NoEarlierCheck, NotBuilt}
+use Rattle.check_lines.specs.declared.prefix.Standing.{Standing}
+use Rattle.check_lines.specs.declared.suffix.Spelling.TheVariants.{Good, Bad}
+use Rattle.check_lines.specs.declared.suffix.Spelled.{Spelled}
+
+-- ---- the body
+
+-- how many blanks stand at an offset of a line
+abbrev pub blanks_at : List ℕ → ℕ → ℕ
+blanks_at line behind = prefix_len (has Blank) (drop behind line)
+
+-- where the body behind an offset begins: behind the blanks there, unless they are kept or nothing else is left
+abbrev pub body_start : Bool → List ℕ → ℕ → ℕ
+body_start keep line behind =
+    if keep || length line == behind + blanks_at line behind then behind else behind + blanks_at line behind
+
+-- how long the rest of a line is, without the blanks at its end unless they are kept
+abbrev pub body_length : Bool → List ℕ → ℕ
+body_length keep rest = if keep then length rest else length rest - suffix_len (has Blank) rest
+
+-- whether a text has another in it
+abbrev pub has_part : List ℕ → List ℕ → Bool
+has_part text part = is_some (first_from part 0 text)
+
+-- whether a body is of a form that is built
+abbrev pub is_built : Bool → List ℕ → Bool
+is_built literal body =
+    nat_le (length body) (2 ^ 16)
+    && (literal || (not (has_part body (codes "{{")) && not (has_part body (codes "[["))))
+
+-- ---- the kinds
+
+-- whether a kind takes no body
+abbrev pub takes_none : Kind → Bool
+takes_none Empty = true
+takes_none Plain = false
+takes_none Next = false
+takes_none Same = false
+takes_none Not = false
+takes_none Dag = false
+takes_none Label = false
+takes_none (Count n) = false
+
+-- whether a kind asks for an earlier match
+abbrev pub asks_earlier : Kind → Bool
+asks_earlier Next = true
+asks_earlier Same = true
+asks_earlier Empty = true
+asks_earlier Plain = false
+asks_earlier Not = false
+asks_earlier Dag = false
+asks_earlier Label = false
+asks_earlier (Count n) = false
+
+-- whether a kind isn't built yet
+abbrev pub is_later : Kind → Bool
+is_later Not = true
+is_later Dag = true
+is_later Label = true
+is_later Plain = false
+is_later Next = false
+is_later Same = false
+is_later Empty = false
+is_later (Count n) = false
+
+-- whether a kind counts as an earlier match: each but NOT and DAG
+abbrev pub is_earlier : Kind → Bool
+is_earlier Not = false
+is_earlier Dag = false
+is_earlier Plain = true
+is_earlier Next = true
+is_earlier Same = true
+is_earlier Empty = true
+is_earlier Label = true
+is_earlier (Count n) = true
+
+-- ---- a line with a directive
+
+-- a fault at an offset of a line. Lines count from 1, and `start` is where the line begins in its text
+abbrev pub fault_at : ℕ → ℕ → ℕ → CheckKind → CheckFault
+fault_at number start at kind =
+    record { at = start + at; place = record { line = number; col = at + 1 }; kind = kind }
+
+-- the directive with its prefix at `head` and a body of `count` bytes at `from`, offsets of its line
+abbrev pub directive : ℕ → ℕ → ℕ → ℕ → ℕ → Spelled → ℕ → Directive
+directive number start head from count suffix index = record {
+  at = start + head;
+  line = number;
+  head = head + 1;
+  col = from + 1;
+  prefix = index;
+  kind = suffix.kind;
+  literal = suffix.literal;
+  body = span_of (start + from) count;
+}
+
+-- the first thing that is wrong with a directive, and where: its prefix is at `head`, its body behind `behind` at `from`
+abbrev pub mistake : Bool → Spelled → List ℕ → ℕ → ℕ → ℕ → Option (ℕ × CheckKind)
+mistake earlier suffix body head behind from =
+    if not (takes_none suffix.kind) && length body == 0 then Some (behind, EmptyPattern)
+    else if takes_none suffix.kind && not (length body == 0) then Some (from, NonEmptyForEmpty)
+    else if asks_earlier suffix.kind && not earlier then Some (head, NoEarlierCheck)
+    else if is_later suffix.kind then Some (head, NotBuilt)
+    else if not (is_built suffix.literal body) then Some (from, NotBuilt)
+    else None
+
+abbrev pub unless_mistaken : ℕ → ℕ → Option (ℕ × CheckKind) → Directive → Result (Option Directive) CheckFault
+unless_mistaken number start None one = Ok (Some one)
+unless_mistaken number start (Some mistake) one = Err (fault_at number start mistake.0 mistake.1)
+
+-- a line with a good suffix behind the prefix at `head`, whose colon ends at `behind`
+abbrev pub checked : Bool → Bool → ℕ → ℕ → List ℕ → ℕ → ℕ → Spelled → ℕ → Result (Option Directive) CheckFault
+checked keep earlier number start line head behind suffix index =
+    let from = body_start keep line behind in
+    let count = body_length keep (drop from line) in
+    unless_mistaken number start (mistake earlier suffix (take count (drop from line)) head behind from)
+    (directive number start head from count suffix index)
+
+-- what a decided line holds
+abbrev pub marked : Bool → Bool → ℕ → ℕ → List ℕ → ℕ → Mark → Result (Option Directive) CheckFault
+marked keep earlier number start line head Comment = Ok None
+marked keep earlier number start line head (Check prefix (Good spelled)) =
+    checked keep earlier number start line head (head + prefix.length + spelled.count) spelled prefix.index
+marked keep earlier number start line head (Check prefix (Bad kind)) = Err (fault_at number start head kind)
+
+abbrev pub decided : Bool → Bool → ℕ → ℕ → List ℕ → Option Decision → Result (Option Directive) CheckFault
+decided keep earlier number start line None = Ok None
+decided keep earlier number start line (Some found) = marked keep earlier number start line found.at found.mark
+
+-- what a line holds: a directive, nothing, or its refusal. `earlier` says whether a match comes before it
+abbrev pub read_line : List (List ℕ) → List (List ℕ) → Bool → Bool → ℕ → ℕ → List ℕ → Result (Option Directive) CheckFault
+read_line checks comments keep earlier number start line =
+    decided keep earlier number start line (decide checks comments line)
+
+-- ---- where it stands
+
+-- a place of the line with that number, which begins at `start` and ends at `end`, is that of an offset
+pub record IsOnLine (number start end at : ℕ) (place : Place) : Type 0 where
+  pub line : place.line ≡ number
+  pub col : start + place.col ≡ at + 1
+  pub low : start ≤ at
+  pub high : at ≤ end
+
+-- what a line holds stands on it
+abbrev pub LiesOnLine : ℕ → ℕ → ℕ → Result (Option Directive) CheckFault → Type 0
+LiesOnLine number start end (Ok None) = ⊤
+LiesOnLine number start end (Ok (Some one)) =
+    IsOnLine number start end one.at (record { line = one.line; col = one.head })
+    × IsOnLine number start end one.body.from (record { line = one.line; col = one.col })
+    × (one.body.to ≤ end)
+LiesOnLine number start end (Err fault) = IsOnLine number start end fault.at fault.place
+
+-- a directive has one of so many prefixes
+abbrev pub LiesAmong : ℕ → Result (Option Directive) CheckFault → Type 0
+LiesAmong count (Ok None) = ⊤
+LiesAmong count (Ok (Some one)) = one.prefix < count
+LiesAmong count (Err fault) = ⊤

@@ -1,0 +1,3 @@
+pub mod CountLemmas
+pub mod EmptyLemmas
+pub mod ScanLemmas

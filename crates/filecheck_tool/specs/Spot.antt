@@ -1,0 +1,13 @@
+-- Spots: what a message tells of where something stands.
+-- Own rule, after the messages of the LLVM Command Guide, FileCheck: the text's name, the place, and the line.
+use Rattle.std.specs.Prelude.{ℕ, ◌-◌, List, take, drop}
+use Rattle.tt_base.specs.Place.{line_end, line_start, place_at}
+use Rattle.filecheck_tool.specs.declared.spot.Spot.{Spot}
+
+-- an offset of a named text
+abbrev pub spot_at : List ℕ → List ℕ → ℕ → Spot
+spot_at name text at = record {
+  name = name;
+  place = place_at text at;
+  line = take (line_end text at - line_start text at) (drop (line_start text at) text);
+}

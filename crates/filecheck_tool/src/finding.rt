@@ -1,0 +1,40 @@
+//! What a run finds amiss in an input, as data. src/message.rt has what is told of it.
+use crate::spot::Spot;
+use tt_base::{Bytes, Items};
+
+/// What is wrong with a directive.
+#[derive(Clone, Copy, Debug, PartialEq, Eq)]
+pub enum Trouble {
+    NotFound,
+    /// So many matches of so many are found.
+    NotFoundAgain(u32, u32),
+    OnSameLine,
+    NotOnNextLine,
+    NotOnSameLine,
+}
+
+/// What is told of a place in the input.
+#[derive(Clone, Copy, Debug, PartialEq, Eq)]
+pub enum Remark {
+    ScanningFrom,
+    MatchWasHere,
+    PreviousEnded,
+}
+
+/// A place in the input, and what is told of it.
+#[derive(Drop, Debug)]
+pub struct Note {
+    pub remark: Remark,
+    pub spot: Spot,
+}
+
+/// A directive that isn't met.
+#[derive(Drop, Debug)]
+pub struct Finding {
+    /// Its prefix with its suffix.
+    pub name: Bytes,
+    pub trouble: Trouble,
+    /// Where its body stands.
+    pub check: Spot,
+    pub notes: Items<Note>,
+}

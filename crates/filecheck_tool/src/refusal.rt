@@ -1,0 +1,87 @@
+//! What is refused, as data. src/answer.rt has what is told of each.
+ghost use Rattle.std.specs.Prelude.{◌≡◌, Err};
+ghost use Rattle.filecheck_tool.specs.Refusal.{Settles};
+ghost use Rattle.filecheck_tool.specs.declared.refusal.Stop.TheVariants.{Refused};
+ghost use Rattle.filecheck_tool.specs.declared.refusal.StepFail.TheVariants.{Stopped};
+
+use crate::spot::Spot;
+use tt_base::{Bytes, NoMemory};
+
+/// Why words, check file or input aren't accepted, in the order of docs/PROFILE.md.
+#[derive(Drop, Debug)]
+pub enum Refusal {
+    /// One of the words isn't text.
+    WordNotText,
+    /// `--nope`: the word.
+    UnknownOption(Bytes),
+    /// No plain word, or more than one.
+    NotOneFile,
+    /// No file has this name.
+    NotFound(Bytes),
+    /// It has more bytes than the limit.
+    TooLarge(Bytes),
+    /// `CHECK-COUNT-0: a`, at the prefix.
+    BadCount(Spot),
+    /// `CHECK-NOT-NEXT: a`, at the prefix.
+    NotCombination(Spot),
+    /// `CHECK{FOO}: a`, at the prefix.
+    BadModifier(Spot),
+    /// `CHECK:`, behind the colon.
+    EmptyPattern(Spot),
+    /// `CHECK-EMPTY: a`, at the body.
+    NonEmptyForEmpty(Spot),
+    /// `CHECK-NEXT: a` before any other directive, at the prefix.
+    NoEarlierCheck(Spot),
+    /// `CHECK-NOT: a`, at the prefix, or `CHECK: {{a}}`, at the body.
+    NotBuilt(Spot),
+    /// `MYCHECK: a` alone: no line holds a directive.
+    NoChecks(Bytes),
+    /// No directive has this prefix.
+    UnusedPrefix(Bytes),
+    /// The input has no byte.
+    IsEmpty(Bytes),
+}
+
+/// Why a run has no verdict.
+#[derive(Drop, Debug)]
+pub enum Stop {
+    Refused(Refusal),
+    /// What has this name couldn't be read.
+    NotReadable(Bytes),
+}
+
+/// Why a step gave no value.
+#[derive(Drop, Debug)]
+pub enum StepFail {
+    Stopped(Stop),
+    NoMemory,
+}
+
+impl From<NoMemory> for StepFail {
+    ghost use Rattle.std.specs.Prelude.{◌≡◌};
+    ghost use Rattle.filecheck_tool.specs.declared.refusal.StepFail.TheVariants.{NoMemory};
+
+    ghost from_gives = { λ _ fail. fail ≡ NoMemory };
+
+    fn from(_: NoMemory) -> StepFail {
+        StepFail::NoMemory
+    }
+}
+
+/// A step that refuses.
+pub fn refuse<T>(refusal: Refusal) -> Result<T, StepFail>
+    ensures { result ≡ Err (Stopped (Refused refusal)) }
+{
+    Err(StepFail::Stopped(Stop::Refused(refusal)))
+}
+
+/// What a step came to: a value, or why there is none.
+pub fn settled<T: Drop>(step: Result<T, StepFail>) -> Result<Result<T, Stop>, NoMemory>
+    ensures { Settles step result }
+{
+    match step {
+        Ok(value) => Ok(Ok(value)),
+        Err(StepFail::Stopped(stop)) => Ok(Err(stop)),
+        Err(StepFail::NoMemory) => Err(NoMemory),
+    }
+}

@@ -1,0 +1,46 @@
+//! A place of a text that is told with its line.
+ghost use Rattle.std.specs.Prelude.{◌≡◌, ◌≤◌, ◌^◌, IfOk, length};
+ghost use Rattle.tt_base.specs.Place.{place_at};
+ghost use Rattle.filecheck_tool.specs.Spot.{spot_at};
+
+use std::alloc::Global;
+use tt_base::{Bytes, NoMemory, Place, line_of, place_of};
+
+/// A place of a text, and its line.
+#[derive(Drop, Debug)]
+pub struct Spot {
+    /// How the text is named.
+    pub name: Bytes,
+    pub place: Place,
+    pub line: Bytes,
+}
+
+/// The spot of an offset. It counts the lines before it.
+pub fn spot_at(alloc: Global, name: &[u8], text: &[u8], at: usize) -> Result<Spot, NoMemory>
+    requires within { at ≤ length text.now }
+    requires small { length text.now ≤ 2 ^ 30 }
+    ensures { IfOk result (λ spot. spot ≡ spot_at name.now text.now at) }
+{
+    spot_of(alloc, name, text, at, place_of(text, at))
+}
+
+/// The spot of an offset whose place is known.
+pub fn spot_of(
+    alloc: Global,
+    name: &[u8],
+    text: &[u8],
+    at: usize,
+    place: Place,
+) -> Result<Spot, NoMemory>
+    requires placed { place ≡ place_at text.now at }
+    requires within { at ≤ length text.now }
+    requires small { length text.now ≤ 2 ^ 30 }
+    ensures { IfOk result (λ spot. spot ≡ spot_at name.now text.now at) }
+{
+    let line = line_of(text, at);
+    Ok(Spot {
+        name: Bytes::from_slice(alloc, name)?,
+        place,
+        line: Bytes::from_slice(alloc, &text[line.from..line.to])?,
+    })
+}

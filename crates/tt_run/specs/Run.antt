@@ -1,0 +1,107 @@
+-- What a run of a tool does to the objects that it is given.
+-- Own rule: an answer is written to out and then to err. A fault of out is told on err; after a fault of a stream
+-- nothing more is written to it. A fault is told only where the object's count of faults rose, and else the count stays.
+use Rattle.std.specs.Prelude.{◌≡◌, ◌⊎◌, ⊤, ℕ, ◌+◌, ◌<◌, ◌≤◌, List, length, Option, Ok, Err}
+use Rattle.std.specs.Io.KnownBytes.{Appends, Consumes, IsAtEnd}
+use Rattle.tt_outside.specs.Faults.{Rose}
+use Rattle.tt_outside.specs.GivesFile.{GivesFile}
+use Rattle.tt_outside.specs.Transfer.{AppendsPart, TakesCount}
+use Rattle.tt_outside.specs.declared.files.FilesFault.TheVariants.{Missing as NoFile, TooLarge as TooLong}
+use Rattle.tt_run.specs.declared.answer.Answer.{Answer}
+use Rattle.tt_run.specs.declared.reading.Reading.{Reading}
+use Rattle.tt_run.specs.declared.reading.Reading.TheVariants.{Whole, Missing, TooLarge, Failed}
+
+-- ---- objects as a run found and left them
+
+-- a stream: what it held and holds, its count of faults, and the room it had for certain
+pub record Stream : Type 0 where
+  pub old : Option (List ℕ)
+  pub new : Option (List ℕ)
+  pub before : ℕ
+  pub now : ℕ
+  pub room : ℕ
+
+abbrev pub stream : {S : Type 0} → (S → Option (List ℕ)) → (S → ℕ) → (S → ℕ) → S → S → Stream
+stream held faults room old new =
+    record { old = held old; new = held new; before = faults old; now = faults new; room = room old }
+
+-- files: the bytes under each name, whether no call fails for certain, and the count of faults
+pub record Files : Type 1 where
+  pub held : Option (List ℕ → Option (List ℕ))
+  pub steady : Type 0
+  pub before : ℕ
+  pub now : ℕ
+
+abbrev pub files : {F : Type 0} → (F → Option (List ℕ → Option (List ℕ))) → (F → Type 0) → (F → ℕ) → F → F → Files
+files held steady faults old new =
+    record { held = held old; steady = steady old; before = faults old; now = faults new }
+
+-- a source: what it had and has left, whether no read fails for certain, and its count of faults
+pub record Source : Type 1 where
+  pub old : Option (List ℕ)
+  pub new : Option (List ℕ)
+  pub steady : Type 0
+  pub before : ℕ
+  pub now : ℕ
+
+abbrev pub source : {S : Type 0} → (S → Option (List ℕ)) → (S → Type 0) → (S → ℕ) → S → S → Source
+source left steady faults old new =
+    record { old = left old; new = left new; steady = steady old; before = faults old; now = faults new }
+
+-- ---- reading
+
+-- reading the file of a name gave this
+abbrev pub FileRead : Files → ℕ → List ℕ → Reading → Type 0
+FileRead f limit name (Whole bytes) =
+    GivesFile f.held name limit (Ok bytes) × (length bytes ≤ limit) × (f.now ≡ f.before)
+FileRead f limit name Missing = GivesFile f.held name limit (Err NoFile) × (f.now ≡ f.before)
+FileRead f limit name TooLarge =
+    (size : ℕ) × GivesFile f.held name limit (Err (TooLong size)) × (limit < size) × (f.now ≡ f.before)
+FileRead f limit name Failed = Rose f.before f.now × (f.steady → ⊥)
+
+-- reading a source to its end gave this: all that it had left, one byte more than the limit, or a fault
+abbrev pub SourceRead : Source → ℕ → Reading → Type 0
+SourceRead s limit (Whole bytes) =
+    Consumes s.old s.new bytes × IsAtEnd s.new × (length bytes ≤ limit) × (s.now ≡ s.before)
+SourceRead s limit TooLarge = TakesCount s.old s.new (limit + 1) × (s.now ≡ s.before)
+SourceRead s limit Failed = Rose s.before s.now × (s.steady → ⊥)
+SourceRead s limit Missing = ⊥
+
+-- what was read whole is within the limit
+abbrev pub IsShort : ℕ → Reading → Type 0
+IsShort limit (Whole bytes) = length bytes ≤ limit
+IsShort limit Missing = ⊤
+IsShort limit TooLarge = ⊤
+IsShort limit Failed = ⊤
+
+-- files and a source that were left alone
+abbrev pub FilesRest : Files → Type 0
+FilesRest f = f.now ≡ f.before
+
+abbrev pub SourceRests : Source → Type 0
+SourceRests s = (s.new ≡ s.old) × (s.now ≡ s.before)
+
+-- ---- writing
+
+-- the bytes were written, and no fault was counted
+abbrev pub Taken : List ℕ → Stream → Type 0
+Taken bytes s = Appends s.old s.new bytes × (s.now ≡ s.before)
+
+-- a proper front of the bytes was written, and the stream counted a fault, for want of room
+abbrev pub Stopped : List ℕ → Stream → Type 0
+Stopped bytes s = AppendsPart s.old s.new bytes × Rose s.before s.now × (s.room < length bytes)
+
+-- the bytes were written: whole, or up to a fault
+abbrev pub Told : List ℕ → Stream → Type 0
+Told bytes s = Taken bytes s ⊎ Stopped bytes s
+
+-- a message was told and the status answered, or 3 at a fault of the stream
+abbrev pub Answered : List ℕ → ℕ → ℕ → Stream → Type 0
+Answered message status result s =
+    ((result ≡ status) × Taken message s) ⊎ ((result ≡ 3) × Stopped message s)
+
+-- an answer was written: out whole and then err, or out up to a fault, which is told on err
+abbrev pub Written : List ℕ → Answer → ℕ → Stream → Stream → Type 0
+Written fault answer result out err =
+    (Taken answer.out out × Answered answer.err answer.status result err)
+    ⊎ ((result ≡ 3) × Stopped answer.out out × Told fault err)
