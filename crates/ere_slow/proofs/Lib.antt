@@ -1,5 +1,4 @@
-pub mod Among
+pub mod MembershipLemmas
 pub mod ListingLemmas
-pub mod MembersLemmas
 pub mod SlowLemmas
 pub mod WayLemmas

@@ -1,4 +1,6 @@
--- How the views of the slow program's values grow.
+-- How the views of the slow program's values grow: captures by one setting more, rows of ways by one more.
+-- A comparison of rows that has come to an index is that of what is left of them; `rows_decided` and `rows_undecided`
+-- are its two steps.
 use Rattle.std.proofs.Common.{◌≡◌, ℕ, true, false, cond, Some, None, List, [], ◌∷◌, ◌++◌, ◌+◌, ◌<◌, ◌≤◌, length, map, get_or, take, drop, min, not, true≢false, ◌==◌, eq-eqb, length-drop, vec_len, refl, sym, ap, ◌∙◌, arith, drop-cons, eqb, add-one, rules}
 use Rattle.std.proofs.lemmas.List.{take_more, length-map}
 use Rattle.std.proofs.lemmas.Bool.{ne_eqb}

@@ -1,17 +1,14 @@
 -- What the slow program lists: all derivations of a tree from one place and with the same captures.
 -- Its own functions alone cite this. What its answers mean is said by `Derives` and `IsHit`.
-use Rattle.std.specs.Prelude.{ℕ, Bool, true, false, Option, Some, None, List, [], ◌∷◌, ◌++◌, ◌+◌, ◌-◌, ◌==◌, ◌||◌, ◌&&◌, nat_lt, nat_le, cond, min, zero, suc, length, map, filter, slice_index}
-use Rattle.std.specs.List.{flat_map, list_any}
+use Rattle.std.specs.Prelude.{ℕ, Bool, true, false, Option, Some, None, List, [], ◌∷◌, ◌++◌, ◌+◌, ◌-◌, ◌||◌, ◌&&◌, nat_lt, nat_le, cond, min, zero, suc, length, map, filter, slice_index}
+use Rattle.std.specs.List.{flat_map}
 use Rattle.std.specs.Str.{bytes_eq}
 use Rattle.std.specs.Char.{to_ascii_lowercase}
 use Rattle.std.specs.FinMap.{get, insert}
 use Rattle.ere_tree.specs.Tree.{Tree, Trees, empty, plain, set, line_start, line_end, cat, alt, repeat, group, back, none, then}
 use Rattle.ere_tree.specs.Captures.{Captures}
+use Rattle.ere_tree.specs.Case.{is_among}
 use Rattle.ere_tree.specs.Derivation.{Way, Ways, leaf, parts, members, chosen, inside, part, is_line_start, is_line_end}
-use Rattle.ere_tree.specs.Tree.{trees_of}
-use Rattle.ere_tree.specs.View.{view_step, list_step}
-use Rattle.ere_tree.specs.declared.ere.Ere.TheFolds.{fold-EreList}
-use Rattle.ere_tree.specs.declared.ere.EreList.{EreList}
 use Rattle.ere_slow.specs.declared.slow.Derivation.{Derivation}
 use Rattle.ere_slow.specs.declared.slow.Row.{Row}
 use Rattle.ere_slow.specs.WayView.{ways_of, way_of, row_of, captures_of}
@@ -35,10 +32,6 @@ found_of d = record { way = way_of d.way; to = d.to; captures = captures_of d.ca
 abbrev pub begun_of : Row → Begun
 begun_of r = record { row = row_of r.ways; to = r.to; captures = captures_of r.captures }
 
--- the trees of a list of expressions
-abbrev pub trees_in : EreList → Trees
-trees_in all = trees_of (fold-EreList Tree (List Tree) view_step list_step all)
-
 -- the derivation with nothing to choose, if the test holds
 abbrev pub one_if : Bool → ℕ → Captures → List Found
 one_if test j c = cond test (record { way = leaf; to = j; captures = c } ∷ []) []
@@ -53,7 +46,7 @@ stands fold s i text = nat_le (i + length text) (length s) && same_text fold (pa
 
 -- whether a byte of the list stands in the slice at i
 abbrev pub is_one_of : List ℕ → List ℕ → ℕ → Bool
-is_one_of bytes s i = nat_lt i (length s) && list_any (λ b. b == slice_index s i) bytes
+is_one_of bytes s i = nat_lt i (length s) && is_among bytes (slice_index s i)
 
 -- a text, wherever it stands
 abbrev pub text_ways : Bool → List ℕ → ℕ → List ℕ → Captures → List Found
@@ -76,9 +69,9 @@ each_behind may_be_empty b fs = map (behind b) (filter (λ f. may_be_empty || na
 abbrev pub go_on : Bool → (ℕ → Captures → List Found) → List Begun → List Begun
 go_on may_be_empty more = flat_map (λ b. each_behind may_be_empty b (more b.to b.captures))
 
--- the row of no derivation
-abbrev pub begin : ℕ → Captures → List Begun
-begin i c = record { row = []; to = i; captures = c } ∷ []
+-- the row of no derivation, at a place of the slice
+abbrev pub begin : List ℕ → ℕ → Captures → List Begun
+begin s i c = cond (nat_le i (length s)) (record { row = []; to = i; captures = c } ∷ []) []
 
 -- rows with so many derivations behind them
 abbrev pub required : (ℕ → Captures → List Found) → ℕ → List Begun → List Begun
@@ -100,10 +93,10 @@ abbrev pub found_inside : ℕ → ℕ → Found → Found
 found_inside number i f =
     record { way = inside f.way; to = f.to; captures = insert f.captures number (i, f.to) }
 
-abbrev pub repeat_ways : (ℕ → Captures → List Found) → ℕ → Option ℕ → ℕ → Captures → List Found
-repeat_ways more least None i c = []
-repeat_ways more least (Some n) i c =
-    map (found_of_row members) (at_most more n (required more least (begin i c)))
+abbrev pub repeat_ways : List ℕ → (ℕ → Captures → List Found) → ℕ → Option ℕ → ℕ → Captures → List Found
+repeat_ways s more least None i c = []
+repeat_ways s more least (Some n) i c =
+    map (found_of_row members) (at_most more n (required more least (begin s i c)))
 
 abbrev pub back_ways : Bool → List ℕ → Option (ℕ × ℕ) → ℕ → Captures → List Found
 back_ways fold s None i c = []
@@ -111,15 +104,15 @@ back_ways fold s (Some p) i c = text_ways fold s i (part s p.0 p.1) c
 
 abbrev mutual
   pub all_ways : List ℕ → Tree → ℕ → Captures → List Found
-  all_ways s empty i c = one_if true i c
+  all_ways s empty i c = one_if (nat_le i (length s)) i c
   all_ways s (plain bytes) i c = text_ways false s i bytes c
   all_ways s (set bytes) i c = one_if (is_one_of bytes s i) (i + 1) c
   all_ways s line_start i c = one_if (is_line_start s i) i c
   all_ways s line_end i c = one_if (is_line_end s i) i c
-  all_ways s (cat all) i c = map (found_of_row parts) (all_rows s all (begin i c))
+  all_ways s (cat all) i c = map (found_of_row parts) (all_rows s all (begin s i c))
   all_ways s (alt all) i c = alternatives s all 0 i c
   all_ways s (repeat inner least most) i c =
-      repeat_ways (all_ways s inner) least (further least most (length s - i)) i c
+      repeat_ways s (all_ways s inner) least (further least most (length s - i)) i c
   all_ways s (group number inner) i c = map (found_inside number i) (all_ways s inner i c)
   all_ways s (back number fold) i c = back_ways fold s (get c number) i c
 

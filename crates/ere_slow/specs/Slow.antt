@@ -1,5 +1,6 @@
 -- What the slow program answers, in the words of the definitions.
-use Rattle.std.specs.Prelude.{◌≡◌, ℕ, List}
+use Rattle.std.specs.Prelude.{◌≡◌, ℕ, List, Some, ◌+◌, ◌<◌, ◌^◌}
+use Rattle.std.specs.FinMap.{get}
 use Rattle.std.specs.List.{All, Any, Contains}
 use Rattle.ere_tree.specs.Tree.{Tree}
 use Rattle.ere_tree.specs.Captures.{Captures}
@@ -27,3 +28,7 @@ IsMostPreferred ds best =
     Contains ds best
     × ((s : List ℕ) (t : Tree) (i : ℕ) (c : Captures) → AreDerivations s t i c ds
     → All (λ d. IsPreferredTo d best → ⊥) ds)
+
+-- the offsets of these captures, counted from `start` bytes before the slice, are numbers of the program
+abbrev pub FitBehind : ℕ → Captures → Type 0
+FitBehind start c = (n : ℕ) (p : ℕ × ℕ) → get c n ≡ Some p → (start + p.0 < 2 ^ 64) × (start + p.1 < 2 ^ 64)

@@ -9,5 +9,5 @@ mod slow_tests;
 mod way;
 
 pub use settings::{Setting, Settings};
-pub use slow::{Derivation, SlowHit, derivations, slow_hit};
+pub use slow::{Derivation, derivations, slow_hit};
 pub use way::{OwnedStep, OwnedWay, OwnedWays};

@@ -1,18 +1,19 @@
 //! The derivations of an expression, listed one by one: the definitions as a plain, slow program, for small
 //! texts.
-ghost use Rattle.std.specs.Prelude.{◌≡◌, ℕ, ◌-◌, ◌==◌, ◌++◌, ◌↔◌, List, [], ◌∷◌, length, MatchOption, IsTrue, IfOk, OnOk, map, slice_index};
+ghost use Rattle.std.specs.Prelude.{◌≡◌, ℕ, ◌-◌, ◌==◌, ◌++◌, ◌+◌, ◌<◌, ◌^◌, ◌↔◌, List, [], ◌∷◌, length, drop, MatchOption, IsTrue, IfOk, OnOk, map, slice_index};
 ghost use Rattle.ere_tree.specs.Derivation.{part, parts, members};
-ghost use Rattle.ere_slow.specs.Listing.{found_of, begun_of, trees_in, one_if, stands, is_one_of, further, each_behind, begin, required, at_most, found_of_row, found_chosen, found_inside, repeat_ways, all_ways, all_rows, alternatives};
+ghost use Rattle.ere_slow.specs.Listing.{found_of, begun_of, one_if, stands, is_one_of, further, each_behind, begin, required, at_most, found_of_row, found_chosen, found_inside, repeat_ways, all_ways, all_rows, alternatives};
 ghost use Rattle.ere_slow.specs.Listing as listing;
-ghost use Rattle.ere_tree.specs.View.{view, members_of};
+ghost use Rattle.ere_tree.specs.View.{view, trees_in, members_of};
 ghost use Rattle.std.specs.FinMap.{empty};
-ghost use Rattle.ere_tree.specs.Hit.{IsHit, HasNoHit};
-ghost use Rattle.ere_slow.specs.Slow.{AreDerivations, AreAllDerivations, IsPreferredTo, IsMostPreferred};
+ghost use Rattle.ere_tree.specs.Captures.{cap_of, caps_of};
+ghost use Rattle.ere_tree.specs.Hit.{IsHit, HasNoHit, TellsHit, FindsHit};
+ghost use Rattle.ere_slow.specs.Slow.{AreDerivations, AreAllDerivations, IsPreferredTo, IsMostPreferred, FitBehind};
 ghost use Rattle.ere_slow.specs.WayView.{captures_of};
 
 use crate::settings::Settings;
 use crate::way::{OwnedStep, OwnedWay, OwnedWays};
-use ere_tree::{ByteSet, Ere, EreList};
+use ere_tree::{ByteSet, Cap, Caps, Ere, EreList, Hit};
 use std::alloc::{AllocError, Global};
 use std::cmp::Ordering;
 
@@ -30,14 +31,6 @@ struct Row {
     ways: OwnedWays,
     to: usize,
     captures: Settings,
-}
-
-/// Where an expression is found first, and the captures.
-#[derive(Drop, Debug)]
-pub struct SlowHit {
-    pub from: usize,
-    pub to: usize,
-    pub captures: Settings,
 }
 
 /// The bytes from `from` to `to`, as far as the text goes.
@@ -165,12 +158,21 @@ fn go_on(
     Ok(longer)
 }
 
-/// The row of no derivation.
-fn start(alloc: Global, from: usize, captures: &Settings) -> Result<Vec<Row>, AllocError>
-    ensures { IfOk result (λ rows. map begun_of rows.items ≡ begin from (captures_of captures.now)) }
+/// The row of no derivation, at a place of the text.
+fn start(
+    alloc: Global,
+    text: &[u8],
+    from: usize,
+    captures: &Settings,
+) -> Result<Vec<Row>, AllocError>
+    ensures { IfOk result (λ rows. map begun_of rows.items ≡
+        begin text.now from (captures_of captures.now)) }
 {
-    let captures = captures.copy(alloc)?;
     let mut rows = Vec::new(alloc);
+    if from > text.len() {
+        return Ok(rows);
+    }
+    let captures = captures.copy(alloc)?;
     let ways = OwnedWays {
         held: Vec::new(alloc),
     };
@@ -192,9 +194,9 @@ fn rows_of_parts(
     captures: &Settings,
 ) -> Result<Vec<Row>, AllocError>
     ensures { IfOk result (λ rows. map begun_of rows.items ≡
-        all_rows text.now (trees_in all.now) (begin from (captures_of captures.now))) }
+        all_rows text.now (trees_in all.now) (begin text.now from (captures_of captures.now))) }
 {
-    let mut rows = start(alloc, from, captures)?;
+    let mut rows = start(alloc, text, from, captures)?;
     for part in all.as_slice() {
         rows = go_on(alloc, part, text, rows.as_slice(), true)?;
     }
@@ -214,9 +216,9 @@ fn rows_of_members(
 ) -> Result<Vec<Row>, AllocError>
     ensures { IfOk result (λ rows. map begun_of rows.items ≡
         at_most (all_ways text.now (view inner.now)) more
-        (required (all_ways text.now (view inner.now)) least (begin from (captures_of captures.now)))) }
+        (required (all_ways text.now (view inner.now)) least (begin text.now from (captures_of captures.now)))) }
 {
-    let mut rows = start(alloc, from, captures)?;
+    let mut rows = start(alloc, text, from, captures)?;
     for _ in 0..least {
         rows = go_on(alloc, inner, text, rows.as_slice(), true)?;
     }
@@ -351,7 +353,7 @@ fn ways_of_repeat(
     captures: &Settings,
 ) -> Result<Vec<Derivation>, AllocError>
     ensures { IfOk result (λ found. map found_of found.items ≡
-        repeat_ways (all_ways text.now (view inner.now)) least (further least most (length text.now - from))
+        repeat_ways text.now (all_ways text.now (view inner.now)) least (further least most (length text.now - from))
         from (captures_of captures.now)) }
 {
     match further_members(least, most, text.len().saturating_sub(from)) {
@@ -376,7 +378,7 @@ fn ways_of(
         all_ways text.now (view ere.now) from (captures_of captures.now)) }
 {
     match ere {
-        Ere::Empty => leaf_if(alloc, true, from, captures),
+        Ere::Empty => leaf_if(alloc, from <= text.len(), from, captures),
         Ere::Plain(run) => text_ways(alloc, text, from, run.as_slice(), false, captures),
         Ere::Set(set) => {
             if is_in_set_at(set, text, from) {
@@ -420,7 +422,8 @@ fn ways_of(
     }
 }
 
-/// All derivations of the expression in the slice `text` from the place `from`, with no group set before.
+/// All derivations of the expression in the slice `text` from the place `from`, with no group set before. They
+/// come in the order in which `all_ways` lists them, which isn't that of preference.
 #[tactic(auto, using(crate::proofs::SlowLemmas::listed_derive))]
 pub fn derivations(
     alloc: Global,
@@ -431,6 +434,7 @@ pub fn derivations(
     ensures sound { IfOk result (λ found. AreDerivations text.now (view ere.now) from empty found.items) }
     ensures complete { IfOk result (λ found.
         AreAllDerivations text.now (view ere.now) from empty found.items) }
+    ensures order { IfOk result (λ found. map found_of found.items ≡ all_ways text.now (view ere.now) from empty) }
 {
     let unset = Settings::none(alloc);
     ways_of(alloc, ere, text, from, &unset)
@@ -465,26 +469,99 @@ fn most_preferred(found: Vec<Derivation>) -> Option<Derivation>
     best
 }
 
-/// The hit of the expression in the slice `text` from the place `from` on.
+/// What the group holds, with offsets of a text in which the slice begins at `start`.
+fn cap(captures: &Settings, number: u32, start: usize) -> Option<Cap>
+    requires { FitBehind start (captures_of captures.now) }
+    ensures { result ≡ cap_of start (captures_of captures.now) number }
+{
+    match captures.get(number) {
+        Some((from, to)) => Some(Cap {
+            from: start + from,
+            to: start + to,
+        }),
+        None => None,
+    }
+}
+
+/// What each of so many groups holds, group 1 first.
+fn all_caps(
+    alloc: Global,
+    captures: &Settings,
+    groups: u32,
+    start: usize,
+) -> Result<Caps, AllocError>
+    requires { FitBehind start (captures_of captures.now) }
+    ensures { IfOk result (λ caps. caps ≡ caps_of start (captures_of captures.now) groups) }
+{
+    let mut all = Vec::new(alloc);
+    for before in 0..groups {
+        all.push(cap(captures, before + 1, start))?;
+    }
+    Ok(Caps::from_vec(all))
+}
+
+/// The most preferred derivation of the expression from the first place of a slice that has one, with that place.
+fn first_derived(
+    alloc: Global,
+    ere: &Ere,
+    slice: &[u8],
+) -> Result<Option<(usize, Derivation)>, AllocError>
+    ensures { IfOk result (λ found. MatchOption found
+        (HasNoHit slice.now (view ere.now))
+        (λ hit. IsHit slice.now (view ere.now) hit.0 hit.1.to (captures_of hit.1.captures))) }
+{
+    for start in 0..slice.len() + 1 {
+        let found = derivations(alloc, ere, slice, start)?;
+        if let Some(best) = most_preferred(found) {
+            return Ok(Some((start, best)));
+        }
+    }
+    Ok(None)
+}
+
+/// The text behind its first `from` bytes, where it has so many.
+fn behind(text: &[u8], from: usize) -> &[u8]
+    ensures value { result.now ≡ drop from text.now }
+    ensures fits { from + length result.now < 2 ^ 64 }
+{
+    text.split_at(from.min(text.len())).1
+}
+
+/// The hit of a slice, with offsets of a text in which the slice begins at `from`.
+fn raised(
+    alloc: Global,
+    ere: &Ere,
+    slice: &[u8],
+    from: usize,
+    start: usize,
+    best: &Derivation,
+) -> Result<Hit, AllocError>
+    requires hit { IsHit slice.now (view ere.now) start best.now.to (captures_of best.now.captures) }
+    requires fits { from + length slice.now < 2 ^ 64 }
+    ensures { IfOk result (λ hit. (text : List ℕ) → drop from text ≡ slice.now
+        → TellsHit text (view ere.now) from hit) }
+{
+    let groups = all_caps(alloc, &best.captures, ere.groups(), from)?;
+    Ok(Hit {
+        from: from + start,
+        to: from + best.to,
+        groups,
+    })
+}
+
+/// The hit of the expression in the slice of the text from `from` on, with offsets of the whole text. Behind the
+/// text's end that slice is empty.
 pub fn slow_hit(
     alloc: Global,
     ere: &Ere,
     text: &[u8],
     from: usize,
-) -> Result<Option<SlowHit>, AllocError>
-    ensures hit { IfOk result (λ found. MatchOption found
-        (HasNoHit text.now (view ere.now) from)
-        (λ hit. IsHit text.now (view ere.now) from hit.from hit.to (captures_of hit.captures))) }
+) -> Result<Option<Hit>, AllocError>
+    ensures hit { IfOk result (FindsHit text.now (view ere.now) from) }
 {
-    for start in from..text.len() + 1 {
-        let found = derivations(alloc, ere, text, start)?;
-        if let Some(best) = most_preferred(found) {
-            return Ok(Some(SlowHit {
-                from: start,
-                to: best.to,
-                captures: best.captures,
-            }));
-        }
+    let slice = behind(text, from);
+    match first_derived(alloc, ere, slice)? {
+        None => Ok(None),
+        Some((start, best)) => Ok(Some(raised(alloc, ere, slice, from, start, &best)?)),
     }
-    Ok(None)
 }

@@ -1,12 +1,20 @@
 //! Worked examples of what is found where, and in how many ways.
 use crate::slow::{derivations, slow_hit};
-use ere_tree::{ByteRun, Ere, EreList, parse};
+use ere_tree::{ByteRun, Ere, EreList, Hit, parse};
 use std::alloc::{AllocError, Global};
 use std::process::Abort;
 use std::test::Fail;
 
 /// A span and what groups 1 to 3 hold.
 type Found = ((usize, usize), [Option<(usize, usize)>; 3]);
+
+/// What a group holds, where there are so many.
+fn held(hit: &Hit, index: usize) -> Option<(usize, usize)> {
+    match hit.groups.as_slice().get(index) {
+        Some(Some(cap)) => Some((cap.from, cap.to)),
+        _ => None,
+    }
+}
 
 /// Where the expression is found in the text from its start on, and how many derivations it has there.
 fn check(
@@ -26,11 +34,7 @@ fn check(
     let hit = slow_hit(alloc, ere, text, 0)?;
     let told = hit.map(|hit| (
         (hit.from, hit.to),
-        [
-            hit.captures.get(1),
-            hit.captures.get(2),
-            hit.captures.get(3),
-        ],
+        [held(&hit, 0), held(&hit, 1), held(&hit, 2)],
     ));
     assert_eq!(rt; told, found, "the hit of {ere:?}");
     Ok(())
@@ -104,4 +108,27 @@ fn a_reference_may_match_in_either_case(rt: HostRuntime) -> Result<(), Fail> {
         Some(((0, 2), [Some((0, 1)), None, None])),
         1,
     )
+}
+
+#[test]
+fn a_search_speaks_of_the_slice_that_begins_there(rt: HostRuntime) -> Result<(), Fail> {
+    let cases = [
+        ("^b", "ab", 1, Some((1, 2))),
+        ("^b", "ab", 0, None),
+        ("a*$", "aab", 2, Some((3, 3))),
+        ("()", "ab", 2, Some((2, 2))),
+        ("a", "ab", 1, None),
+    ];
+    for (expression, text, from, found) in cases {
+        let ere = parse(rt.alloc(), expression.as_bytes(), false)
+            .ok()
+            .ok_or("no expression")?;
+        let hit = slow_hit(rt.alloc(), &ere, text.as_bytes(), from)?;
+        assert_eq!(rt;
+            hit.map(|hit| (hit.from, hit.to)),
+            found,
+            "of {expression:?} in {text:?} from {from}"
+        );
+    }
+    Ok(())
 }

@@ -1,5 +1,6 @@
 -- A text of the grammar is read as its tree: each construct adds to the rest of the text what the productions
--- say.
+-- say. `Goes` says that from a place on the text says what another place's rest says, changed; such steps are put one
+-- behind the other along the productions. `goes_item` is the hard one, for a group of alternatives.
 use Rattle.std.proofs.Common.{◌≡◌, ℕ, ◌+◌, ◌≤◌, Bool, true, false, not, ◌&&◌, ◌||◌, ◌==◌, List, [], ◌∷◌, Option, None, Result, Ok, Err, length, map, nat_lt, nat_le, refl, sym, ap, ◌∙◌, arith}
 use Rattle.std.specs.List.{list_any}
 use Rattle.std.proofs.lemmas.Bool.Decides.{nat_tests}
@@ -16,7 +17,6 @@ use Rattle.std.proofs.Common.{inl, inr}
 use Rattle.ere_tree.specs.declared.bound.Bound.{Bound}
 use Rattle.ere_tree.specs.declared.level.Last.{Last}
 use Rattle.ere_tree.specs.declared.level.Last.TheVariants.{Nothing, Bar, Part}
-use Rattle.ere_tree.specs.declared.parser.TheConstants.{MAX_DEPTH}
 use Rattle.ere_tree.proofs.ReadingLemmas.{reading_taken}
 
 -- the numbers of the groups that a place is in, the whole being number 0
@@ -38,7 +38,7 @@ open_number place number = ap (λ v. (place.inner.number == number) || v) (any_n
 
 token_stands : (place : Place) (t : Token) → may_stand (numbers place) place.groups t ≡ true → refusal place t ≡ None
 token_stands place (item (byte b) bound) is = refl
-token_stands place (item (one_of bytes) bound) is = refl
+token_stands place (item (one_of negated bytes) bound) is = refl
 token_stands place (item (same_as number) bound) is =
     let closed : is_closed place number ≡ true =
     ap (λ v. nat_le number place.groups && not v) (sym (open_number place number)) ∙ is in
@@ -54,13 +54,13 @@ abbrev pub Goes : Bool → Place → ℕ → List ℕ → (Rest → Rest) → Pl
 Goes fold place at text change next rest =
     (to : ℕ) × (reading_from fold place at 0 text ≡ map_ok change (reading_from fold next to 0 rest))
 
-twice : (f g : Rest → Rest) (read : Result Rest EreFault) → map_ok f (map_ok g read) ≡ map_ok (λ r. f (g r)) read
-twice f g (Ok r) = refl
-twice f g (Err e) = refl
+map_ok-map_ok : (f g : Rest → Rest) (read : Result Rest EreFault) → map_ok f (map_ok g read) ≡ map_ok (λ r. f (g r)) read
+map_ok-map_ok f g (Ok r) = refl
+map_ok-map_ok f g (Err e) = refl
 
-alike : (f g : Rest → Rest) (read : Result Rest EreFault) → ((r : Rest) → f r ≡ g r) → map_ok f read ≡ map_ok g read
-alike f g (Ok r) same = ap Ok (same r)
-alike f g (Err e) same = refl
+map_ok-agree : (f g : Rest → Rest) (read : Result Rest EreFault) → ((r : Rest) → f r ≡ g r) → map_ok f read ≡ map_ok g read
+map_ok-agree f g (Ok r) same = ap Ok (same r)
+map_ok-agree f g (Err e) same = refl
 
 goes_on : (fold : Bool) (place : Place) (at : ℕ) (text : List ℕ) (f g h : Rest → Rest) (next last : Place)
     (mid rest : List ℕ) →
@@ -70,8 +70,8 @@ goes_on : (fold : Bool) (place : Place) (at : ℕ) (text : List ℕ) (f g h : Re
 goes_on fold place at text f g h next last mid rest (to, here) on same =
     let more = on to in (
       more.0,
-      here ∙ ap (map_ok f) more.1 ∙ twice f g (reading_from fold last more.0 0 rest)
-          ∙ alike (λ r. f (g r)) h (reading_from fold last more.0 0 rest) same,
+      here ∙ ap (map_ok f) more.1 ∙ map_ok-map_ok f g (reading_from fold last more.0 0 rest)
+          ∙ map_ok-agree (λ r. f (g r)) h (reading_from fold last more.0 0 rest) same,
     )
 
 goes_token : (fold : Bool) (place : Place) (at : ℕ) (text : List ℕ) (t : Token) (rest : List ℕ) → Takes text t rest →
@@ -122,10 +122,10 @@ in_branch_twice : (f g : List Tree → List Tree) (r : Rest) →
 in_branch_twice f g (ends here others) = refl
 in_branch_twice f g (closes here others bound outside) = refl
 
-room : (place : Place) → length (numbers place) ≤ MAX_DEPTH → refusal place open_group ≡ None
+room : (place : Place) → length (numbers place) ≤ 250 → refusal place open_group ≡ None
 room place fits =
     let long = length-map place.outer (λ (level : Open). level.number) in
-    let shallow : nat_lt (length place.outer) MAX_DEPTH ≡ true = grind (arith, nat_tests) in
+    let shallow : nat_lt (length place.outer) 250 ≡ true = grind (arith, nat_tests) in
     rw shallow refl
 
 -- a `)` behind a group's alternatives, or behind its `(`

@@ -13,14 +13,13 @@ use Rattle.ere_tree.specs.Hit.{IsHit, HitIsOne}
 use Rattle.ere_tree.proofs.PreferenceLemmas.{preference_back, one_head, same_way}
 
 -- of two starts with derivations from which there is none further left, neither is further left
-same_start : (s : List ℕ) (t : Tree) (from i j h k : ℕ) (c d : Captures) → IsHit s t from i j c → IsHit s t from h k d
-    → i ≡ h
-same_start s t from i j h k c d a b =
+same_start : (s : List ℕ) (t : Tree) (i j h k : ℕ) (c d : Captures) → IsHit s t i j c → IsHit s t h k d → i ≡ h
+same_start s t i j h k c d a b =
     elim (cases_lt i h) [
-      | inl lower ↦ absurd (b.leftmost i j a.way c a.starts lower a.shows)
+      | inl lower ↦ absurd (b.leftmost i j a.way c lower a.shows)
       | inr upper ↦
           elim (cases_lt h i) [
-            | inl above ↦ absurd (a.leftmost h k b.way d b.starts above b.shows)
+            | inl above ↦ absurd (a.leftmost h k b.way d above b.shows)
             | inr equal ↦ omega arith
           ]
     ]
@@ -37,8 +36,8 @@ same_end s t w v i j k c d Greater e h g first second =
     absurd (second (preference_back w j v k ∙ ap ordering_reverse e))
 
 pub hit_is_one : HitIsOne
-hit_is_one s t from i j h k c d a b =
-    let start : i ≡ h = same_start s t from i j h k c d a b in
+hit_is_one s t i j h k c d a b =
+    let start : i ≡ h = same_start s t i j h k c d a b in
     let here : Derives s t b.way i k empty d = subst (λ n. Derives s t b.way n k empty d) (sym start) b.shows in
     let there : Derives s t a.way h j empty c = subst (λ n. Derives s t a.way n j empty c) start a.shows in
     let end = same_end s t a.way b.way i j k c d (preference a.way j b.way k) refl a.shows here

@@ -1,12 +1,16 @@
 -- What was read, and what the rest of the text adds to it, is what the whole text says.
-use Rattle.std.proofs.Common.{◌≡◌, ℕ, ◌+◌, Bool, true, false, ◌||◌, ◌==◌, List, [], ◌∷◌, ◌++◌, map, reverse, Option, Some, None, refl, sym, ap, ◌∙◌, append_assoc}
+-- `joined` puts open levels and the rest of the text together; each token that a level takes moves from the rest into
+-- the level and changes nothing of that. `in_branch_joined` and `close_joined` carry the others.
+use Rattle.std.proofs.Common.{◌≡◌, ℕ, ◌+◌, Bool, true, false, ◌||◌, ◌==◌, List, [], ◌∷◌, ◌++◌, map, reverse, Option, Some, None, refl, sym, ap, ◌∙◌, inl, inr, if◌then◌else◌, append_assoc}
 use Rattle.std.specs.List.{list_any}
 use Rattle.std.proofs.lemmas.List.{map-append, reverse-append}
 use Rattle.std.proofs.lemmas.List.Folds.{list_any-append}
 use Rattle.ere_tree.specs.Tree.{Tree, empty, plain, set, line_start, line_end, cat, alt, repeat, group, back}
+use Rattle.ere_tree.specs.Case.{both_cases, bracket_bytes, is_folded}
+use Rattle.ere_tree.proofs.FitLemmas.{true_or_false}
 use Rattle.ere_tree.specs.Token.{Token, Atom, byte, one_of, same_as, item, bar, open_group, close_group}
 use Rattle.ere_tree.specs.Token as tokens
-use Rattle.ere_tree.specs.Grammar.{Rest, ends, closes, letter, branch_of, either_of, repeated, in_branch, behind_bar, grouped, from_token, whole}
+use Rattle.ere_tree.specs.Grammar.{Rest, ends, closes, letter, branch_of, either_of, repeated, atom_tree, in_branch, behind_bar, grouped, from_token, whole}
 use Rattle.ere_tree.specs.Place.{Open, refusal, behind}
 use Rattle.ere_tree.specs.Grammar as grammar
 use Rattle.ere_tree.specs.Levels.{Level, Levels, run_parts, parts_of, new_level, with_letter, with_part, with_bar, tree_of, in_inner, beginning_levels, closed, with_item, taken, open_of, place_of, level_view}
@@ -77,13 +81,13 @@ abbrev pub finished : Level → List Tree → List (List Tree) → Tree
 finished level here others =
     either_of (level.branches ++ map branch_of ((level.parts ++ letters level.run here) ∷ others))
 
-finished-letter : (b : ℕ) (level : Level) (here : List Tree) (others : List (List Tree)) →
+pub finished-letter : (b : ℕ) (level : Level) (here : List Tree) (others : List (List Tree)) →
     finished (with_letter b level) here others ≡ finished level (letter b here) others
 finished-letter b level here others =
     ap (λ parts. either_of (level.branches ++ map branch_of ((level.parts ++ parts) ∷ others)))
     (letters-snoc level.run b here)
 
-finished-part : (part : Tree) (level : Level) (here : List Tree) (others : List (List Tree)) → is_part part ≡ true →
+pub finished-part : (part : Tree) (level : Level) (here : List Tree) (others : List (List Tree)) → is_part part ≡ true →
     finished (with_part part level) here others ≡ finished level (part ∷ here) others
 finished-part part level here others is =
     ap (λ parts. either_of (level.branches ++ map branch_of (parts ∷ others)))
@@ -167,13 +171,21 @@ close_joined bound inner level outer rest =
     ap (λ tree. joined (with_part (repeated bound (group inner.number tree)) level) outer rest)
     (sym (finished-end inner))
 
+byte_joined : (folded : Bool) (b : ℕ) (level : Level) (outer : List Level) (rest : Rest) →
+    joined ((if folded then with_part (set (both_cases (b ∷ []))) else with_letter b) level) outer rest
+    ≡ joined level outer
+    (in_branch (λ parts. if folded then set (both_cases (b ∷ [])) ∷ parts else letter b parts) rest)
+byte_joined true b level outer rest = part_joined (set (both_cases (b ∷ []))) level outer rest refl
+byte_joined false b level outer rest = letter_joined b level outer rest
+
 item_joined : (fold : Bool) (atom : Atom) (bound : Option Bound) (level : Level) (outer : List Level) (rest : Rest) →
     joined (with_item fold atom bound level) outer rest
     ≡ joined level outer (in_branch (grammar.with_item fold atom bound) rest)
-item_joined fold (byte b) None level outer rest = letter_joined b level outer rest
+item_joined fold (byte b) None level outer rest = byte_joined (is_folded fold b) b level outer rest
 item_joined fold (byte b) (Some bound) level outer rest =
-    part_joined (repeated (Some bound) (plain (b ∷ []))) level outer rest refl
-item_joined fold (one_of bytes) bound level outer rest =
+    part_joined (repeated (Some bound) (atom_tree fold (byte b))) level outer rest refl
+item_joined fold (one_of negated members) bound level outer rest =
+    let bytes = bracket_bytes fold negated members in
     part_joined (repeated bound (set bytes)) level outer rest (repeated-part bound (set bytes) refl)
 item_joined fold (same_as number) bound level outer rest =
     part_joined (repeated bound (back number fold)) level outer rest (repeated-part bound (back number fold) refl)
@@ -208,9 +220,9 @@ close_place at bound groups inner (level ∷ outer) is = refl
 
 item_place : (fold : Bool) (at : ℕ) (atom : Atom) (bound : Option Bound) (levels : Levels) →
     place_of (in_inner (with_item fold atom bound) levels) ≡ behind (place_of levels) at (item atom bound)
-item_place fold at (byte b) None levels = refl
+item_place fold at (byte b) None levels = elim (true_or_false (is_folded fold b)) [ inl is ↦ rw is refl | inr is ↦ rw is refl ]
 item_place fold at (byte b) (Some bound) levels = refl
-item_place fold at (one_of bytes) bound levels = refl
+item_place fold at (one_of negated members) bound levels = refl
 item_place fold at (same_as number) bound levels = refl
 
 pub token_place : (fold : Bool) (at : ℕ) (token : Token) (levels : Levels) → refusal (place_of levels) token ≡ None →

@@ -1,12 +1,17 @@
 pub mod BoundLemmas
 pub mod BracketLemmas
+pub mod CapturesLemmas
+pub mod CaseLemmas
 pub mod CompleteLemmas
 pub mod DerivationLemmas
 pub mod FitLemmas
+pub mod FoldedLemmas
+pub mod FreeLemmas
 pub mod FrontLemmas
 pub mod HitLemmas
 pub mod LevelLemmas
 pub mod ParseLemmas
+pub mod PartsLemmas
 pub mod PreferenceLemmas
 pub mod ReadingLemmas
 pub mod SetLemmas

@@ -1,4 +1,6 @@
 -- Preference is an order on the derivations of one tree, from one start and with the same captures.
+-- Ends and indices are compared first; behind equal ones derivations go on from one place with the same captures,
+-- since a way tells its end. `same_way` (none preferred: one way) and `within_leads_on` are the hard ones.
 use Rattle.std.proofs.Common.{◌≡◌, ℕ, List, ◌≤◌, zero, suc, refl, sym, ap, ◌∙◌, subst, inl, inr, arith}
 use Rattle.std.specs.Cmp.{then_flip, alike_right}
 use Rattle.std.proofs.lemmas.Cmp.{nat_cmp_total}
@@ -10,7 +12,8 @@ use Rattle.ere_tree.specs.Tree.{Tree, Trees, empty, plain, set, line_start, line
 use Rattle.ere_tree.specs.Captures.{Captures}
 use Rattle.ere_tree.specs.Derivation.{Way, Ways, leaf, parts, members, chosen, inside, done, next, Derives, DerivesAll, DerivesEach, tree_at, count_of}
 use Rattle.ere_tree.specs.Preference.{within, in_order, preference, IsPreferred, ExactlyOne, OneIsPreferred, PreferenceLeadsOn, OneWayOneEnd}
-use Rattle.ere_tree.proofs.DerivationLemmas.{each_moves_on, one_end, some_same}
+use Rattle.ere_tree.proofs.DerivationLemmas.{each_is_part, one_end}
+use Rattle.ere_tree.proofs.CapturesLemmas.{some_same}
 
 -- the answers of a comparison differ
 rank : Ordering → ℕ
@@ -131,10 +134,10 @@ mutual
       → DerivesEach s t least ws i j c d → DerivesEach s t least vs i j c e → in_order ws vs ≡ Equal → ws ≡ vs
   each_same s t least done done i j c d e a b h g x = refl
   each_same s t zero done (next k v vs) i j c d e a b h g x =
-      absurd (omega (arith, each_moves_on s t zero vs k j g.0 e g.3))
+      absurd (omega (arith, (each_is_part s t zero vs k j g.0 e g.3).0))
   each_same s t (suc least) done (next k v vs) i j c d e a b h g x = absurd (omega arith)
   each_same s t zero (next k w ws) done i j c d e a b h g x =
-      absurd (omega (arith, each_moves_on s t zero ws k j h.0 d h.3))
+      absurd (omega (arith, (each_is_part s t zero ws k j h.0 d h.3).0))
   each_same s t (suc least) (next k w ws) done i j c d e a b h g x = absurd (omega arith)
   each_same s t zero (next k w ws) (next m v vs) i j c d e a b h g x =
       let both = then_equal (preference w k v m) (in_order ws vs) x in

@@ -1,4 +1,6 @@
--- The grammar, a token at a time.
+-- The grammar, a token at a time: what the text says from a place on, where levels are open there.
+-- The definition reads byte by byte and skips the bytes of a token; the parser jumps behind it. `said_behind` is the
+-- step of its loop: it's said the same behind a token that is taken.
 use Rattle.std.proofs.Common.{◌≡◌, ℕ, zero, suc, ◌+◌, ◌-◌, ◌<◌, ◌≤◌, Bool, true, List, [], ◌∷◌, Some, None, Result, Ok, Err, length, drop, map, nat_lt, refl, sym, ap, ◌∙◌, arith}
 use Rattle.std.proofs.lemmas.Bool.Decides.{nat_tests}
 use Rattle.ere_tree.specs.Tree.{Tree}

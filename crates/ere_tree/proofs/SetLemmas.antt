@@ -1,10 +1,14 @@
--- Sets of bytes as lists: what is in them, and when two of them are one.
-use Rattle.std.proofs.Common.{◌≡◌, ◌≢◌, ℕ, zero, suc, ◌-◌, ◌*◌, ◌^◌, ◌<◌, ◌/◌, ◌%◌, ◌↔◌, inl, inr, Bool, true, false, cond, List, [], ◌∷◌, IsTrue, ◌&&◌, ◌||◌, ◌==◌, not, bit_and, bit_or, slice_index, slice_set, length, w64, refl, ap, subst, arith, lit<}
+-- Sets of bytes in four words: which bytes are in them, and when two of them are one.
+-- A byte's bit stands in one word, so each change of a set is a change of that word; std's lemmas on single bits do
+-- the rest. `complement_has` is the long one: four words, in the first of which the newline's bit is cleared too.
+use Rattle.std.proofs.Common.{◌≡◌, ◌≢◌, ℕ, zero, suc, ◌-◌, ◌*◌, ◌^◌, ◌<◌, ◌≤◌, ◌/◌, ◌%◌, ◌↔◌, inl, inr, ◌++◌, ◌∙◌, sym, Bool, true, false, cond, List, [], ◌∷◌, IsTrue, ◌&&◌, ◌||◌, ◌==◌, not, bit_and, bit_or, slice_index, slice_set, length, w64, refl, ap, subst, arith, lit<}
 use Rattle.std.specs.List.{Contains, filter}
 use Rattle.std.proofs.lemmas.List.Elements.{Contains-append_cases, Contains-append_left, Contains-append_right, filter-append}
 use Rattle.std.specs.Int.{bit_at}
 use Rattle.std.proofs.lemmas.Bool.Decides.{eqb_tells, nat_tests, same_from_decides}
-use Rattle.std.proofs.lemmas.List.{get_or-set_same, get_or-set_other}
+use Rattle.std.proofs.Math.ListN.{get_or-append}
+use Rattle.std.proofs.lemmas.Bool.{cases_lt}
+use Rattle.std.proofs.lemmas.List.{get_or-set_same, get_or-set_other, get_or_past}
 use Rattle.std.proofs.lemmas.Nat.Bits.{shr_and_one, bit_at_or, bit_at_not, bit_at-lt, bit_at_set_same, bit_at_clear_same, bit_at_clear_other, bit_at_set_other}
 use Rattle.ere_tree.specs.Bytes.{HasBytes}
 use Rattle.ere_tree.specs.View.{has_bit, members_of}
@@ -114,11 +118,11 @@ set_bit x k i within = elim (eqb_tells i k) [
   | inr (_, other) ↦ grind (arith, nat_tests, bit_at_set_other w64 x k within i other)
 ]
 
--- a word among four in which one more bit is set
-pub insert_has : (xs : List ℕ) (byte : ℕ) → length xs ≡ 4 → byte < 256 → HasBytes
-    (slice_set xs (byte / 64) (bit_or (slice_index xs (byte / 64)) (1 * 2 ^ (byte % 64) % 2 ^ 64)))
-    (λ b. has_bit xs b || (b == byte))
-insert_has xs byte four within b low =
+-- words in one of which one more bit is set
+pub has_bit-set : (xs : List ℕ) (byte : ℕ) → byte / 64 < length xs → (b : ℕ) →
+    has_bit (slice_set xs (byte / 64) (bit_or (slice_index xs (byte / 64)) (1 * 2 ^ (byte % 64) % 2 ^ 64))) b
+    ≡ (has_bit xs b || (b == byte))
+has_bit-set xs byte within b =
     let more : ℕ = bit_or (slice_index xs (byte / 64)) (1 * 2 ^ (byte % 64) % 2 ^ 64) in
     elim (eqb_tells (b / 64) (byte / 64)) [
       | inl (_, same) ↦
@@ -133,6 +137,25 @@ insert_has xs byte four within b low =
           let tests : (b == byte) ≡ false = grind (arith, nat_tests) in
           rw (at, tests) (grind (arith, nat_tests))
     ]
+
+-- of a set of bytes
+pub insert_has : (xs : List ℕ) (byte : ℕ) → length xs ≡ 4 → byte < 256 → HasBytes
+    (slice_set xs (byte / 64) (bit_or (slice_index xs (byte / 64)) (1 * 2 ^ (byte % 64) % 2 ^ 64)))
+    (λ b. has_bit xs b || (b == byte))
+insert_has xs byte four within b low = has_bit-set xs byte (omega arith) b
+
+-- words with words of no bit behind them
+pub has_bit-more : (xs : List ℕ) (b : ℕ) → has_bit (xs ++ 0 ∷ []) b ≡ has_bit xs b
+has_bit-more xs b = elim (cases_lt (b / 64) (length xs)) [
+  | inl within ↦ ap (λ w. bit_at w (b % 64) == 1) (get_or-append xs (0 ∷ []) 0 (b / 64) within)
+  | inr past ↦ ap (λ w. bit_at w (b % 64) == 1) (none_behind xs (b / 64) past ∙ sym (get_or_past xs (b / 64) 0 past))
+]
+  where
+    none_behind : (xs : List ℕ) (i : ℕ) → length xs ≤ i → slice_index (xs ++ 0 ∷ []) i ≡ 0
+    none_behind [] zero past = refl
+    none_behind [] (suc i) past = get_or_past [] i 0 (omega arith)
+    none_behind (x ∷ xs) zero past = absurd (omega arith)
+    none_behind (x ∷ xs) (suc i) past = none_behind xs i (omega arith)
 
 -- a word in which bit 10 is cleared
 clear_bit : (x i : ℕ) → i < 64 →

@@ -1,4 +1,6 @@
 -- A text that is read is in the grammar: from each place on it is what is left of constructs, up to the end.
+-- A `Tail` is what is left: of the branch at hand, of those behind it, and behind the `)` of the level. Each token
+-- before a tail gives a tail again. `told_open` is the hard one, where a tail becomes a group.
 use Rattle.std.proofs.Common.{◌≡◌, ℕ, zero, suc, ◌+◌, ◌-◌, ◌<◌, ◌≤◌, Bool, true, false, cond, not, ◌&&◌, ◌==◌, inl, inr, List, [], ◌∷◌, Option, Some, None, Result, Ok, Err, length, map, drop, nat_lt, nat_le, refl, sym, ap, subst, ◌∙◌, arith}
 use Rattle.std.proofs.lemmas.Bool.Decides.{nat_tests}
 use Rattle.std.proofs.lemmas.List.{length-map}
@@ -16,7 +18,6 @@ use Rattle.ere_tree.specs.declared.fault.EreKind.{EreKind}
 use Rattle.ere_tree.specs.declared.level.Last.{Last}
 use Rattle.ere_tree.specs.declared.level.Last.TheVariants.{Nothing, Bar, Part}
 use Rattle.ere_tree.specs.declared.fault.EreKind.TheVariants.{EmptyAlternative, BadReference, TooDeep}
-use Rattle.ere_tree.specs.declared.parser.TheConstants.{MAX_DEPTH}
 use Rattle.ere_tree.proofs.CompleteLemmas.{numbers, open_number}
 use Rattle.std.specs.List.{list_any}
 use Rattle.std.specs.Result.{IfOk}
@@ -277,7 +278,7 @@ fine_part (stop here others) = tt
 fine_part (shut here others bound tail) = tt
 
 pub told_open : (fold : Bool) (k : ℕ) (around : List ℕ) (n : ℕ) (last : Last) (text mid : List ℕ) (tail : Tail) →
-    Takes text open_group mid → length (k ∷ around) ≤ MAX_DEPTH →
+    Takes text open_group mid → length (k ∷ around) ≤ 250 →
     SpellsTail mid tail → SoundTail ((n + 1) ∷ k ∷ around) (n + 1) tail → FineTail Nothing tail →
     Told fold (k ∷ around) n last text (grouped (n + 1) (rest_tail fold (n + 1) tail))
 told_open fold k around n last text mid (stop here others) takes fits spells sound fine = absurd sound
@@ -337,8 +338,8 @@ told_token : (fold : Bool) (place : Place) (at : ℕ) (t : Token) (text mid : Li
 told_token fold place at (item (byte b) bound) text mid says takes ok told =
     told_front fold (simple (item (byte b) bound))
     (numbers place) place.groups place.last text mid says takes refl told
-told_token fold place at (item (one_of bytes) bound) text mid says takes ok told =
-    told_front fold (simple (item (one_of bytes) bound))
+told_token fold place at (item (one_of negated bytes) bound) text mid says takes ok told =
+    told_front fold (simple (item (one_of negated bytes) bound))
     (numbers place) place.groups place.last text mid says takes refl told
 told_token fold place at (item (same_as number) bound) text mid says takes ok told =
     told_front fold (simple (item (same_as number) bound)) (numbers place) place.groups place.last text mid says takes
@@ -352,9 +353,9 @@ told_token fold place at bar text mid says takes ok told =
     (told_bar fold (numbers place) place.groups place.last text mid told.tail takes ok told.spells told.sound told.fine)
 told_token fold place at open_group text mid says takes ok told =
     let long = length-map place.outer (λ (level : Open). level.number) in
-    let shallow : nat_lt (length place.outer) MAX_DEPTH ≡ true =
-    let_through (nat_lt (length place.outer) MAX_DEPTH) TooDeep ok in
-    let fits : length (numbers place) ≤ MAX_DEPTH = grind (arith, nat_tests) in
+    let shallow : nat_lt (length place.outer) 250 ≡ true =
+    let_through (nat_lt (length place.outer) 250) TooDeep ok in
+    let fits : length (numbers place) ≤ 250 = grind (arith, nat_tests) in
     subst (λ (r : Rest). ToldAt fold place text (grouped (place.groups + 1) r)) (sym told.is)
     (told_open fold place.inner.number (map (λ level. level.number) place.outer) place.groups place.last text mid
     told.tail takes fits told.spells told.sound told.fine)

@@ -5,7 +5,6 @@ use Rattle.std.specs.List.{prefix_len}
 use Rattle.ere_tree.specs.Front.{begins_with, starts}
 use Rattle.ere_tree.specs.Class.{is_digit}
 use Rattle.ere_tree.specs.declared.bound.Bound.{Bound}
-use Rattle.ere_tree.specs.declared.bound.TheConstants.{MAX_BOUND}
 
 -- how many digits the text begins with
 abbrev pub digit_count : List ℕ → ℕ
@@ -24,11 +23,11 @@ number_at text = number_from 0 (take (digit_count text) text)
 -- takes
 abbrev pub at_least : ℕ → ℕ → Option (Bound × ℕ)
 at_least least taken =
-    if nat_le least MAX_BOUND then Some (record { least = least; most = None }, taken) else None
+    if nat_le least 255 then Some (record { least = least; most = None }, taken) else None
 
 abbrev pub between : ℕ → ℕ → ℕ → Option (Bound × ℕ)
 between least most taken =
-    if nat_le least most && nat_le most MAX_BOUND then Some
+    if nat_le least most && nat_le most 255 then Some
     (record { least = least; most = Some most }, taken) else None
 
 -- the end of a bound behind `{m,`: `}` or `n}`

@@ -1,10 +1,10 @@
--- Bracket expressions, as tests of bytes.
+-- Bracket expressions: their members, as tests of bytes.
 -- After POSIX.1 XBD 9.3.5, RE bracket expression, in the POSIX locale. Own rules: no collating symbols and no
--- equivalence classes, a class is no end of a range, a negated bracket leaves newline out.
+-- equivalence classes, and a class is no end of a range.
 use Rattle.std.specs.Prelude.{codes, ℕ, zero, suc, ◌+◌, ◌-◌, Bool, true, false, ◌≡◌, Option, Some, None, List, [], ◌∷◌, take, drop, length, slice_index, Result, Ok, Err, ◌==◌, ◌&&◌, ◌||◌, not, nat_le, nat_lt, if◌then◌else◌}
 use Rattle.std.specs.Int.{is_in_range}
 use Rattle.std.specs.List.{prefix_len}
-use Rattle.ere_tree.specs.Fault.{fault, and_then}
+use Rattle.ere_tree.specs.Fault.{fault, and_then, map_ok}
 use Rattle.ere_tree.specs.Front.{starts}
 use Rattle.ere_tree.specs.Tree.{bytes_passing}
 use Rattle.ere_tree.specs.Class.{class_of}
@@ -13,6 +13,7 @@ use Rattle.ere_tree.specs.View.{members_of}
 use Rattle.ere_tree.specs.declared.byte_set.ByteSet.{ByteSet}
 use Rattle.ere_tree.specs.declared.fault.EreFault.{EreFault}
 use Rattle.ere_tree.specs.declared.fault.EreKind.TheVariants.{UnclosedBracket, BadRange, UnknownClass, UnsupportedBracket}
+use Rattle.ere_tree.specs.declared.bracket.Bracket.{Bracket}
 use Rattle.ere_tree.specs.declared.bracket.Element.{Element}
 use Rattle.ere_tree.specs.declared.bracket.Element.TheVariants.{Byte, Class, Unsupported}
 
@@ -74,27 +75,23 @@ member text =
     let behind = drop (element_len first) text in
     if begins_range behind then range first (element (drop 1 behind)) else alone text first
 
--- the bytes of a bracket whose members pass the test
-abbrev pub bytes_of : Bool → (ℕ → Bool) → List ℕ
-bytes_of false test = bytes_passing test
-bytes_of true test = bytes_passing (λ b. not (test b) && not (b == 10))
-
--- The bytes of a bracket, and its length up to the `]` that closes it, where its text goes on so at an
--- offset, these bytes passed so far, and so many bytes belong to the member before. Behind `[` or `[^` a `]`
+-- The bytes of a bracket's members, and its length up to the `]` that closes it, where its text goes on so at
+-- an offset, these bytes passed so far, and so many bytes belong to the member before. Behind `[` or `[^` a `]`
 -- is a member.
-unfoldable pub members : Bool → (ℕ → Bool) → Bool → ℕ → ℕ → List ℕ → Result (List ℕ × ℕ) EreFault
-members negated test first at skip [] = fault 0 UnclosedBracket
-members negated test first at (suc skip) (b ∷ rest) = members negated test first (suc at) skip rest
-members negated test first at zero (b ∷ rest) =
-    if starts (codes "]") (b ∷ rest) && not first then Ok (bytes_of negated test, at + 1)
+unfoldable pub members : (ℕ → Bool) → Bool → ℕ → ℕ → List ℕ → Result (List ℕ × ℕ) EreFault
+members test first at skip [] = fault 0 UnclosedBracket
+members test first at (suc skip) (b ∷ rest) = members test first (suc at) skip rest
+members test first at zero (b ∷ rest) =
+    if starts (codes "]") (b ∷ rest) && not first then Ok (bytes_passing test, at + 1)
     else and_then at (member (b ∷ rest))
-    (λ found. members negated (λ c. test c || found.0 c) false (suc at) (found.1 - 1) rest)
+    (λ found. members (λ c. test c || found.0 c) false (suc at) (found.1 - 1) rest)
 
--- the bracket that the text begins with: its bytes, and its length
-unfoldable pub bracket : List ℕ → Result (List ℕ × ℕ) EreFault
+-- the bracket that the text begins with: whether it is negated, the bytes of its members, and its length
+unfoldable pub bracket : List ℕ → Result (Bool × List ℕ × ℕ) EreFault
 bracket text =
-    if starts (codes "^") (drop 1 text) then members true (λ b. false) true 2 0 (drop 2 text)
-    else members false (λ b. false) true 1 0 (drop 1 text)
+    let negated = starts (codes "^") (drop 1 text) in
+    let start = if negated then 2 else 1 in
+    map_ok (λ found. (negated, found.0, found.1)) (members (λ b. false) true start 0 (drop start text))
 
 -- a set that was found is that of the test, and a refusal is the one told
 abbrev pub GivesTest : Result (ByteSet × ℕ) EreFault → Result ((ℕ → Bool) × ℕ) EreFault → Type 0
@@ -104,5 +101,8 @@ GivesTest (Err refused) told = told ≡ Err refused
 
 -- a set that was found, as its bytes
 abbrev pub as_bytes : Result (ByteSet × ℕ) EreFault → Result (List ℕ × ℕ) EreFault
-as_bytes (Ok found) = Ok (members_of found.0.bits, found.1)
-as_bytes (Err refused) = Err refused
+as_bytes = map_ok (λ found. (members_of found.0.bits, found.1))
+
+-- a bracket that was found, as it is told
+abbrev pub as_bracket : Result (Bracket × ℕ) EreFault → Result (Bool × List ℕ × ℕ) EreFault
+as_bracket = map_ok (λ found. (found.0.negated, members_of found.0.members.bits, found.1))

@@ -58,10 +58,11 @@ IsSameText true xs ys = map to_ascii_lowercase xs ≡ map to_ascii_lowercase ys
 abbrev pub CanRepeat : ℕ → Option ℕ → ℕ → Type 0
 CanRepeat least most count = (least ≤ count) × IfSome most (λ n. count ≤ n)
 
--- In the slice s the way shows that the tree spans [i, j), and takes the captures c to d.
+-- In the slice s the way shows that the tree spans [i, j), and takes the captures c to d. What is spanned lies in
+-- the slice, also where it is empty.
 abbrev mutual
   pub Derives : List ℕ → Tree → Way → ℕ → ℕ → Captures → Captures → Type 0
-  Derives s empty leaf i j c d = (j ≡ i) × (d ≡ c)
+  Derives s empty leaf i j c d = (j ≡ i) × (i ≤ length s) × (d ≡ c)
   Derives s (plain bytes) leaf i j c d = IsPart s i j × (part s i j ≡ bytes) × (d ≡ c)
   Derives s (set bytes) leaf i j c d =
       (j ≡ i + 1) × (i < length s) × Contains bytes (slice_index s i) × (d ≡ c)
@@ -81,15 +82,19 @@ abbrev mutual
 
   -- the trees one behind the other, each in its own way, captures handed on
   pub DerivesAll : List ℕ → Trees → Ways → ℕ → ℕ → Captures → Captures → Type 0
-  DerivesAll s none done i j c d = (j ≡ i) × (d ≡ c)
+  DerivesAll s none done i j c d = (j ≡ i) × (i ≤ length s) × (d ≡ c)
   DerivesAll s (then t ts) (next k w ws) i j c d =
       (e : Captures) × Derives s t w i k c e × DerivesAll s ts ws k j e d
   DerivesAll s ts ws i j c d = ⊥
 
   -- one tree again and again, captures handed on; each member behind the first `least` isn't empty
   pub DerivesEach : List ℕ → Tree → ℕ → Ways → ℕ → ℕ → Captures → Captures → Type 0
-  DerivesEach s t least done i j c d = (j ≡ i) × (d ≡ c)
+  DerivesEach s t least done i j c d = (j ≡ i) × (i ≤ length s) × (d ≡ c)
   DerivesEach s t zero (next k w ws) i j c d =
       (e : Captures) × Derives s t w i k c e × (i < k) × DerivesEach s t zero ws k j e d
   DerivesEach s t (suc least) (next k w ws) i j c d =
       (e : Captures) × Derives s t w i k c e × DerivesEach s t least ws k j e d
+
+-- the tree spans [i, j) of the slice, whatever its groups hold before and behind
+abbrev pub Spans : List ℕ → Tree → ℕ → ℕ → Type 0
+Spans s t i j = (w : Way) × (c : Captures) × (d : Captures) × Derives s t w i j c d

@@ -4,6 +4,7 @@
 use Rattle.std.specs.Prelude.{◌≡◌, ℕ, zero, suc, ◌+◌, ◌-◌, Bool, Option, Some, None, List, [], ◌∷◌, map, Result, Ok, Err, nat_le, if◌then◌else◌}
 use Rattle.ere_tree.specs.Tree.{Tree, empty, plain, set, line_start, line_end, cat, alt, repeat, group, back, trees_of}
 use Rattle.ere_tree.specs.Shape.{size_of}
+use Rattle.ere_tree.specs.Case.{both_cases, bracket_bytes, is_folded}
 use Rattle.ere_tree.specs.Fault.{fault, and_then, map_ok, unless}
 use Rattle.ere_tree.specs.Token.{Atom, Token, byte, one_of, same_as, item, bar, open_group, close_group, token}
 use Rattle.ere_tree.specs.Token as tokens
@@ -14,7 +15,6 @@ use Rattle.ere_tree.specs.declared.fault.EreFail.TheVariants.{Bad, NoMemory}
 use Rattle.ere_tree.specs.declared.bound.Bound.{Bound}
 use Rattle.ere_tree.specs.declared.fault.EreFault.{EreFault}
 use Rattle.ere_tree.specs.declared.fault.EreKind.TheVariants.{TooLarge}
-use Rattle.ere_tree.specs.declared.parser.TheConstants.{MAX_SIZE}
 use Rattle.ere_tree.specs.Place.{Place, refusal, refusal_at_end, beginning, behind}
 
 -- What the text says from a place on: the rest of the branch there, and the branches behind it at the same
@@ -46,15 +46,19 @@ abbrev pub repeated : Option Bound → Tree → Tree
 repeated None tree = tree
 repeated (Some bound) tree = repeat tree bound.least bound.most
 
+-- a byte before the parts of a branch: with `fold` a letter is the set of its two cases
+abbrev pub with_byte : Bool → ℕ → List Tree → List Tree
+with_byte fold b parts = if is_folded fold b then set (both_cases (b ∷ [])) ∷ parts else letter b parts
+
 -- the tree of an atom
 abbrev pub atom_tree : Bool → Atom → Tree
-atom_tree fold (byte b) = plain (b ∷ [])
-atom_tree fold (one_of bytes) = set bytes
+atom_tree fold (byte b) = if is_folded fold b then set (both_cases (b ∷ [])) else plain (b ∷ [])
+atom_tree fold (one_of negated members) = set (bracket_bytes fold negated members)
 atom_tree fold (same_as number) = back number fold
 
 -- the parts of a branch from an atom and its bound on: a byte with no bound joins the bytes behind it
 abbrev pub with_item : Bool → Atom → Option Bound → List Tree → List Tree
-with_item fold (byte b) None parts = letter b parts
+with_item fold (byte b) None parts = with_byte fold b parts
 with_item fold atom bound parts = repeated bound (atom_tree fold atom) ∷ parts
 
 -- a rest whose first branch is changed
@@ -109,7 +113,7 @@ tree_read fold text = map_ok whole (reading_from fold beginning 0 0 text)
 
 -- a tree that isn't too large
 abbrev pub sized : Result Tree EreFault → Result Tree EreFault
-sized (Ok tree) = if nat_le (size_of tree) MAX_SIZE then Ok tree else fault 0 TooLarge
+sized (Ok tree) = if nat_le (size_of tree) 100000 then Ok tree else fault 0 TooLarge
 sized (Err refused) = Err refused
 
 -- the tree that the text is read as, or its first fault

@@ -1,6 +1,7 @@
 -- What the parser holds: the levels that are open, with what was read of each.
-use Rattle.std.specs.Prelude.{ℕ, ◌+◌, Bool, Option, None, List, [], ◌∷◌, ◌++◌, map, reverse}
-use Rattle.ere_tree.specs.Tree.{Tree, plain, line_start, line_end, group}
+use Rattle.std.specs.Prelude.{ℕ, ◌+◌, Bool, Option, None, List, [], ◌∷◌, ◌++◌, map, reverse, if◌then◌else◌}
+use Rattle.ere_tree.specs.Case.{both_cases, is_folded}
+use Rattle.ere_tree.specs.Tree.{Tree, plain, set, line_start, line_end, group}
 use Rattle.ere_tree.specs.Token.{Token, Atom, byte, one_of, same_as, item, bar, open_group, close_group}
 use Rattle.ere_tree.specs.Token as tokens
 use Rattle.ere_tree.specs.Grammar.{branch_of, either_of, repeated, atom_tree}
@@ -90,9 +91,10 @@ closed bound levels = elim (levels.outer) [
   | level ∷ others ↦ group_given levels.inner.number (tree_of levels.inner) bound levels.groups level others
 ]
 
--- behind an atom
+-- behind an atom: a byte with no bound may still be joined, unless it stands for both its cases
 abbrev pub with_item : Bool → Atom → Option Bound → Level → Level
-with_item fold (byte b) None = with_letter b
+with_item fold (byte b) None =
+    if is_folded fold b then with_part (set (both_cases (b ∷ []))) else with_letter b
 with_item fold atom bound = with_part (repeated bound (atom_tree fold atom))
 
 abbrev pub item_taken : Bool → Atom → Option Bound → Levels → Levels

@@ -2,9 +2,11 @@ pub mod Bound
 pub mod Bracket
 pub mod Bytes
 pub mod Captures
+pub mod Case
 pub mod Class
 pub mod Derivation
 pub mod Fault
+pub mod Folded
 pub mod Front
 pub mod Grammar
 pub mod Hit

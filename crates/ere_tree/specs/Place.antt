@@ -9,7 +9,6 @@ use Rattle.ere_tree.specs.declared.fault.EreKind.{EreKind}
 use Rattle.ere_tree.specs.declared.fault.EreKind.TheVariants.{EmptyAlternative, UnclosedGroup, StrayClose, BadReference, TooDeep}
 use Rattle.ere_tree.specs.declared.level.Last.{Last}
 use Rattle.ere_tree.specs.declared.level.Last.TheVariants.{Nothing, Bar, Part}
-use Rattle.ere_tree.specs.declared.parser.TheConstants.{MAX_DEPTH}
 
 -- A level: the whole text, or the group of this number, whose `(` stands at this offset. The whole has number
 -- 0.
@@ -46,12 +45,12 @@ after_part last = false
 -- why a token is refused at a place
 abbrev pub refusal : Place → Token → Option EreKind
 refusal place (item (byte b) bound) = None
-refusal place (item (one_of bytes) bound) = None
+refusal place (item (one_of negated bytes) bound) = None
 refusal place (item (same_as number) bound) = if is_closed place number then None else Some BadReference
 refusal place line_start = None
 refusal place line_end = None
 refusal place bar = if after_part place.last then None else Some EmptyAlternative
-refusal place open_group = if nat_lt (length place.outer) MAX_DEPTH then None else Some TooDeep
+refusal place open_group = if nat_lt (length place.outer) 250 then None else Some TooDeep
 refusal place (close_group bound) =
     if nat_lt 0 (length place.outer) then (if after_bar place.last then Some EmptyAlternative else None)
     else Some StrayClose

@@ -9,7 +9,6 @@ use Rattle.ere_tree.specs.Token.{Token, byte, one_of, same_as, item, bar, open_g
 use Rattle.ere_tree.specs.Token as tokens
 use Rattle.ere_tree.specs.Grammar.{branch_of, either_of, repeated, with_item}
 use Rattle.ere_tree.specs.declared.bound.Bound.{Bound}
-use Rattle.ere_tree.specs.declared.parser.TheConstants.{MAX_DEPTH}
 
 mutual
   pub data Alts : Type 0 where
@@ -70,7 +69,7 @@ abbrev mutual
 -- whether a token is an anchor or an atom, whose group is closed if it refers to one
 abbrev pub may_stand : List ℕ → ℕ → Token → Bool
 may_stand around n (item (byte b) bound) = true
-may_stand around n (item (one_of bytes) bound) = true
+may_stand around n (item (one_of negated bytes) bound) = true
 may_stand around n (item (same_as number) bound) = nat_le number n && not (list_any (λ m. m == number) around)
 may_stand around n tokens.line_start = true
 may_stand around n tokens.line_end = true
@@ -83,9 +82,9 @@ abbrev mutual
   -- the whole being number 0.
   pub SoundItem : List ℕ → ℕ → Item → Type 0
   SoundItem around n (simple t) = IsTrue (may_stand around n t)
-  SoundItem around n (empty_group bound) = length around ≤ MAX_DEPTH
+  SoundItem around n (empty_group bound) = length around ≤ 250
   SoundItem around n (group_of alts bound) =
-      (length around ≤ MAX_DEPTH) × SoundAlts ((n + 1) ∷ around) (n + 1) alts
+      (length around ≤ 250) × SoundAlts ((n + 1) ∷ around) (n + 1) alts
 
   pub SoundBranch : List ℕ → ℕ → Branch → Type 0
   SoundBranch around n (only one) = SoundItem around n one

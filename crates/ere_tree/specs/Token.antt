@@ -1,10 +1,9 @@
 -- An expression byte by byte: its tokens. An atom and the bound behind it are one token. After POSIX.1 XBD
 -- 9.4, with back-references `\1` to `\9`. Own rules: a `{` with no digit behind it is an ordinary byte, and
 -- any byte may stand behind a backslash.
-use Rattle.std.specs.Prelude.{codes, ℕ, ◌+◌, ◌-◌, Option, Some, None, List, drop, length, slice_index, Result, Ok, Err, ◌==◌, not, is_some, nat_lt, if◌then◌else◌}
+use Rattle.std.specs.Prelude.{codes, ℕ, ◌+◌, ◌-◌, Bool, true, Option, Some, None, List, [], drop, length, slice_index, Result, Ok, Err, is_some, nat_lt, if◌then◌else◌}
 use Rattle.std.specs.Int.{is_in_range}
 use Rattle.ere_tree.specs.Front.{starts}
-use Rattle.ere_tree.specs.Tree.{bytes_passing}
 use Rattle.ere_tree.specs.Bound.{bound_at, begins_bound}
 use Rattle.ere_tree.specs.Bracket.{bracket}
 use Rattle.ere_tree.specs.Fault.{fault}
@@ -13,10 +12,10 @@ use Rattle.ere_tree.specs.declared.fault.EreFault.{EreFault}
 use Rattle.ere_tree.specs.declared.fault.EreKind.{EreKind}
 use Rattle.ere_tree.specs.declared.fault.EreKind.TheVariants.{RepeatOfNothing, BadBound, TrailingBackslash}
 
--- what may be repeated, but for a group
+-- what may be repeated, but for a group: a byte, a bracket's members and whether it is negated, a reference
 pub data Atom : Type 0 where
   byte : ℕ → Atom
-  one_of : List ℕ → Atom
+  one_of : Bool → List ℕ → Atom
   same_as : ℕ → Atom
 
 pub data Token : Type 0 where
@@ -55,15 +54,14 @@ escape_at text =
     else fault 0 TrailingBackslash
 
 -- the token of a bracket that was read
-abbrev pub bracket_item : List ℕ → Result (List ℕ × ℕ) EreFault → Result (Token × ℕ) EreFault
-bracket_item text (Ok found) = Ok (with_bound (item (one_of found.0)) found.1 text)
+abbrev pub bracket_item : List ℕ → Result (Bool × List ℕ × ℕ) EreFault → Result (Token × ℕ) EreFault
+bracket_item text (Ok found) = Ok (with_bound (item (one_of found.0 found.1)) found.2 text)
 bracket_item text (Err refused) = Err refused
 
--- the token of an atom and its bound
+-- the token of an atom and its bound; a `.` is a negated bracket with no member
 unfoldable pub atom_at : List ℕ → Result (Token × ℕ) EreFault
 atom_at text =
-    if starts (codes ".") text then Ok
-    (with_bound (item (one_of (bytes_passing (λ b. not (b == 10))))) 1 text)
+    if starts (codes ".") text then Ok (with_bound (item (one_of true [])) 1 text)
     else if starts (codes "[") text then bracket_item text (bracket text)
     else if starts (codes "\\") text then escape_at text
     else Ok (with_bound (item (byte (slice_index text 0))) 1 text)

@@ -10,7 +10,7 @@ use Rattle.ere_tree.specs.declared.fault.EreFault.{EreFault}
 
 abbrev pub atom_view : atoms.Atom → Atom
 atom_view (atom.Byte b) = byte b
-atom_view (atom.OneOf one) = one_of (members_of one.bits)
+atom_view (atom.OneOf one) = one_of one.negated (members_of one.members.bits)
 atom_view (atom.SameAs number) = same_as number
 
 abbrev pub token_view : tokens.Token → Token

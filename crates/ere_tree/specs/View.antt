@@ -1,10 +1,11 @@
 -- The tree that a value of the type `Ere` stands for.
 use Rattle.std.specs.Prelude.{ℕ, Bool, List, ◌/◌, ◌%◌, ◌==◌, slice_index}
 use Rattle.std.specs.Int.{bit_at}
-use Rattle.ere_tree.specs.Tree.{Tree, empty, plain, set, line_start, line_end, cat, alt, repeat, group, back, trees_of, bytes_passing}
+use Rattle.ere_tree.specs.Tree.{Tree, Trees, empty, plain, set, line_start, line_end, cat, alt, repeat, group, back, trees_of, bytes_passing}
 use Rattle.ere_tree.specs.declared.ere.Ere.{Ere}
 use Rattle.ere_tree.specs.declared.ere.Ere.TheOpen.{Ere-F, EreList-F}
-use Rattle.ere_tree.specs.declared.ere.Ere.TheFolds.{fold-Ere}
+use Rattle.ere_tree.specs.declared.ere.Ere.TheFolds.{fold-Ere, fold-EreList}
+use Rattle.ere_tree.specs.declared.ere.EreList.{EreList}
 
 -- whether a byte is in the set of these four words: bit `byte % 64` of word `byte / 64` tells
 abbrev pub has_bit : List ℕ → ℕ → Bool
@@ -33,3 +34,7 @@ list_step all = all.held.items
 -- the tree of an expression
 abbrev pub view : Ere → Tree
 view = fold-Ere Tree (List Tree) view_step list_step
+
+-- the trees of a list of expressions
+abbrev pub trees_in : EreList → Trees
+trees_in all = trees_of (fold-EreList Tree (List Tree) view_step list_step all)

@@ -1,7 +1,8 @@
 //! Bracket expressions.
 ghost use Rattle.std.specs.Prelude.{◌≡◌, ◌≤◌, ◌<◌, ◌+◌, ◌^◌, ◌&&◌, not, true, false, IfOk, IfErr, IfSome, IsTrue, length, drop};
 ghost use Rattle.std.specs.Int.{is_in_range};
-ghost use Rattle.ere_tree.specs.Bracket.{name_len, class_len, element, element_len, begins_range, range, alone, member, bytes_of, members, bracket, GivesTest, as_bytes};
+ghost use Rattle.ere_tree.specs.Bracket.{name_len, class_len, element, element_len, begins_range, range, alone, member, members, bracket, GivesTest, as_bytes, as_bracket};
+ghost use Rattle.ere_tree.specs.Case.{bracket_bytes};
 ghost use Rattle.ere_tree.specs.Front.{begins};
 ghost use Rattle.ere_tree.specs.Bytes.{HasBytes};
 ghost use Rattle.ere_tree.specs.View.{has_bit, members_of};
@@ -10,6 +11,28 @@ use crate::byte_set::ByteSet;
 use crate::classes::class;
 use crate::fault::{EreFault, EreKind};
 use crate::front::{begins, behind};
+
+/// A bracket: the bytes of its members, and whether it stands for the others.
+#[derive(Clone, Copy, Debug, PartialEq, Eq)]
+pub(crate) struct Bracket {
+    pub(crate) negated: bool,
+    pub(crate) members: ByteSet,
+}
+
+impl Bracket {
+    /// The bytes that the bracket stands for. With `fold` its letters are in both cases.
+    pub(crate) fn bytes(&self, fold: bool) -> ByteSet
+        ensures { members_of result.bits
+            ≡ bracket_bytes fold self.now.negated (members_of self.now.members.bits) }
+    {
+        let all = if fold {
+            self.members.both_cases()
+        } else {
+            self.members
+        };
+        if self.negated { all.others() } else { all }
+    }
+}
 
 /// What a text begins with inside a bracket.
 #[derive(Clone, Copy, Debug, PartialEq, Eq)]
@@ -160,18 +183,6 @@ fn member_at(text: &[u8]) -> Result<(ByteSet, usize), EreFault>
     }
 }
 
-/// The bytes of a bracket whose members have these.
-#[tactic(auto, using(crate::proofs::SetLemmas::bytes_passing_agree))]
-fn set_of(negated: bool, set: &ByteSet) -> ByteSet
-    ensures { members_of result.bits ≡ bytes_of negated (has_bit set.now.bits) }
-{
-    if negated {
-        set.complement_without_newline()
-    } else {
-        *set
-    }
-}
-
 /// Whether the bracket ends here. Its first member may be a `]`.
 fn closes(text: &[u8], first: bool) -> bool
     ensures exact { result ≡ (begins 93 text.now && not first) }
@@ -180,10 +191,10 @@ fn closes(text: &[u8], first: bool) -> bool
     begins(text, b']') && !first
 }
 
-/// The bytes of the bracket whose members begin at an offset, and the bracket's length.
-fn members_at(text: &[u8], start: usize, negated: bool) -> Result<(ByteSet, usize), EreFault>
+/// The bytes of the members that begin at an offset, and the length up to the `]` behind them.
+fn members_at(text: &[u8], start: usize) -> Result<(ByteSet, usize), EreFault>
     requires { start ≤ length text.now }
-    ensures exact { as_bytes result ≡ members negated (λ _. false) true start 0 (drop start text.now) }
+    ensures exact { as_bytes result ≡ members (λ _. false) true start 0 (drop start text.now) }
     ensures some { IfOk result (λ found. 0 < found.1) }
     ensures within { IfOk result (λ found. found.1 ≤ length text.now) }
     ensures place { 0 < length text.now → IfErr result (λ fault. fault.at < length text.now) }
@@ -194,7 +205,7 @@ fn members_at(text: &[u8], start: usize, negated: bool) -> Result<(ByteSet, usiz
     while at < text.len() {
         let rest = behind(text, at);
         if closes(rest, first) {
-            return Ok((set_of(negated, &set), at + 1));
+            return Ok((set, at + 1));
         }
         match member_at(rest) {
             Ok((found, taken)) => {
@@ -213,18 +224,18 @@ fn members_at(text: &[u8], start: usize, negated: bool) -> Result<(ByteSet, usiz
     Err(refused(0, EreKind::UnclosedBracket))
 }
 
-/// The bracket that the text begins with: its bytes, and its length.
+/// The bracket that the text begins with, and its length.
 #[tactic(auto, unfolding(crate::specs::Bracket::bracket))]
-pub(crate) fn bracket_at(text: &[u8]) -> Result<(ByteSet, usize), EreFault>
+pub(crate) fn bracket_at(text: &[u8]) -> Result<(Bracket, usize), EreFault>
     requires { 0 < length text.now }
-    ensures exact { as_bytes result ≡ bracket text.now }
+    ensures exact { as_bracket result ≡ bracket text.now }
     ensures some { IfOk result (λ found. 0 < found.1) }
     ensures within { IfOk result (λ found. found.1 ≤ length text.now) }
     ensures place { IfErr result (λ fault. fault.at < length text.now) }
 {
-    if begins(behind(text, 1), b'^') {
-        members_at(text, 2, true)
-    } else {
-        members_at(text, 1, false)
+    let negated = begins(behind(text, 1), b'^');
+    match members_at(text, if negated { 2 } else { 1 }) {
+        Ok((members, count)) => Ok((Bracket { negated, members }, count)),
+        Err(fault) => Err(fault),
     }
 }

@@ -1,10 +1,12 @@
 //! A level of an expression that is being read: the whole, or a group whose `)` has not come.
-ghost use Rattle.std.specs.Prelude.{◌≡◌, IfOk, OnOk, map};
+ghost use Rattle.std.specs.Prelude.{◌≡◌, None, IfOk, OnOk, map};
 ghost use Rattle.ere_tree.specs.Grammar.{branch_of, either_of, repeated};
-ghost use Rattle.ere_tree.specs.Levels.{new_level, with_letter, with_run_ended, with_part, with_branch_ended, with_bar, tree_of, level_view};
+ghost use Rattle.ere_tree.specs.Levels.{new_level, with_letter, with_run_ended, with_part, with_branch_ended, with_bar, with_item, tree_of, level_view};
+ghost use Rattle.ere_tree.specs.Token as atoms;
 ghost use Rattle.ere_tree.specs.View.{view};
 
 use crate::bound::Bound;
+use crate::case::{is_folded, letter};
 use crate::ere::{ByteRun, Ere, EreList};
 use std::alloc::{AllocError, Global};
 use std::mem;
@@ -84,13 +86,24 @@ impl Level {
         }
     }
 
-    /// Adds a byte with no bound.
-    pub(crate) fn add_letter(&mut self, byte: u8) -> Result<(), AllocError>
+    /// Adds a byte that may be joined with those before it.
+    fn add_letter(&mut self, byte: u8) -> Result<(), AllocError>
         ensures { OnOk result (level_view self.new ≡ with_letter byte (level_view self.old)) }
     {
         self.last = Last::Part;
         self.run.push(byte)?;
         Ok(())
+    }
+
+    /// Adds a byte with no bound. With `fold` a letter stands for both its cases.
+    pub(crate) fn add_byte(&mut self, alloc: Global, byte: u8, fold: bool) -> Result<(), AllocError>
+        ensures { OnOk result (level_view self.new ≡ with_item fold (atoms.byte byte) None (level_view self.old)) }
+    {
+        if is_folded(fold, byte) {
+            self.add_part(alloc, Ere::Set(letter(byte)))
+        } else {
+            self.add_letter(byte)
+        }
     }
 
     /// Makes the bytes that wait a part.

@@ -5,10 +5,12 @@
 mod bound;
 mod bracket;
 mod byte_set;
+mod case;
 mod classes;
 mod copy;
 mod ere;
 mod fault;
+mod folded;
 mod front;
 mod hit;
 mod laws;

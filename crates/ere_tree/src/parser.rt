@@ -11,6 +11,7 @@ ghost use Rattle.ere_tree.specs.TokenView.{atom_view, token_view};
 ghost use Rattle.ere_tree.specs.View.{view};
 
 use crate::bound::Bound;
+use crate::case::{is_folded, letter};
 use crate::ere::{ByteRun, Ere};
 use crate::fault::{EreFail, EreFault, EreKind};
 use crate::front::behind;
@@ -38,12 +39,13 @@ fn atom_ere(alloc: Global, atom: Atom, fold: bool) -> Result<Ere, AllocError>
     ensures { IfOk result (λ ere. view ere ≡ atom_tree fold (atom_view atom)) }
 {
     match atom {
+        Atom::Byte(byte) if is_folded(fold, byte) => Ok(Ere::Set(letter(byte))),
         Atom::Byte(byte) => {
             let mut bytes = Vec::new(alloc);
             bytes.push(byte)?;
             Ok(Ere::Plain(ByteRun::from_vec(bytes)))
         }
-        Atom::OneOf(set) => Ok(Ere::Set(set)),
+        Atom::OneOf(bracket) => Ok(Ere::Set(bracket.bytes(fold))),
         Atom::SameAs(number) => Ok(Ere::Ref { number, fold }),
     }
 }
@@ -121,7 +123,7 @@ impl Reader {
         ensures { OnOk result (state self.new ≡ item_taken fold (atom_view atom) bound (state self.old)) }
     {
         match (atom, bound) {
-            (Atom::Byte(byte), None) => self.inner.add_letter(byte),
+            (Atom::Byte(byte), None) => self.inner.add_byte(alloc, byte, fold),
             (atom, bound) => {
                 let ere = repeat(alloc, atom_ere(alloc, atom, fold)?, bound)?;
                 self.inner.add_part(alloc, ere)
@@ -257,15 +259,15 @@ fn read_text(alloc: Global, bytes: &[u8], fold: bool) -> Result<Ere, EreFail>
     }
 }
 
-/// Reads a text as an expression. `fold` goes into each reference. An expression with more than `u32::MAX`
+/// Reads a text as an expression. With `fold` its letters match in either case. An expression with more than `u32::MAX`
 /// groups is answered as one that memory doesn't hold.
 pub fn parse(alloc: Global, bytes: &[u8], fold: bool) -> Result<Ere, EreFail>
     // The tree of the text, or its first fault.
     ensures exact { Reads result (reading fold bytes.now) }
     // What is read is in the grammar.
-    ensures found { IfOk result (λ ere. IsEre fold bytes.now (view ere) × (size_of (view ere) ≤ MAX_SIZE)) }
+    ensures found { IfOk result (λ ere. IsEre fold bytes.now (view ere) × (size_of (view ere) ≤ 100000)) }
     // What is in the grammar is read, unless memory runs out.
-    ensures only { (t : Tree) → IsEre fold bytes.now t → size_of t ≤ MAX_SIZE → Reads result (Ok t) }
+    ensures only { (t : Tree) → IsEre fold bytes.now t → size_of t ≤ 100000 → Reads result (Ok t) }
 {
     read_text(alloc, bytes, fold)
 }

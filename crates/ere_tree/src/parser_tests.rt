@@ -69,9 +69,9 @@ fn show_all(alloc: Global, name: &str, list: &EreList, out: &mut String) -> Resu
 }
 
 /// The tree of a text, or its fault.
-fn told(alloc: Global, text: &[u8]) -> Result<String, Fail> {
+fn told(alloc: Global, text: &[u8], fold: bool) -> Result<String, Fail> {
     let mut out = String::new(alloc);
-    match parse(alloc, text, false) {
+    match parse(alloc, text, fold) {
         Ok(ere) => show(alloc, &ere, &mut out)?,
         Err(EreFail::Bad(EreFault { at, kind })) => {
             out.push_str(format!(in alloc; "{kind:?} {at}")?.as_str())?;
@@ -160,17 +160,19 @@ a[b => UnclosedBracket 1
 [a-[:digit:]] => BadRange 1
 [a--] => BadRange 1
 [b[:word:]] => UnknownClass 2
+[a-[:w:]] => BadRange 1
+[[:w:]-z] => BadRange 1
 [[::]] => UnknownClass 1
 [a-[=a=]] => UnsupportedBracket 3
 (a{248}){250}(b{248}){149}c{247}d => TooLarge 0
 ((a{255}){255}){255} => TooLarge 0
 ((a{255}){255}){255}( => UnclosedGroup 20";
 
-fn check_lines(rt: &impl Abort, alloc: Global, lines: &str) -> Result<(), Fail> {
+fn check_lines(rt: &impl Abort, alloc: Global, lines: &str, fold: bool) -> Result<(), Fail> {
     for line in lines.lines() {
         let (text, wanted) = line.split_once(" => ").ok_or("a line without an arrow")?;
         assert_eq!(rt;
-            told(alloc, text.as_bytes())?.as_str(),
+            told(alloc, text.as_bytes(), fold)?.as_str(),
             wanted,
             "of {text:?}"
         );
@@ -178,27 +180,101 @@ fn check_lines(rt: &impl Abort, alloc: Global, lines: &str) -> Result<(), Fail> 
     Ok(())
 }
 
+/// A text and its tree where letters match in either case in each line.
+const READ_IN_EITHER_CASE: &str = "a => [Aa]
+1a2 => cat( 1 [Aa] 2 )
+12 => 12
+\\a* => 0-None([Aa])
+[a-c]1 => cat( [ABCabc] 1 )
+[[:lower:]-] => [53]
+[^a] => [253]
+.z => cat( [255] [Zz] )
+(b)\\1 => cat( #1([Bb]) ref 1 true )
+@[@[`{]{ => cat( @ [@[`{] { )
+a{2,1} => BadBound 1";
+
 #[test]
 fn texts_are_read_as_their_trees(rt: HostRuntime) -> Result<(), Fail> {
-    check_lines(&rt, rt.alloc(), READ)
+    check_lines(&rt, rt.alloc(), READ, false)
+}
+
+#[test]
+fn letters_are_read_in_either_case(rt: HostRuntime) -> Result<(), Fail> {
+    check_lines(&rt, rt.alloc(), READ_IN_EITHER_CASE, true)
+}
+
+/// The tree of a text, changed so that letters match in either case.
+fn folded(alloc: Global, text: &str) -> Result<String, Fail> {
+    let ere = parse(alloc, text.as_bytes(), false)
+        .ok()
+        .ok_or("an expression")?;
+    let mut out = String::new(alloc);
+    show(alloc, &ere.folded(alloc)?, &mut out)?;
+    Ok(out)
+}
+
+#[test]
+fn an_expression_is_changed_to_either_case(rt: HostRuntime) -> Result<(), Fail> {
+    let cases = [
+        ("a", "[Aa]"),
+        ("ab-1", "cat( [Aa] [Bb] -1 )"),
+        ("12", "12"),
+        (
+            "^[a-c]|(Z)*$",
+            "alt( cat( ^ [ABCabc] ) cat( 0-None(#1([Zz])) $ ) )",
+        ),
+        ("[^a]", "[255]"),
+        ("(a)\\1", "cat( #1([Aa]) ref 1 true )"),
+        ("()", "#1(empty)"),
+    ];
+    for (text, wanted) in cases {
+        assert_eq!(rt; folded(rt.alloc(), text)?.as_str(), wanted, "of {text:?}");
+    }
+    Ok(())
+}
+
+/// So many copies of a piece of text.
+fn repeated(alloc: Global, piece: &str, count: usize) -> Result<String, Fail> {
+    let mut text = String::new(alloc);
+    for _ in 0..count {
+        text.push_str(piece)?;
+    }
+    Ok(text)
+}
+
+#[test]
+fn long_expressions_are_read(rt: HostRuntime) -> Result<(), Fail> {
+    let alloc = rt.alloc();
+    let groups = parse(alloc, repeated(alloc, "(a)", 1_000)?.as_bytes(), false);
+    assert_eq!(rt; groups.ok().ok_or("groups")?.groups(), 1_000);
+    let parts = parse(alloc, repeated(alloc, "a*", 2_000)?.as_bytes(), true);
+    assert_eq!(rt; parts.ok().ok_or("parts")?.size(), 4_000);
+    let mut text = repeated(alloc, "ab|", 2_000)?;
+    text.push('c')?;
+    let branches = parse(alloc, text.as_bytes(), false);
+    assert_eq!(rt; branches.ok().ok_or("branches")?.size(), 4_002);
+    Ok(())
 }
 
 #[test]
 fn the_first_fault_is_told_with_its_place(rt: HostRuntime) -> Result<(), Fail> {
-    check_lines(&rt, rt.alloc(), REFUSED)
+    check_lines(&rt, rt.alloc(), REFUSED, false)
 }
 
 #[test]
 fn hostile_texts_are_answered(rt: HostRuntime) -> Result<(), Fail> {
     let alloc = rt.alloc();
     let opens = vec![in alloc; b'('; 100_000]?;
-    assert_eq!(rt; told(alloc, &opens)?.as_str(), "TooDeep 250");
+    assert_eq!(rt; told(alloc, &opens, false)?.as_str(), "TooDeep 250");
     let mut nested = vec![in alloc; b'('; 250]?;
     nested.push(b'a')?;
     nested.extend_from_slice(&vec![in alloc; b')'; 250]?)?;
     assert!(rt; parse(alloc, &nested, false).is_ok());
     let brackets = vec![in alloc; b'['; 65_536]?;
-    assert_eq!(rt; told(alloc, &brackets)?.as_str(), "UnclosedBracket 0");
+    assert_eq!(rt;
+        told(alloc, &brackets, false)?.as_str(),
+        "UnclosedBracket 0"
+    );
     for first in 0..=255 {
         for second in 0..=255 {
             let _one = parse(alloc, &[first], false);

@@ -1,11 +1,12 @@
 //! An expression byte by byte: its tokens.
-ghost use Rattle.std.specs.Prelude.{◌≡◌, ◌≤◌, ◌<◌, ◌+◌, IfOk, IfErr, is_some, if◌then◌else◌, length};
+ghost use Rattle.std.specs.Prelude.{◌≡◌, true, [], ◌≤◌, ◌<◌, ◌+◌, IfOk, IfErr, is_some, if◌then◌else◌, length};
 ghost use Rattle.ere_tree.specs.Bracket.{bracket};
 ghost use Rattle.ere_tree.specs.Token.{bound_refusal, bound_behind, with_bound, item, escaped, escape_at, bracket_item, atom_at, token};
 ghost use Rattle.ere_tree.specs.TokenView.{atom_view, token_view, as_token};
+ghost use Rattle.ere_tree.specs.View.{members_of};
 
 use crate::bound::{Bound, bound_begins, find_bound};
-use crate::bracket::bracket_at;
+use crate::bracket::{Bracket, bracket_at};
 use crate::byte_set::ByteSet;
 use crate::fault::{EreFault, EreKind};
 use crate::front::{begins, behind};
@@ -14,7 +15,7 @@ use crate::front::{begins, behind};
 #[derive(Clone, Copy, Debug, PartialEq, Eq)]
 pub(crate) enum Atom {
     Byte(u8),
-    OneOf(ByteSet),
+    OneOf(Bracket),
     SameAs(u32),
 }
 
@@ -92,12 +93,24 @@ fn bracketed_at(text: &[u8]) -> Result<(Token, usize), EreFault>
     ensures place { IfErr result (λ fault. fault.at < length text.now) }
 {
     match bracket_at(text) {
-        Ok((set, count)) => Ok(item_of(Atom::OneOf(set), text, count)),
+        Ok((bracket, count)) => Ok(item_of(Atom::OneOf(bracket), text, count)),
         Err(fault) => Err(fault),
     }
 }
 
-#[tactic(auto, using(crate::proofs::SetLemmas::bytes_passing_agree), unfolding(crate::specs::Token::atom_at))]
+/// The bracket that a `.` stands for.
+#[tactic(auto, using(crate::proofs::CaseLemmas::none_of_bits))]
+fn any_but_newline() -> Bracket
+    ensures negated { result.negated ≡ true }
+    ensures members { members_of result.members.bits ≡ [] }
+{
+    Bracket {
+        negated: true,
+        members: ByteSet::empty(),
+    }
+}
+
+#[tactic(auto, unfolding(crate::specs::Token::atom_at))]
 fn atom_item(text: &[u8]) -> Result<(Token, usize), EreFault>
     requires { 0 < length text.now }
     ensures exact { as_token result ≡ atom_at text.now }
@@ -106,7 +119,7 @@ fn atom_item(text: &[u8]) -> Result<(Token, usize), EreFault>
     ensures place { IfErr result (λ fault. fault.at < length text.now) }
 {
     if begins(text, b'.') {
-        Ok(item_of(Atom::OneOf(ByteSet::all_but_newline()), text, 1))
+        Ok(item_of(Atom::OneOf(any_but_newline()), text, 1))
     } else if begins(text, b'[') {
         bracketed_at(text)
     } else if begins(text, b'\\') {

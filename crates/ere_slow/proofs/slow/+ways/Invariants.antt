@@ -1,8 +1,8 @@
 use Rattle.std.proofs.Common.{◌≡◌, ◌++◌, ◌-◌, map, take, drop}
 use Rattle.ere_tree.specs.Tree.{trees_of}
-use Rattle.ere_tree.specs.View.{view}
+use Rattle.ere_tree.specs.View.{view, trees_in}
 use Rattle.ere_slow.specs.WayView.{captures_of}
-use Rattle.ere_slow.specs.Listing.{found_of, begun_of, trees_in, all_ways, all_rows, alternatives, go_on, begin, required, at_most}
+use Rattle.ere_slow.specs.Listing.{found_of, begun_of, all_ways, all_rows, alternatives, go_on, begin, required, at_most}
 use Rattle.ere_slow.proofs.slow.+ways.Given as goal
 
 abbrev pub invariant-go_on-loop-row : goal.invariant-go_on-loop-row
@@ -13,19 +13,19 @@ invariant-go_on-loop-row l =
 abbrev pub invariant-rows_of_parts-loop-part : goal.invariant-rows_of_parts-loop-part
 invariant-rows_of_parts-loop-part l =
     all_rows l.text (trees_of (map view (drop l.part-index l.part-items))) (map begun_of l.rows.items)
-    ≡ all_rows l.text (trees_in l.all) (begin l.from (captures_of l.captures))
+    ≡ all_rows l.text (trees_in l.all) (begin l.text l.from (captures_of l.captures))
 
 abbrev pub invariant-rows_of_members-loop : goal.invariant-rows_of_members-loop
 invariant-rows_of_members-loop l =
     required (all_ways l.text (view l.inner)) (l.least - l.counter) (map begun_of l.rows.items)
-    ≡ required (all_ways l.text (view l.inner)) l.least (begin l.from (captures_of l.captures))
+    ≡ required (all_ways l.text (view l.inner)) l.least (begin l.text l.from (captures_of l.captures))
 
 abbrev pub invariant-rows_of_members-loop-2 : goal.invariant-rows_of_members-loop-2
 invariant-rows_of_members-loop-2 l =
     map begun_of l.all.items ++ at_most (all_ways l.text (view l.inner)) (l.more - l.counter)
     (map begun_of l.rows.items)
     ≡ at_most (all_ways l.text (view l.inner)) l.more
-    (required (all_ways l.text (view l.inner)) l.least (begin l.from (captures_of l.captures)))
+    (required (all_ways l.text (view l.inner)) l.least (begin l.text l.from (captures_of l.captures)))
 
 abbrev pub invariant-ways_of_alternatives-loop-index : goal.invariant-ways_of_alternatives-loop-index
 invariant-ways_of_alternatives-loop-index l =

@@ -6,8 +6,8 @@ use Rattle.ere_tree.proofs.bracket.members_at.Given as goal
 abbrev pub invariant-loop-at : goal.invariant-loop-at
 invariant-loop-at l = record {
   within : l.at ≤ length l.text;
-  rest : members l.negated (has_bit l.set.bits) l.first l.at 0 (drop l.at l.text)
-      ≡ members l.negated (λ _. false) true l.start 0 (drop l.start l.text);
+  rest : members (has_bit l.set.bits) l.first l.at 0 (drop l.at l.text)
+      ≡ members (λ _. false) true l.start 0 (drop l.start l.text);
 }
 
 abbrev pub decreases-loop-at : goal.decreases-loop-at

@@ -1,3 +1,6 @@
+-- The parser's loop: what was read, and what is said behind it, is what the whole text says.
+-- Each token either is no token, or may not stand here, or is taken; at the end nothing is left.
+-- `loop-at-preserved` is the step behind a token that is taken.
 use Rattle.std.proofs.Common.{◌≡◌, ◌≤◌, ◌+◌, Ok, length, drop, sym, ap, ◌∙◌, arith, length-drop}
 use Rattle.std.proofs.lemmas.List.{drop-drop}
 use Rattle.ere_tree.specs.Levels.{state, taken}

@@ -1,0 +1,10 @@
+pub mod ClosureLemmas
+pub mod EdgeLemmas
+pub mod KeptLemmas
+pub mod ListLemmas
+pub mod MarksLemmas
+pub mod MoveLemmas
+pub mod SeenLemmas
+pub mod SlotLemmas
+pub mod StepLemmas
+pub mod ThreadsLemmas

@@ -1,0 +1,11 @@
+pub mod Closing
+pub mod Closure
+pub mod Kept
+pub mod KeptView
+pub mod Marks
+pub mod Moved
+pub mod Seen
+pub mod Span
+pub mod State
+pub mod Step
+pub mod Threads

@@ -1,0 +1,129 @@
+-- What an automaton has seen, and what it knows of it.
+-- Own rule: it is told a slice byte by byte, and has to be right for every slice that begins as it was told.
+use Rattle.std.specs.Prelude.{◌≡◌, ℕ, ◌+◌, ◌<◌, ◌≤◌, ◌==◌, ◌&&◌, Bool, true, List, [], ◌++◌, Option, Some, None, length, slice_index, slice_set, is_none}
+use Rattle.ere_tree.specs.Tree.{Tree}
+use Rattle.ere_tree.specs.Derivation.{is_line_start}
+use Rattle.ere_tree.specs.declared.hit.Cap.{Cap}
+use Rattle.ere_table.specs.Node.{node_at}
+use Rattle.ere_table.specs.Path.{Leads, LeadsAs}
+use Rattle.ere_auto.specs.Span.{IsFirstLongest, IsSpan}
+use Rattle.ere_auto.specs.Step.{StandsAt, IsStep}
+use Rattle.ere_auto.specs.Kept.{Kept, AreSteps}
+use Rattle.ere_auto.specs.declared.thread.Thread.{Thread}
+use Rattle.ere_table.specs.declared.node.Node as code
+
+-- what an automaton holds
+pub record State : Type 0 where
+  pub nodes : List code.Node  -- its table
+  pub entry : ℕ
+  pub begin : ℕ  -- no start before this place counts
+  pub at : ℕ  -- how many bytes were shown
+  pub best : Option Cap  -- the span so far
+  pub starts : List ℕ  -- the starts in their slots
+  pub threads : List Thread
+  pub line : Bool  -- whether a line starts here
+  pub searching : Bool  -- whether no match is known
+  pub kept : Kept  -- the steps that were made so far
+
+-- the automaton is that of this expression
+pub record IsFor (a : State) (t : Tree) : Type 0 where
+  pub leads : LeadsAs a.nodes a.entry t
+  pub steps : AreSteps (node_at a.nodes) a.entry a.kept
+
+-- the start of a span
+abbrev pub start_of : Option Cap → Option ℕ
+start_of None = None
+start_of (Some cap) = Some cap.from
+
+-- the table leads from its entry at h to the stop at j
+abbrev pub Matches : State → List ℕ → ℕ → ℕ → Type 0
+Matches a s h j = Leads s (node_at a.nodes) a.entry h 0 j
+
+-- of the matches that end before the place n, the span is that of the leftmost, and the longest of it
+abbrev pub FoundBefore : (ℕ → ℕ → Type 0) → ℕ → ℕ → Option Cap → Type 0
+FoundBefore R begin n None = (h j : ℕ) → begin ≤ h → j < n → R h j → ⊥
+FoundBefore R begin n (Some cap) = IsFirstLongest (λ h j. (j < n) × R h j) begin cap.from cap.to
+
+-- The automaton stands in this slice where it was told.
+pub record StandsIn (a : State) (s : List ℕ) : Type 0 where
+  pub stands : StandsAt s (node_at a.nodes) a.entry a.begin a.at (start_of a.best) (slice_index a.starts) a.threads
+  pub found : FoundBefore (Matches a s) a.begin a.at a.best
+  pub line : is_line_start s a.at ≡ a.line
+  pub sought : a.searching ≡ is_none a.best
+
+-- The automaton of this expression was shown these bytes, from the slice's start on.
+pub record HasSeen (a : State) (t : Tree) (front : List ℕ) : Type 0 where
+  pub expression : IsFor a t
+  pub all : a.at ≡ length front
+  pub stands : (rest : List ℕ) → StandsIn a (front ++ rest)
+
+-- The automaton of this expression has the span in the whole slice s, and it ends among the bytes that were shown.
+pub record HasFound (a : State) (t : Tree) (s : List ℕ) : Type 0 where
+  pub expression : IsFor a t
+  pub span : IsSpan s t a.begin a.best
+  pub within : (cap : Cap) → a.best ≡ Some cap → cap.to ≤ a.at
+
+-- STEPS
+
+abbrev pub starts_behind : List ℕ → Option ℕ → ℕ → List ℕ
+starts_behind starts None n = starts
+starts_behind starts (Some slot) n = slice_set starts slot n
+
+abbrev pub best_behind : Option Cap → List ℕ → Option ℕ → ℕ → Option Cap
+best_behind best starts None n = best
+best_behind best starts (Some slot) n = Some (record { from = slice_index starts slot; to = n })
+
+-- The second state is that behind a byte, as far as the threads go.
+pub record Turns (a b : State) (byte : ℕ) (begun met : Option ℕ) : Type 0 where
+  pub step : IsStep (node_at a.nodes) a.entry a.threads b.threads a.line a.searching (Some byte) begun met
+  pub line : b.line ≡ (byte == 10)
+  pub searching : b.searching ≡ (a.searching && is_none met)
+  pub steps : AreSteps (node_at a.nodes) a.entry b.kept
+
+-- The second state is that behind a byte.
+pub record GoesTo (a b : State) (byte : ℕ) (begun met : Option ℕ) : Type 0 where
+  pub turns : Turns a b byte begun met
+  pub inside : (slot : ℕ) → begun ≡ Some slot → slot < length a.starts
+  pub starts : b.starts ≡ starts_behind a.starts begun a.at
+  pub best : b.best ≡ best_behind a.best b.starts met a.at
+  pub nodes : b.nodes ≡ a.nodes
+  pub entry : b.entry ≡ a.entry
+  pub begin : b.begin ≡ a.begin
+  pub at : b.at ≡ a.at + 1
+
+-- The second state is that at the slice's end.
+pub record EndsIn (a b : State) (begun met : Option ℕ) : Type 0 where
+  pub threads : List Thread
+  pub step : IsStep (node_at a.nodes) a.entry a.threads threads a.line a.searching None begun met
+  pub inside : (slot : ℕ) → begun ≡ Some slot → slot < length a.starts
+  pub starts : b.starts ≡ starts_behind a.starts begun a.at
+  pub best : b.best ≡ best_behind a.best b.starts met a.at
+  pub nodes : b.nodes ≡ a.nodes
+  pub entry : b.entry ≡ a.entry
+  pub begin : b.begin ≡ a.begin
+  pub at : b.at ≡ a.at
+  pub kept : b.kept ≡ a.kept
+
+-- The second state is that behind a byte at which no start counts yet.
+pub record Waits (a b : State) (byte : ℕ) : Type 0 where
+  pub line : b.line ≡ (byte == 10)
+  pub searching : b.searching ≡ true
+  pub threads : b.threads ≡ []
+  pub at : b.at ≡ a.at + 1
+  pub nodes : b.nodes ≡ a.nodes
+  pub entry : b.entry ≡ a.entry
+  pub begin : b.begin ≡ a.begin
+  pub best : b.best ≡ a.best
+  pub starts : b.starts ≡ a.starts
+  pub kept : b.kept ≡ a.kept
+
+-- The second state is that at a slice's start.
+pub record Fresh (a b : State) : Type 0 where
+  pub line : b.line ≡ true
+  pub searching : b.searching ≡ true
+  pub threads : b.threads ≡ []
+  pub at : b.at ≡ 0
+  pub best : b.best ≡ None
+  pub nodes : b.nodes ≡ a.nodes
+  pub entry : b.entry ≡ a.entry
+  pub kept : b.kept ≡ a.kept

@@ -1,0 +1,19 @@
+-- What a value of the type `Auto` holds.
+use Rattle.ere_auto.specs.Kept.{row_in, threads_of}
+use Rattle.ere_auto.specs.KeptView.{kept_of}
+use Rattle.ere_auto.specs.Seen.{State}
+use Rattle.ere_auto.specs.declared.auto.Auto.{Auto}
+
+abbrev pub state_of : Auto → State
+state_of a = record {
+  nodes = a.table.nodes.items;
+  entry = a.table.entry;
+  begin = a.begin;
+  at = a.at;
+  best = a.best;
+  starts = a.starts.items;
+  threads = threads_of (kept_of a.rows) a.row;
+  line = (row_in a.rows.rows.items a.row).line;
+  searching = (row_in a.rows.rows.items a.row).searching;
+  kept = kept_of a.rows;
+}

@@ -1,0 +1,346 @@
+//! The automaton.
+ghost use Rattle.std.specs.Prelude.{◌≡◌, ℕ, ◌+◌, ◌<◌, ◌≤◌, ◌++◌, ◌∷◌, ◌↔◌, ◌&&◌, is_none, [], true, false, List, IsSome, IfOk, IfSome, IfNone, MatchOption, Some, length, vec_len, vec_capacity, slice_index};
+ghost use Rattle.ere_tree.specs.Shape.{has_refs};
+ghost use Rattle.ere_tree.specs.Tree.{Tree};
+ghost use Rattle.ere_tree.specs.View.{view};
+ghost use Rattle.ere_auto.specs.Kept.{row_in, threads_of, slot_or_zero};
+ghost use Rattle.ere_auto.specs.KeptView.{kept_of};
+ghost use Rattle.ere_auto.specs.Closure.{origin_in};
+ghost use Rattle.ere_auto.specs.Step.{IsStep};
+ghost use Rattle.ere_table.specs.Node.{node_at};
+ghost use Rattle.ere_auto.specs.Span.{IsSpan};
+ghost use Rattle.ere_auto.specs.Seen.{IsFor, HasSeen, HasFound, GoesTo, Turns, EndsIn, Waits, Fresh, starts_behind, best_behind};
+
+use crate::marks::Marks;
+use crate::rows::Rows;
+use crate::step::{Note, step};
+use crate::steps::Steps;
+use crate::thread::Thread;
+use crate::threads::Threads;
+use ere_table::Table;
+use ere_tree::{Cap, Ere};
+use std::alloc::Global;
+use std::sync::ledger::Ledger;
+use tt_base::NoMemory;
+
+/// The automaton of an expression without references. It is shown the bytes of a slice, and then knows the span.
+#[derive(Drop)]
+pub struct Auto {
+    table: Table,
+    rows: Rows,
+    seeds: Vec<Thread>,
+    reached: Threads,
+    moved: Threads,
+    slots: Marks,
+    starts: Vec<usize>,
+    best: Option<Cap>,
+    at: usize,
+    begin: usize,
+    row: usize,
+    ghost nodes: { rows.nodes ≡ vec_len table.nodes },
+    ghost seed_room: { vec_len table.nodes < vec_capacity seeds },
+    ghost reached_nodes: { length reached.marks ≡ vec_len table.nodes },
+    ghost moved_nodes: { length moved.marks ≡ vec_len table.nodes },
+    ghost room: { length slots ≡ vec_len table.nodes + 1 },
+    ghost slot_room: { vec_len starts ≡ vec_len table.nodes + 1 },
+    ghost in_rows: { row < vec_len rows.rows },
+}
+
+/// The starts with the one that began.
+#[inline(always)]
+fn put_start(starts: &mut Vec<usize>, begun: Option<usize>, at: usize)
+    requires { slot_or_zero begun < vec_len starts.old }
+    ensures starts { starts.new.items ≡ starts_behind starts.old.items begun at }
+    ensures len { vec_len starts.new ≡ vec_len starts.old }
+{
+    if let Some(slot) = begun {
+        starts[slot] = at;
+    }
+}
+
+/// The span with the one that was met.
+#[inline(always)]
+fn put_best(best: &mut Option<Cap>, starts: &Vec<usize>, met: Option<usize>, at: usize)
+    requires { slot_or_zero met < vec_len starts.now }
+    ensures { best.new ≡ best_behind best.old starts.now.items met at }
+{
+    if let Some(slot) = met {
+        *best = Some(Cap {
+            from: starts[slot],
+            to: at,
+        });
+    }
+}
+
+/// The threads, for which there is room, in place of those that were there.
+fn load(seeds: &mut Vec<Thread>, threads: &[Thread])
+    requires { length threads.now ≤ vec_capacity seeds.old }
+    ensures items { seeds.new.items ≡ threads.now }
+    ensures len { vec_len seeds.new ≡ length threads.now }
+    ensures capacity { vec_capacity seeds.old ≤ vec_capacity seeds.new }
+{
+    seeds.clear();
+    let _ = seeds.extend_from_slice(threads);
+}
+
+impl Auto {
+    ghost use Rattle.ere_auto.specs.State.{state_of};
+
+    /// The automaton of an expression. All room for searches is taken here.
+    pub fn build(alloc: Global, ere: &Ere) -> Result<Auto, NoMemory>
+        requires { has_refs (view ere.now) ≡ false }
+        ensures fresh { IfOk result (λ made. HasSeen (state_of made) (view ere.now) []) }
+        ensures begin { IfOk result (λ made. made.begin ≡ 0) }
+    {
+        let Ok(table) = Table::build(alloc, ere) else {
+            return Err(NoMemory);
+        };
+        let nodes = table.nodes.len();
+        let Ok(rows) = Rows::new(alloc, nodes) else {
+            return Err(NoMemory);
+        };
+        let Ok(seeds) = Vec::with_capacity(alloc, nodes + 1) else {
+            return Err(NoMemory);
+        };
+        let Ok(reached) = Threads::new(alloc, nodes) else {
+            return Err(NoMemory);
+        };
+        let Ok(moved) = Threads::new(alloc, nodes) else {
+            return Err(NoMemory);
+        };
+        let Ok(slots) = Marks::new(alloc, nodes + 1) else {
+            return Err(NoMemory);
+        };
+        let Ok(starts) = vec![in alloc; 0usize; nodes + 1] else {
+            return Err(NoMemory);
+        };
+        Ok(Auto {
+            table,
+            rows,
+            seeds,
+            reached,
+            moved,
+            slots,
+            starts,
+            best: None,
+            at: 0,
+            begin: 0,
+            row: 0,
+        })
+    }
+
+    /// Begins anew with a slice of which nothing was shown. No start before the place will count.
+    pub fn begin_at(&mut self, place: usize)
+        ensures fresh { (t : Tree) → IsFor (state_of self.old) t → HasSeen (state_of self.new) t [] }
+        ensures begin { self.new.begin ≡ place }
+    {
+        self.restart();
+        self.begin = place;
+    }
+
+    /// The state at a slice's start.
+    fn restart(&mut self)
+        ensures { Fresh (state_of self.old) (state_of self.new) }
+    {
+        self.row = 0;
+        self.at = 0;
+        self.best = None;
+    }
+
+    /// Begins anew with a slice of which nothing was shown. What was made for earlier ones is kept.
+    pub fn again(&mut self)
+        ensures fresh { (t : Tree) → IsFor (state_of self.old) t → HasSeen (state_of self.new) t [] }
+        ensures begin { self.new.begin ≡ 0 }
+    {
+        self.begin_at(0);
+    }
+
+    /// Whether the bytes that come next are not looked at.
+    #[inline(always)]
+    pub fn waits(&self) -> bool
+        ensures { result ≡ true ↔ (self.now.at < self.now.begin) }
+    {
+        self.at < self.begin
+    }
+
+    /// The step from the threads of the row. `moved` gets those behind it.
+    fn step(&mut self, next: Option<u8>) -> Note
+        ensures step { IsStep (node_at self.old.table.nodes.items) self.old.table.entry
+            (threads_of (kept_of self.old.rows) self.old.row) self.new.moved.held.items
+            (row_in self.old.rows.rows.items self.old.row).line
+            (row_in self.old.rows.rows.items self.old.row).searching next result.begun result.met }
+        ensures begun { slot_or_zero result.begun ≤ vec_len self.old.table.nodes }
+        ensures met { slot_or_zero result.met ≤ vec_len self.old.table.nodes }
+        ensures origins { (x : ℕ) → x < length self.new.moved.held.items →
+            origin_in self.new.moved.held.items x ≤ vec_len self.old.table.nodes }
+        ensures table { self.new.table ≡ self.old.table }
+        ensures rows { self.new.rows ≡ self.old.rows }
+        ensures starts { self.new.starts ≡ self.old.starts }
+        ensures best { self.new.best ≡ self.old.best }
+        ensures place { (self.new.at ≡ self.old.at) × (self.new.begin ≡ self.old.begin) }
+        ensures row { self.new.row ≡ self.old.row }
+    {
+        load(&mut self.seeds, self.rows.threads(self.row));
+        let row = self.rows.row(self.row);
+        step(
+            &self.table,
+            &mut self.seeds,
+            &mut self.slots,
+            &mut self.reached,
+            &mut self.moved,
+            row.line,
+            row.searching,
+            next,
+        )
+    }
+
+    /// Goes from the row to the one behind a byte, by a step where that isn't known.
+    #[inline(always)]
+    fn turn(&mut self, byte: u8)
+        ensures turns { (t : Tree) → IsFor (state_of self.old) t → Turns (state_of self.old) (state_of self.new) byte
+            (row_in self.new.rows.rows.items self.new.row).begun (row_in self.new.rows.rows.items self.new.row).met }
+        ensures table { self.new.table ≡ self.old.table }
+        ensures starts { self.new.starts ≡ self.old.starts }
+        ensures best { self.new.best ≡ self.old.best }
+        ensures place { (self.new.at ≡ self.old.at) × (self.new.begin ≡ self.old.begin) }
+    {
+        let known = self.rows.cell(self.row, byte);
+        if known == 0 {
+            self.miss(byte);
+        } else {
+            self.row = known;
+        }
+    }
+
+    /// Makes the step from the row by a byte, and keeps it.
+    #[inline(never)]
+    fn miss(&mut self, byte: u8)
+        ensures turns { (t : Tree) → IsFor (state_of self.old) t → Turns (state_of self.old) (state_of self.new) byte
+            (row_in self.new.rows.rows.items self.new.row).begun (row_in self.new.rows.rows.items self.new.row).met }
+        ensures table { self.new.table ≡ self.old.table }
+        ensures starts { self.new.starts ≡ self.old.starts }
+        ensures best { self.new.best ≡ self.old.best }
+        ensures place { (self.new.at ≡ self.old.at) × (self.new.begin ≡ self.old.begin) }
+    {
+        let row = self.rows.row(self.row);
+        let note = self.step(Some(byte));
+        let searching = seeks(row.searching, note.met);
+        let entered = self.rows.enter(
+            self.moved.held.as_slice(),
+            byte == b'\n',
+            searching,
+            note.begun,
+            note.met,
+        );
+        self.rows.learn(self.row, byte, entered);
+        self.row = entered.row;
+    }
+
+    /// Shows a byte before the place at which a start counts.
+    #[inline(always)]
+    fn wait(&mut self, byte: u8)
+        requires { self.old.at < usize.MAX }
+        ensures { Waits (state_of self.old) (state_of self.new) byte }
+    {
+        self.at += 1;
+        self.row = if byte == b'\n' { 0 } else { 1 };
+    }
+
+    /// Shows a byte.
+    #[inline(always)]
+    fn show(&mut self, byte: u8) -> bool
+        requires { self.old.at < usize.MAX }
+        ensures seen { (t : Tree) (front : List ℕ) → HasSeen (state_of self.old) t front →
+            HasSeen (state_of self.new) t (front ++ byte ∷ []) }
+        ensures known { result ≡ false → (t : Tree) (front rest : List ℕ) → HasSeen (state_of self.old) t front →
+            HasFound (state_of self.new) t (front ++ byte ∷ rest) × IsSome self.new.best }
+        ensures begin { self.new.begin ≡ self.old.begin }
+        ensures shown { self.new.at ≡ self.old.at + 1 }
+    {
+        if self.at < self.begin {
+            self.wait(byte);
+            return true;
+        }
+        self.go(byte);
+        !self.rows.row(self.row).over
+    }
+
+    /// The state behind a byte.
+    #[inline(always)]
+    fn go(&mut self, byte: u8)
+        requires { self.old.at < usize.MAX }
+        ensures goes { (t : Tree) → IsFor (state_of self.old) t → GoesTo (state_of self.old) (state_of self.new) byte
+            (row_in self.new.rows.rows.items self.new.row).begun (row_in self.new.rows.rows.items self.new.row).met }
+        ensures begin { self.new.begin ≡ self.old.begin }
+        ensures shown { self.new.at ≡ self.old.at + 1 }
+    {
+        self.turn(byte);
+        let row = self.rows.row(self.row);
+        put_start(&mut self.starts, row.begun, self.at);
+        put_best(&mut self.best, &self.starts, row.met, self.at);
+        self.at += 1;
+    }
+
+    /// The state at the slice's end.
+    fn end(&mut self) -> Note
+        ensures { EndsIn (state_of self.old) (state_of self.new) result.begun result.met }
+    {
+        let note = self.step(None);
+        put_start(&mut self.starts, note.begun, self.at);
+        put_best(&mut self.best, &self.starts, note.met, self.at);
+        note
+    }
+
+    /// Shows the slice's end.
+    fn finish(&mut self)
+        ensures ended { (t : Tree) (front : List ℕ) → HasSeen (state_of self.old) t front →
+            HasFound (state_of self.new) t front }
+        ensures begin { self.new.begin ≡ self.old.begin }
+        ensures shown { self.new.at ≡ self.old.at }
+    {
+        if self.begin <= self.at {
+            let _note = self.end();
+        }
+    }
+
+    /// Shows the next byte, or None for the slice's end, and counts it. False tells that the span is known.
+    #[inline(always)]
+    pub fn advance<L: Ledger>(&mut self, next: Option<u8>, steps: &mut Steps<L>) -> bool
+        requires { IsSome next → self.old.at < usize.MAX }
+        ensures counted { steps.new ≡ steps.old + 1 }
+        ensures seen { IfSome next (λ byte. (t : Tree) (front : List ℕ) → HasSeen (state_of self.old) t front →
+            HasSeen (state_of self.new) t (front ++ byte ∷ [])) }
+        ensures known { IfSome next (λ byte. result ≡ false → (t : Tree) (front rest : List ℕ) →
+            HasSeen (state_of self.old) t front →
+            HasFound (state_of self.new) t (front ++ byte ∷ rest) × IsSome self.new.best) }
+        ensures ended { IfNone next ((result ≡ false) × ((t : Tree) (front : List ℕ) →
+            HasSeen (state_of self.old) t front → HasFound (state_of self.new) t front)) }
+        ensures begin { self.new.begin ≡ self.old.begin }
+        ensures shown { MatchOption next (self.new.at ≡ self.old.at) (λ _. self.new.at ≡ self.old.at + 1) }
+    {
+        steps.tick();
+        match next {
+            Some(byte) => self.show(byte),
+            None => {
+                self.finish();
+                false
+            }
+        }
+    }
+
+    /// The span, once `advance` has told that it is known.
+    pub fn span(&self) -> Option<Cap>
+        ensures value { result ≡ self.now.best }
+        ensures found { (t : Tree) (s : List ℕ) → HasFound (state_of self.now) t s →
+            IsSpan s t self.now.begin result }
+    {
+        self.best
+    }
+}
+
+/// Whether a match is still sought once this thread was met.
+fn seeks(searching: bool, met: Option<usize>) -> bool
+    ensures { result ≡ (searching && is_none met) }
+{
+    searching && met.is_none()
+}

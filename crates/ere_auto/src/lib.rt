@@ -1,0 +1,21 @@
+//! The automaton of a regular expression without references: it is shown the bytes of a slice one by one, and finds
+//! the leftmost longest span. What it is shown is counted.
+#![tactic(auto)]
+
+mod auto;
+mod closure;
+mod marks;
+mod moves;
+mod row;
+mod rows;
+mod slot;
+mod step;
+mod steps;
+mod taking;
+#[cfg(test)]
+mod tests;
+mod thread;
+mod threads;
+
+pub use auto::Auto;
+pub use steps::Steps;

@@ -1,0 +1,352 @@
+//! Steps that are kept.
+ghost use Rattle.std.specs.Prelude.{◌≡◌, ℕ, ◌+◌, ◌-◌, ◌*◌, ◌<◌, ◌≤◌, ◌==◌, ◌&&◌, ◌++◌, not, true, false, replicate, length, vec_len, vec_capacity, slice_index, IfOk, IfSome, Some, None};
+ghost use Rattle.ere_table.specs.Node.{Node};
+ghost use Rattle.ere_auto.specs.Closure.{node_in, origin_in};
+ghost use Rattle.ere_auto.specs.Kept.{row_in, threads_in, threads_of, cell_of, AreSteps, Keeps, IsRow, Leads, slot_or_zero};
+
+use crate::row::Row;
+use crate::thread::Thread;
+use std::alloc::{AllocError, Global};
+
+/// How many rows are kept.
+pub const MAX_ROWS: usize = 192;
+
+/// For how many threads of each row there is room, one with the other.
+const ROW_WIDTH: usize = 16;
+
+/// The rows that were met, and to which of them each byte leads. Rows 0 and 1 have no thread: a line starts at row 0.
+#[derive(Drop)]
+pub struct Rows {
+    pool: Vec<Thread>,
+    rows: Vec<Row>,
+    cells: Vec<u16>,
+    index: Vec<u16>,
+    pub nodes: usize,
+    room: usize,
+    pub ghost two: { 2 ≤ vec_len rows },
+    pub ghost few: { vec_len rows ≤ 192 },
+    ghost rows_room: { 192 ≤ vec_capacity rows },
+    pub ghost square: { vec_len cells ≡ 256 * vec_len rows },
+    ghost cells_room: { 49152 ≤ vec_capacity cells },
+    pub ghost inside: { (k : ℕ) → k < vec_len cells → slice_index cells.items k < vec_len rows },
+    pub ghost ordered: { (r : ℕ) → r < vec_len rows → (row_in rows.items r).from ≤ (row_in rows.items r).to },
+    pub ghost ranges: { (r : ℕ) → r < vec_len rows → (row_in rows.items r).to ≤ vec_len pool },
+    pub ghost narrow: { (r : ℕ) → r < vec_len rows →
+        (row_in rows.items r).to ≤ (row_in rows.items r).from + nodes },
+    ghost pool_fits: { vec_len pool ≤ room },
+    ghost pool_room: { room ≤ vec_capacity pool },
+    ghost wide: { nodes ≤ room },
+    ghost slots: { vec_len index ≡ 64 },
+    pub ghost begun: { (r : ℕ) → r < vec_len rows → slot_or_zero (row_in rows.items r).begun ≤ nodes },
+    pub ghost met: { (r : ℕ) → r < vec_len rows → slot_or_zero (row_in rows.items r).met ≤ nodes },
+    pub ghost origins: { (x : ℕ) → x < vec_len pool → origin_in pool.items x ≤ nodes },
+    pub ghost within: { (x : ℕ) → x < vec_len pool → node_in pool.items x < nodes },
+    pub ghost over: { (r : ℕ) → r < vec_len rows → (row_in rows.items r).over
+        ≡ (not (row_in rows.items r).searching && (row_in rows.items r).from == (row_in rows.items r).to) },
+    pub ghost first_line: { (row_in rows.items 0).line ≡ true },
+    pub ghost second_line: { (row_in rows.items 1).line ≡ false },
+    pub ghost first_searches: { (row_in rows.items 0).searching ≡ true },
+    pub ghost second_searches: { (row_in rows.items 1).searching ≡ true },
+    pub ghost first_empty: { (row_in rows.items 0).to ≡ 0 },
+    pub ghost second_empty: { (row_in rows.items 1).to ≡ 0 },
+}
+
+impl Rows {
+    ghost use Rattle.ere_auto.specs.KeptView.{kept_of};
+
+    /// The first two rows, for a table of so many nodes. All room is taken here.
+    pub fn new(alloc: Global, nodes: usize) -> Result<Rows, AllocError>
+        ensures nodes { IfOk result (λ made. made.nodes ≡ nodes) }
+        ensures steps { IfOk result (λ made. (T : ℕ → Node) (e : ℕ) → AreSteps T e (kept_of made)) }
+    {
+        let Some(room) = nodes.checked_add(MAX_ROWS * ROW_WIDTH) else {
+            return Err(AllocError);
+        };
+        let pool = Vec::with_capacity(alloc, room)?;
+        let mut rows = Vec::with_capacity(alloc, MAX_ROWS)?;
+        rows.push_reserved(Row {
+            from: 0,
+            to: 0,
+            line: true,
+            searching: true,
+            over: false,
+            begun: None,
+            met: None,
+        });
+        rows.push_reserved(Row {
+            from: 0,
+            to: 0,
+            line: false,
+            searching: true,
+            over: false,
+            begun: None,
+            met: None,
+        });
+        let mut cells = Vec::with_capacity(alloc, 256 * MAX_ROWS)?;
+        add_cells(&mut cells);
+        add_cells(&mut cells);
+        let index = vec![in alloc; 0u16; 64]?;
+        Ok(Rows {
+            pool,
+            rows,
+            cells,
+            index,
+            nodes,
+            room,
+        })
+    }
+
+    /// The row at a place.
+    #[inline(always)]
+    pub fn row(&self, row: usize) -> Row
+        requires { row < vec_len self.now.rows }
+        ensures { result ≡ row_in self.now.rows.items row }
+    {
+        self.rows[row]
+    }
+
+    /// The threads of the row at a place.
+    pub fn threads(&self, row: usize) -> &[Thread]
+        requires { row < vec_len self.now.rows }
+        ensures { result.now ≡ threads_of (kept_of self.now) row }
+    {
+        let row = self.rows[row];
+        &self.pool[row.from..row.to]
+    }
+
+    /// The row to which a row leads by a byte. 0 where that isn't known.
+    #[inline(always)]
+    pub fn cell(&self, row: usize, byte: u8) -> usize
+        requires { row < vec_len self.now.rows }
+        ensures value { result ≡ cell_of (kept_of self.now) row byte }
+        ensures inside { result < vec_len self.now.rows }
+    {
+        self.cells[row * 256 + byte as usize] as usize
+    }
+
+    /// Keeps to which row a row leads by a byte, unless the rows were dropped meanwhile.
+    pub fn learn(&mut self, from: usize, byte: u8, entered: Entered)
+        requires from { entered.kept ≡ true → from < vec_len self.old.rows }
+        requires to { entered.row < vec_len self.old.rows }
+        ensures steps { (T : ℕ → Node) (e : ℕ) → AreSteps T e (kept_of self.old) →
+            (entered.kept ≡ true → Leads T e (kept_of self.old) from byte entered.row) →
+            AreSteps T e (kept_of self.new) }
+        ensures rows { self.new.rows ≡ self.old.rows }
+        ensures pool { self.new.pool ≡ self.old.pool }
+        ensures nodes { self.new.nodes ≡ self.old.nodes }
+    {
+        if entered.kept {
+            self.set_cell(from, byte, entered.row);
+        }
+    }
+
+    /// Keeps to which row a row leads by a byte.
+    fn set_cell(&mut self, row: usize, byte: u8, to: usize)
+        requires row { row < vec_len self.old.rows }
+        requires to { to < vec_len self.old.rows }
+        ensures steps { (T : ℕ → Node) (e : ℕ) → AreSteps T e (kept_of self.old) →
+            Leads T e (kept_of self.old) row byte to → AreSteps T e (kept_of self.new) }
+        ensures rows { self.new.rows ≡ self.old.rows }
+        ensures pool { self.new.pool ≡ self.old.pool }
+        ensures nodes { self.new.nodes ≡ self.old.nodes }
+    {
+        self.cells[row * 256 + byte as usize] = to as u16;
+    }
+
+    /// The row that the index has in a slot, if it is this one.
+    fn find(
+        &self,
+        slot: usize,
+        threads: &[Thread],
+        line: bool,
+        searching: bool,
+        begun: Option<usize>,
+        met: Option<usize>,
+    ) -> Option<usize>
+        requires { slot < 64 }
+        ensures { IfSome result (λ row. IsRow (kept_of self.now) row threads.now line searching begun met) }
+    {
+        let known = self.index[slot] as usize;
+        if known >= self.rows.len() {
+            return None;
+        }
+        let row = self.rows[known];
+        let same = row.line == line && row.searching == searching;
+        if same
+            && row.begun == begun
+            && row.met == met
+            && same_threads(self.threads(known), threads)
+        {
+            Some(known)
+        } else {
+            None
+        }
+    }
+
+    /// Drops all rows but the first two, and what is known of them.
+    fn clear(&mut self)
+        ensures steps { (T : ℕ → Node) (e : ℕ) → AreSteps T e (kept_of self.new) }
+        ensures rows { vec_len self.new.rows ≡ 2 }
+        ensures pool { vec_len self.new.pool ≡ 0 }
+        ensures nodes { self.new.nodes ≡ self.old.nodes }
+        ensures room { self.new.room ≡ self.old.room }
+    {
+        self.pool.clear();
+        self.rows.truncate(2);
+        self.cells.clear();
+        add_cells(&mut self.cells);
+        add_cells(&mut self.cells);
+    }
+
+    /// Makes room for a row of so many threads, and tells whether all rows were kept.
+    fn make_room(&mut self, count: usize) -> bool
+        requires { count ≤ self.old.nodes }
+        ensures steps { (T : ℕ → Node) (e : ℕ) → AreSteps T e (kept_of self.old) → AreSteps T e (kept_of self.new) }
+        ensures kept { result ≡ true → Keeps (kept_of self.old) (kept_of self.new) }
+        ensures rows { vec_len self.new.rows < 192 }
+        ensures pool { vec_len self.new.pool + count ≤ self.new.room }
+        ensures nodes { self.new.nodes ≡ self.old.nodes }
+    {
+        if self.rows.len() < MAX_ROWS && count <= self.room - self.pool.len() {
+            return true;
+        }
+        self.clear();
+        false
+    }
+
+    /// Adds a row, for which there is room.
+    fn push_row(
+        &mut self,
+        threads: &[Thread],
+        line: bool,
+        searching: bool,
+        begun: Option<usize>,
+        met: Option<usize>,
+    ) -> usize
+        requires few { vec_len self.old.rows < 192 }
+        requires room { vec_len self.old.pool + length threads.now ≤ self.old.room }
+        requires narrow { length threads.now ≤ self.old.nodes }
+        requires begun { slot_or_zero begun ≤ self.old.nodes }
+        requires met { slot_or_zero met ≤ self.old.nodes }
+        requires origins { (x : ℕ) → x < length threads.now → origin_in threads.now x ≤ self.old.nodes }
+        requires within { (x : ℕ) → x < length threads.now → node_in threads.now x < self.old.nodes }
+        ensures row { IsRow (kept_of self.new) result threads.now line searching begun met }
+        ensures keeps { Keeps (kept_of self.old) (kept_of self.new) }
+        ensures steps { (T : ℕ → Node) (e : ℕ) → AreSteps T e (kept_of self.old) → AreSteps T e (kept_of self.new) }
+        ensures nodes { self.new.nodes ≡ self.old.nodes }
+        ensures few { result < 192 }
+    {
+        let place = self.rows.len();
+        let from = self.pool.len();
+        add_threads(&mut self.pool, threads);
+        let to = self.pool.len();
+        let over = is_over(searching, from, to);
+        self.rows.push_reserved(Row {
+            from,
+            to,
+            line,
+            searching,
+            over,
+            begun,
+            met,
+        });
+        add_cells(&mut self.cells);
+        place
+    }
+
+    /// The place of a row, which is added where it isn't there.
+    pub fn enter(
+        &mut self,
+        threads: &[Thread],
+        line: bool,
+        searching: bool,
+        begun: Option<usize>,
+        met: Option<usize>,
+    ) -> Entered
+        requires narrow { length threads.now ≤ self.old.nodes }
+        requires begun { slot_or_zero begun ≤ self.old.nodes }
+        requires met { slot_or_zero met ≤ self.old.nodes }
+        requires origins { (x : ℕ) → x < length threads.now → origin_in threads.now x ≤ self.old.nodes }
+        requires within { (x : ℕ) → x < length threads.now → node_in threads.now x < self.old.nodes }
+        ensures row { IsRow (kept_of self.new) result.row threads.now line searching begun met }
+        ensures kept { result.kept ≡ true → Keeps (kept_of self.old) (kept_of self.new) }
+        ensures steps { (T : ℕ → Node) (e : ℕ) → AreSteps T e (kept_of self.old) → AreSteps T e (kept_of self.new) }
+        ensures nodes { self.new.nodes ≡ self.old.nodes }
+    {
+        let slot = slot_of(threads, line, searching, met);
+        if let Some(row) = self.find(slot, threads, line, searching, begun, met) {
+            return Entered { row, kept: true };
+        }
+        let kept = self.make_room(threads.len());
+        let row = self.push_row(threads, line, searching, begun, met);
+        self.index[slot] = row as u16;
+        Entered { row, kept }
+    }
+}
+
+/// The place of a row, and whether the rows before are where they were.
+#[derive(Clone, Copy, Debug, PartialEq, Eq)]
+pub struct Entered {
+    pub row: usize,
+    pub kept: bool,
+}
+
+/// Whether no byte that comes can change the span: a match is known, and no thread is left.
+fn is_over(searching: bool, from: usize, to: usize) -> bool
+    ensures { result ≡ (not searching && from == to) }
+{
+    !searching && from == to
+}
+
+/// Adds threads, for which there is room.
+fn add_threads(pool: &mut Vec<Thread>, threads: &[Thread])
+    requires { vec_len pool.old + length threads.now ≤ vec_capacity pool.old }
+    ensures items { pool.new.items ≡ pool.old.items ++ threads.now }
+    ensures len { vec_len pool.new ≡ vec_len pool.old + length threads.now }
+    ensures capacity { vec_capacity pool.old ≤ vec_capacity pool.new }
+{
+    let _ = pool.extend_from_slice(threads);
+}
+
+/// Adds the cells of a row, of which none is known. There is room for them.
+fn add_cells(cells: &mut Vec<u16>)
+    requires { vec_len cells.old + 256 ≤ vec_capacity cells.old }
+    ensures items { cells.new.items ≡ cells.old.items ++ replicate 256 0 }
+    ensures len { vec_len cells.new ≡ vec_len cells.old + 256 }
+    ensures capacity { vec_capacity cells.old ≤ vec_capacity cells.new }
+{
+    let _ = cells.extend_from_slice(&[0; 256]);
+}
+
+/// Whether these are the same threads.
+fn same_threads(one: &[Thread], other: &[Thread]) -> bool
+    ensures { result ≡ true → one.now ≡ other.now }
+{
+    if one.len() != other.len() {
+        return false;
+    }
+    for index in 0..one.len() {
+        let here = one[index];
+        let there = other[index];
+        if here.node != there.node || here.origin != there.origin {
+            return false;
+        }
+    }
+    true
+}
+
+/// A slot of the index: any function of the row would do.
+fn slot_of(threads: &[Thread], line: bool, searching: bool, met: Option<usize>) -> usize
+    ensures { result < 64 }
+{
+    const MIX: u64 = 0x9E37_79B9_7F4A_7C15;
+    let mut hash = line as u64 * 2 + searching as u64;
+    if let Some(slot) = met {
+        hash = hash.wrapping_add(slot as u64).wrapping_mul(MIX);
+    }
+    for thread in threads {
+        let both = (thread.node as u64).wrapping_mul(MIX) ^ thread.origin as u64;
+        hash = (hash.rotate_left(11) ^ both).wrapping_mul(MIX);
+    }
+    ((hash >> 32) % 64) as usize
+}

@@ -1,0 +1,108 @@
+//! One step of the threads.
+ghost use Rattle.std.specs.Prelude.{◌≡◌, ℕ, ◌+◌, ◌<◌, ◌≤◌, length, vec_len, vec_capacity, Some};
+ghost use Rattle.ere_table.specs.Node.{node_at};
+ghost use Rattle.ere_auto.specs.Closure.{node_in, origin_in};
+ghost use Rattle.ere_auto.specs.Step.{IsStep, Seeds, ends_line};
+
+use crate::closure::close;
+use crate::marks::Marks;
+use crate::moves::go_on;
+use crate::slot::free_slot;
+use crate::thread::Thread;
+use crate::threads::Threads;
+use ere_table::Table;
+
+/// What a step did besides: the slot of the start that began there, and the slot of the start that matched there.
+#[derive(Clone, Copy, Debug, PartialEq, Eq)]
+pub struct Note {
+    pub begun: Option<usize>,
+    pub met: Option<usize>,
+}
+
+/// Whether a line ends before the next byte.
+fn ends_line(next: Option<u8>) -> bool
+    ensures { result ≡ ends_line next }
+{
+    match next {
+        None => true,
+        Some(byte) => byte == b'\n',
+    }
+}
+
+/// Adds the start that begins here, while no match is known.
+fn seed(
+    entry: usize,
+    threads: &mut Vec<Thread>,
+    slots: &mut Marks,
+    searching: bool,
+) -> Option<usize>
+    requires room { vec_len threads.old < vec_capacity threads.old }
+    requires few { vec_len threads.old < length slots.old }
+    requires within { (x : ℕ) → x < length threads.old.items → origin_in threads.old.items x < length slots.old }
+    ensures seeds { Seeds threads.old.items threads.new.items entry searching result }
+    ensures free { (slot : ℕ) → result ≡ Some slot →
+        (x : ℕ) → x < length threads.old.items → origin_in threads.old.items x ≡ slot → ⊥ }
+    ensures slot { (slot : ℕ) → result ≡ Some slot → slot < length slots.old }
+    ensures within { (x : ℕ) → x < length threads.new.items → origin_in threads.new.items x < length slots.old }
+    ensures nodes { (n : ℕ) → entry < n → ((x : ℕ) → x < length threads.old.items → node_in threads.old.items x < n)
+        → (x : ℕ) → x < length threads.new.items → node_in threads.new.items x < n }
+    ensures room { length slots.new ≡ length slots.old }
+    ensures capacity { vec_capacity threads.new ≡ vec_capacity threads.old }
+{
+    if searching {
+        let slot = free_slot(threads.as_slice(), slots);
+        threads.push_reserved(Thread {
+            node: entry,
+            origin: slot,
+        });
+        Some(slot)
+    } else {
+        None
+    }
+}
+
+/// One step from the threads, which get the start that begins here: `moved` gets those behind the next byte.
+pub fn step(
+    table: &Table,
+    threads: &mut Vec<Thread>,
+    slots: &mut Marks,
+    reached: &mut Threads,
+    moved: &mut Threads,
+    starts: bool,
+    searching: bool,
+    next: Option<u8>,
+) -> Note
+    requires few { vec_len threads.old ≤ vec_len table.now.nodes }
+    requires capacity { vec_len table.now.nodes < vec_capacity threads.old }
+    requires reached { length reached.old.marks ≡ vec_len table.now.nodes }
+    requires moved { length moved.old.marks ≡ vec_len table.now.nodes }
+    requires room { length slots.old ≡ vec_len table.now.nodes + 1 }
+    requires origins { (x : ℕ) → x < length threads.old.items → origin_in threads.old.items x < length slots.old }
+    requires nodes { (x : ℕ) → x < length threads.old.items →
+        node_in threads.old.items x < vec_len table.now.nodes }
+    ensures step { IsStep (node_at table.now.nodes.items) table.now.entry threads.old.items
+        moved.new.held.items starts searching next result.begun result.met }
+    ensures begun { (slot : ℕ) → result.begun ≡ Some slot → slot < length slots.old }
+    ensures met { (slot : ℕ) → result.met ≡ Some slot → slot < length slots.old }
+    ensures within { (x : ℕ) → x < length moved.new.held.items →
+        origin_in moved.new.held.items x < length slots.old }
+    ensures reached { length reached.new.marks ≡ length reached.old.marks }
+    ensures moved { length moved.new.marks ≡ length moved.old.marks }
+    ensures room { length slots.new ≡ length slots.old }
+    ensures capacity { vec_capacity threads.new ≡ vec_capacity threads.old }
+{
+    let begun = seed(table.entry, threads, slots, searching);
+    let ends = ends_line(next);
+    close(table, threads.as_slice(), starts, ends, reached);
+    let moves = go_on(
+        table,
+        threads.as_slice(),
+        reached.held.as_slice(),
+        next,
+        moved,
+    );
+    Note {
+        begun,
+        met: moves.met,
+    }
+}

@@ -1,0 +1,71 @@
+-- Where a concatenation can begin.
+use Rattle.std.proofs.Common.{◌≡◌, ℕ, ◌+◌, ◌<◌, ◌≤◌, List, [], ◌∷◌, zero, suc, length, map, arith, ap, sym, subst, slice_index_or, ◌∙◌}
+use Rattle.ere_tree.specs.Tree.{Tree, Trees, cat, group, none, then, trees_of}
+use Rattle.ere_tree.specs.Captures.{Captures}
+use Rattle.ere_tree.specs.Derivation.{Way, Ways, leaf, parts, members, chosen, inside, done, next, Spans, Derives, DerivesAll}
+use Rattle.ere_tree.proofs.DerivationLemmas.{is_part}
+use Rattle.ere_tree.specs.View.{view}
+use Rattle.ere_tree.specs.declared.ere.Ere.{Ere}
+use Rattle.ere_match.specs.Begins.{NoneBefore}
+
+-- the part at a place spans something where all of them do
+part_spans : (s : List ℕ) (xs : List Ere) (ws : Ways) (h k : ℕ) (c d : Captures) (i : ℕ) (one : Ere)
+    → DerivesAll s (trees_of (map view xs)) ws h k c d → i < length xs → one ≡ slice_index_or xs i one
+    → (m : ℕ) × (l : ℕ) × Spans s (view one) m l
+part_spans s [] ws h k c d i one g l is = absurd (omega (arith, l))
+part_spans s (x ∷ xs) done h k c d i one g l is = absurd g
+part_spans s (x ∷ xs) (next m w ws) h k c d zero one g l is =
+    (h, m, subst (λ e. Spans s (view e) h m) (sym is) (w, c, g.0, g.1))
+part_spans s (x ∷ xs) (next m w ws) h k c d (suc i) one g l is =
+    part_spans s xs ws m k g.0 d i one g.2 (omega (arith, l)) is
+
+spans_parts : (s : List ℕ) (ts : Trees) (h k : ℕ) → Spans s (cat ts) h k
+    → (ws : Ways) × (c : Captures) × (d : Captures) × DerivesAll s ts ws h k c d
+spans_parts s ts h k (parts ws, c, d, g) = (ws, c, d, g)
+spans_parts s ts h k (leaf, c, d, g) = absurd g
+spans_parts s ts h k (members ws, c, d, g) = absurd g
+spans_parts s ts h k (chosen n w, c, d, g) = absurd g
+spans_parts s ts h k (inside w, c, d, g) = absurd g
+
+-- where a part spans nothing, neither do all of them
+pub nowhere : (s : List ℕ) (xs : List Ere) (i place : ℕ) (one : Ere) → i < length xs → one ≡ slice_index_or xs i one
+    → NoneBefore s (view one) place → length s < place → NoneBefore s (cat (trees_of (map view xs))) place
+nowhere s xs i place one l is n past = record {
+  none = λ h k b spans.
+      let all = spans_parts s (trees_of (map view xs)) h k spans in
+      let part = part_spans s xs all.0 h k all.1 all.2 i one all.3 l is in
+      let lies = is_part s (view one) part.2.0 part.0 part.1 part.2.1 part.2.2 part.2.3 in
+      n.none part.0 part.1 (omega (arith, lies.0, lies.1, past)) part.2;
+}
+
+-- they begin where the first of them does
+pub first_begins : (s : List ℕ) (xs : List Ere) (place : ℕ) (d : Ere) → 0 < length xs
+    → NoneBefore s (view (slice_index_or xs 0 d)) place → NoneBefore s (cat (trees_of (map view xs))) place
+first_begins s [] place d l n = absurd (omega (arith, l))
+first_begins s (x ∷ xs) place d l n = record {
+  none = λ h k b spans.
+      let all = spans_parts s (trees_of (map view (x ∷ xs))) h k spans in
+      first_spans all.0 h k all.1 all.2 all.3 b;
+}
+  where
+    first_spans : (ws : Ways) (h k : ℕ) (c e : Captures)
+        → DerivesAll s (then (view x) (trees_of (map view xs))) ws h k c e
+        → h < place → ⊥
+    first_spans done h k c e g b = absurd g
+    first_spans (next m w ws) h k c e g b = n.none h m b (w, c, g.0, g.1)
+
+pub none_before_zero : (s : List ℕ) (t : Tree) → NoneBefore s t 0
+none_before_zero s t = record { none = λ h k b spans. absurd (omega (arith, b)) }
+
+pub group_begins : (s : List ℕ) (t : Tree) (number place : ℕ) → NoneBefore s t place
+    → NoneBefore s (group number t) place
+group_begins s t number place n = record {
+  none = λ h k b spans. inner_spans spans.0 h k spans.1 spans.2 b spans.3;
+}
+  where
+    inner_spans : (w : Way) (h k : ℕ) (c d : Captures) → h < place → Derives s (group number t) w h k c d → ⊥
+    inner_spans (inside w) h k c d b g = n.none h k b (w, c, g.0, g.1)
+    inner_spans leaf h k c d b g = absurd g
+    inner_spans (parts ws) h k c d b g = absurd g
+    inner_spans (members ws) h k c d b g = absurd g
+    inner_spans (chosen m w) h k c d b g = absurd g

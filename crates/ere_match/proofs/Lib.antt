@@ -1,0 +1,2 @@
+pub mod BeginsLemmas
+pub mod ShownLemmas

@@ -1,0 +1,17 @@
+-- How far an automaton is shown a slice.
+use Rattle.std.specs.Prelude.{◌≡◌, ℕ, ◌+◌, ◌≤◌, Option, Some, None, List, length}
+use Rattle.ere_tree.specs.Tree.{Tree}
+use Rattle.ere_tree.specs.declared.hit.Cap.{Cap}
+use Rattle.ere_auto.specs.Span.{IsSpan}
+
+-- Of a slice of so many bytes, so many bytes and ends were shown: all where nothing was found, and else as far as the
+-- end of what was found.
+abbrev pub ShownFor : ℕ → Option Cap → ℕ → Type 0
+ShownFor count None shown = shown ≡ count + 1
+ShownFor count (Some cap) shown = (cap.to ≤ shown) × (shown ≤ count + 1)
+
+-- The span of the tree in the slice, of those that begin at `begin` or behind it, was found while so many bytes and
+-- ends were shown.
+pub record Finds (s : List ℕ) (t : Tree) (begin : ℕ) (found : Option Cap) (shown : ℕ) : Type 0 where
+  pub span : IsSpan s t begin found
+  pub shown_for : ShownFor (length s) found shown

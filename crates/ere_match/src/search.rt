@@ -1,0 +1,54 @@
+//! A search that is built once, and kept for many slices.
+ghost use Rattle.std.specs.Prelude.{◌≡◌, ◌-◌, ◌≤◌, false, drop, length, IfOk};
+ghost use Rattle.ere_tree.specs.Shape.{has_refs};
+ghost use Rattle.ere_tree.specs.View.{view};
+ghost use Rattle.ere_auto.specs.Seen.{IsFor};
+ghost use Rattle.ere_auto.specs.State.{state_of};
+ghost use Rattle.ere_match.specs.Shown.{Finds};
+
+use crate::literal::earliest;
+use crate::span::find_span;
+use ere_auto::{Auto, Steps};
+use ere_tree::{Cap, Ere};
+use std::alloc::Global;
+use std::sync::ledger::Ledger;
+use tt_base::NoMemory;
+
+/// The automaton of an expression without references, and what it has learned of the bytes so far.
+#[derive(Drop)]
+pub struct Search {
+    automaton: Auto,
+}
+
+impl Search {
+    /// A search for an expression. All room for it is taken here.
+    pub fn new(alloc: Global, ere: &Ere) -> Result<Search, NoMemory>
+        requires { has_refs (view ere.now) ≡ false }
+        ensures { IfOk result (λ made. IsFor (state_of made.automaton) (view ere.now)) }
+    {
+        match Auto::build(alloc, ere) {
+            Ok(automaton) => Ok(Search { automaton }),
+            Err(NoMemory) => Err(NoMemory),
+        }
+    }
+
+    /// The span of the expression in the slice from `from` to the text's end, with offsets of the slice. The expression
+    /// is the one for which the search was built.
+    pub fn span<L: Ledger>(
+        &mut self,
+        ere: &Ere,
+        text: &[u8],
+        from: usize,
+        steps: &mut Steps<L>,
+    ) -> Option<Cap>
+        requires built { IsFor (state_of self.old.automaton) (view ere.now) }
+        requires inside { from ≤ length text.now }
+        ensures found { Finds (drop from text.now) (view ere.now) 0 result (steps.new - steps.old) }
+        ensures counted { steps.old ≤ steps.new }
+        ensures built { IsFor (state_of self.new.automaton) (view ere.now) }
+    {
+        let slice = text.split_at(from).1;
+        self.automaton.begin_at(earliest(ere, slice));
+        find_span(&mut self.automaton, slice, steps)
+    }
+}

@@ -1,0 +1,27 @@
+//! The span of an expression in a slice, by its automaton.
+ghost use Rattle.std.specs.Prelude.{◌≡◌, ℕ, ◌<◌, ◌≤◌, ◌+◌, ◌-◌, [], List, length, drop};
+ghost use Rattle.ere_tree.specs.Tree.{Tree};
+ghost use Rattle.ere_auto.specs.Seen.{HasSeen, IsFor};
+ghost use Rattle.ere_auto.specs.State.{state_of};
+ghost use Rattle.ere_match.specs.Shown.{Finds};
+
+use ere_auto::{Auto, Steps};
+use ere_tree::Cap;
+use std::sync::ledger::Ledger;
+
+/// Shows a slice to an automaton that was shown nothing yet, as far as it wants.
+pub fn find_span<L: Ledger>(automaton: &mut Auto, slice: &[u8], steps: &mut Steps<L>) -> Option<Cap>
+    requires { automaton.old.at ≡ 0 }
+    ensures found { (t : Tree) → HasSeen (state_of automaton.old) t [] →
+        Finds slice.now t automaton.old.begin result (steps.new - steps.old) }
+    ensures expression { (t : Tree) → HasSeen (state_of automaton.old) t [] → IsFor (state_of automaton.new) t }
+    ensures counted { steps.old ≤ steps.new }
+{
+    for (index, byte) in slice.iter().enumerate() {
+        if !automaton.advance(Some(*byte), steps) {
+            return automaton.span();
+        }
+    }
+    let _ended = automaton.advance(None, steps);
+    automaton.span()
+}

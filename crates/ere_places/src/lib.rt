@@ -1,0 +1,15 @@
+//! The places that an expression without references leads to from given ones: the ends of its spans ahead, or the
+//! starts of its spans back. Captures inside a known span stand on this crate.
+#![tactic(auto)]
+
+mod leaf;
+mod list;
+mod reach;
+mod seen;
+#[cfg(test)]
+mod tests;
+mod window;
+
+pub use reach::{image, image_of_repeat};
+pub use seen::Seen;
+pub use window::{Direction, Window};

@@ -1,0 +1,12 @@
+//! Regular expressions without references as tables of nodes that lead through a text. The automaton of the crate
+//! above runs over such a table, and never sees an expression.
+#![tactic(auto)]
+
+mod node;
+mod put;
+mod table;
+#[cfg(test)]
+mod tests;
+
+pub use node::Node;
+pub use table::Table;
