@@ -1,0 +1,4 @@
+pub mod Eval
+pub mod Names
+pub mod Term
+pub mod Value
