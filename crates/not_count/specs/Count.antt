@@ -1,0 +1,68 @@
+-- What `count` says and answers. After the tool of that name in LLVM's tree, which compares the lines of its input with a
+-- number. Own rule: the texts and the statuses 2 and 3.
+use Rattle.std.specs.Prelude.{◌≡◌, ⊤, ℕ, ◌==◌, if◌then◌else◌, List, [], ◌∷◌, ◌++◌, codes, decimal, slice_index_or, Result, Ok, Err}
+use Rattle.std.specs.List.{concat}
+use Rattle.opt_words.specs.Fault.{text_before, text_behind, word_of}
+use Rattle.opt_words.specs.declared.fault.WordFault.{WordFault}
+use Rattle.tt_run.specs.Run.{Source, SourceRests}
+use Rattle.not_count.specs.Asked.{IsTold}
+use Rattle.not_count.specs.Lines.{IsCounted}
+use Rattle.not_count.specs.declared.asked.Refusal.{Refusal}
+use Rattle.not_count.specs.declared.asked.Refusal.TheVariants.{FaultyWord, NotOneNumber}
+use Rattle.not_count.specs.declared.count.Outcome.{Outcome}
+use Rattle.not_count.specs.declared.count.Outcome.TheVariants.{Refused, Compared}
+use Rattle.not_count.specs.declared.lines.Counted.{Counted}
+use Rattle.not_count.specs.declared.lines.Counted.TheVariants.{Lines, TooLong, Failed}
+
+-- ---- what a run comes to
+
+-- the words are refused and the input is left alone, or its lines are counted up to a limit
+abbrev pub OutcomeFrom : Source → ℕ → Result ℕ Refusal → Outcome → Type 0
+OutcomeFrom input limit (Ok wanted) outcome =
+    (counted : Counted) × IsCounted input limit counted × (outcome ≡ Compared wanted counted)
+OutcomeFrom input limit (Err refusal) outcome = SourceRests input × (outcome ≡ Refused refusal)
+
+-- a faulty word is one of so many words
+abbrev pub IsToldOf : ℕ → Outcome → Type 0
+IsToldOf count (Refused refusal) = IsTold count refusal
+IsToldOf count (Compared wanted counted) = ⊤
+
+-- ---- what is told of it, and the status
+
+abbrev pub newline : List ℕ
+newline = 10 ∷ []
+
+abbrev pub faulty_word_text : List ℕ → WordFault → List ℕ
+faulty_word_text word fault = concat (codes "count: error: " ∷ text_before fault ∷ word ∷ text_behind fault ∷ newline ∷ [])
+
+abbrev pub refusal_text : List (List ℕ) → Refusal → List ℕ
+refusal_text words (FaultyWord fault) = faulty_word_text (slice_index_or words (word_of fault) []) fault
+refusal_text words NotOneNumber = codes "count: error: one number is needed" ++ newline
+
+abbrev pub expected_text : ℕ → ℕ → List ℕ
+expected_text wanted lines =
+    concat (codes "Expected " ∷ decimal wanted ∷ codes " lines, got " ∷ decimal lines ∷ (codes "." ++ newline) ∷ [])
+
+abbrev pub lines_text : ℕ → ℕ → List ℕ
+lines_text wanted lines = if lines == wanted then [] else expected_text wanted lines
+
+abbrev pub compared_text : ℕ → Counted → List ℕ
+compared_text wanted (Lines lines) = lines_text wanted lines
+compared_text wanted TooLong = codes "count: error: input too long" ++ newline
+compared_text wanted Failed = codes "count: error: cannot read '<stdin>'" ++ newline
+
+abbrev pub text_of : List (List ℕ) → Outcome → List ℕ
+text_of words (Refused refusal) = refusal_text words refusal
+text_of words (Compared wanted counted) = compared_text wanted counted
+
+abbrev pub lines_status : ℕ → ℕ → ℕ
+lines_status wanted lines = if lines == wanted then 0 else 1
+
+abbrev pub compared_status : ℕ → Counted → ℕ
+compared_status wanted (Lines lines) = lines_status wanted lines
+compared_status wanted TooLong = 2
+compared_status wanted Failed = 3
+
+abbrev pub status_of : Outcome → ℕ
+status_of (Refused refusal) = 2
+status_of (Compared wanted counted) = compared_status wanted counted

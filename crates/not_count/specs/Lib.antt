@@ -1,0 +1,4 @@
+pub mod Asked
+pub mod Count
+pub mod Lines
+pub mod Parts
