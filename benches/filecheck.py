@@ -5,6 +5,10 @@
 
 PROGRAM is the program to time; without it, the one that ./run builds. In each round the two programs run in
 alternation on the same files. Time is wall time, the best of the rounds; memory is the greatest resident set.
+
+The second table has texts of five shapes, and beside each the floor: the time to read the file into fresh memory, to
+search it once with memmem and to copy it once with memcpy, as a C program does them. Without a C compiler there is no
+floor.
 """
 import argparse
 import glob
@@ -32,6 +36,66 @@ LINES = [
 ]
 
 
+# Texts of five shapes, each by the block that is repeated. What is sought stands at the end of each.
+SHAPES = {
+    "plain lines": "call of function {k} with value {k} and no more than that\n",
+    "machine code, indented": "".join(LINES[:9]),
+    "ends of lines by CRLF": "\taddl\t-{k}(%rbp), %eax\r\n\tmovq\t%rsp, %rbp\r\nfunction_{k}:\r\n",
+    "LLVM IR, indented": "  %{k} = add nsw i32 %{k}, 1, !dbg !{k}\n"
+    "  store i32 %{k}, i32* %{k}.addr, align 4\n  br label %for.body.{k}\n\n",
+    "doubled blanks": "add  r{k},  r1,  #{k}   ; a  b  c\n",
+}
+
+# Reads a file into fresh memory, searches it once, and copies it once into memory that was touched before; prints the
+# nanoseconds of each, the best of so many rounds.
+FLOOR = """
+#define _GNU_SOURCE
+#include <fcntl.h>
+#include <stdio.h>
+#include <stdlib.h>
+#include <string.h>
+#include <sys/mman.h>
+#include <sys/stat.h>
+#include <time.h>
+#include <unistd.h>
+
+static double now(void) {
+    struct timespec t;
+    clock_gettime(CLOCK_MONOTONIC, &t);
+    return t.tv_sec * 1e9 + t.tv_nsec;
+}
+
+int main(int count, char **words) {
+    double best[3] = {1e18, 1e18, 1e18};
+    struct stat about;
+    if (count < 4 || stat(words[1], &about)) return 1;
+    size_t size = about.st_size;
+    char *to = malloc(size);
+    memset(to, 1, size);
+    for (int round = atoi(words[3]); round > 0; round--) {
+        double times[4] = {now()};
+        int file = open(words[1], O_RDONLY);
+        char *text = mmap(NULL, size, PROT_READ | PROT_WRITE, MAP_PRIVATE | MAP_ANONYMOUS, -1, 0);
+        size_t had = 0;
+        ssize_t got;
+        while ((got = read(file, text + had, size - had)) > 0) had += got;
+        times[1] = now();
+        const char *found = memmem(text, size, words[2], strlen(words[2]));
+        times[2] = now();
+        memcpy(to, text, size);
+        times[3] = now();
+        if (!found || had != size) return 1;
+        for (int k = 0; k < 3; k++)
+            if (times[k + 1] - times[k] < best[k]) best[k] = times[k + 1] - times[k];
+        close(file);
+        munmap(text, size);
+    }
+    printf("%f %f %f %d\\n", best[0], best[1], best[2], to[size - 1]);
+    return 0;
+}
+"""
+
+
 def write_input(path, size, with_needle):
     """Compiler-like text of `size` bytes; its last line may hold the needle."""
     last = ("\t" + NEEDLE.replace(" ", "\t", 1) + "\n" if with_needle else "").encode()
@@ -42,6 +106,27 @@ def write_input(path, size, with_needle):
             out.write(block)
             left, k = left - len(block), k + 1
         out.write(last)
+
+
+def write_shape(path, size, block):
+    """A text of about `size` bytes of one shape; the needle stands on its last line."""
+    with open(path, "wb") as out:
+        left, k = size, 0
+        while left > 0:
+            left, k = left - out.write(block.replace("{k}", str(k % 100000)).encode()), k + 1
+        out.write(f"{NEEDLE}\n".encode())
+
+
+def floor_program(folder):
+    """The program that measures the floor, compiled; None where there is no C compiler."""
+    compiler = shutil.which(os.environ.get("CC", "cc"))
+    if compiler is None:
+        return None
+    source, made = os.path.join(folder, "floor.c"), os.path.join(folder, "floor")
+    with open(source, "w") as out:
+        out.write(FLOOR)
+    subprocess.run([compiler, "-O2", "-o", made, source], check=True)
+    return made
 
 
 def write_many(checks, text, count):
@@ -79,12 +164,32 @@ def peak(command, text):
         return int(told.read().split()[-1])
 
 
-def row(title, commands, text, status, rounds):
-    """Runs a case by all programs in alternation, and prints its row."""
+def best_of(commands, text, status, rounds):
+    """The best time of each program, which run in alternation."""
     best = [float("inf")] * len(commands)
     for _ in range(rounds):
         for which, command in enumerate(commands):
             best[which] = min(best[which], run_once(command, text, status))
+    return best
+
+
+def shape_row(title, commands, text, floor, rounds):
+    """The row of a text of one shape: nanoseconds a byte, and the ratios."""
+    size = os.path.getsize(text)
+    best = [seconds * 1e9 / size for seconds in best_of(commands, text, 0, rounds)]
+    cells = [title, f"{best[0]:.2f}"]
+    if len(commands) == 2:
+        cells += [f"{best[1]:.2f}", f"{best[0] / best[1]:.2f}"]
+    if floor is not None:
+        told = subprocess.run([floor, text, NEEDLE, str(rounds)], stdout=subprocess.PIPE, text=True, check=True).stdout
+        parts = [float(word) / size for word in told.split()[:3]]
+        cells += [" + ".join(f"{part:.2f}" for part in parts), f"{best[0] / sum(parts):.2f}"]
+    print("| " + " | ".join(cells) + " |", flush=True)
+
+
+def row(title, commands, text, status, rounds):
+    """Runs a case by all programs in alternation, and prints its row."""
+    best = best_of(commands, text, status, rounds)
     memory = [peak(command, text) for command in commands]
     cells = [title]
     for seconds, kib in zip(best, memory):
@@ -133,6 +238,14 @@ def main():
         row("50,000 directives on 50,000 lines", commands("many checks"), at("many lines"), 0, given.rounds)
         write_input(at("tiny"), 64, True)
         row("a tiny file, best of 300", commands("checks"), at("tiny"), 0, 300)
+
+        floor = floor_program(folder)
+        titles = ["text, nanoseconds a byte", "ours"] + ["LLVM", "ours / LLVM"] * bool(others)
+        titles += ["reading + memmem + memcpy", "ours / their sum"] * (floor is not None)
+        print("\n| " + " | ".join(titles) + " |\n" + "|---" * len(titles) + "|")
+        for title, block in SHAPES.items():
+            write_shape(at("shape"), given.mib // 2 * MIB, block)
+            shape_row(title, commands("checks"), at("shape"), floor, given.rounds)
 
 
 main()
