@@ -1,4 +1,6 @@
--- Which check prefixes no directive has, by a flag for each.
+-- Which check prefixes no directive has: a list of flags, one for each prefix, tells the first of them.
+-- By induction on the directives: each sets the flag of its prefix, and a flag that is set stays set.
+-- The hard one is `used_next`, a directive more.
 use Rattle.std.proofs.Common.{length-set, ◌≡◌, ℕ, zero, suc, ◌+◌, ◌<◌, ◌≤◌, Bool, true, false, not, ◌||◌, List, [], ◌∷◌, ◌++◌, Option, Some, None, cond, eqb, length, get_or, take, take_all, refl, sym, ◌∙◌, ap, subst, arith, add-one}
 use Rattle.std.proofs.Math.ListN.{set}
 use Rattle.std.proofs.lemmas.Bool.Decides.{nat_tests}

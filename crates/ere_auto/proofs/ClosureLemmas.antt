@@ -1,5 +1,6 @@
 -- Making a closure: a seed more, and what one reached node goes on to.
 -- The list is its own queue: those before `next` have been followed, and those from `next` on are of the last seed.
+-- The hard one is `closing_step`, a node that is followed and what it adds.
 use Rattle.std.proofs.Common.{◌≡◌, ℕ, ◌+◌, ◌<◌, ◌≤◌, ◌⊎◌, Bool, List, [], zero, suc, length, refl, sym, ap, ◌∙◌, subst, inl, inr, arith}
 use Rattle.std.proofs.lemmas.Bool.{cases_lt}
 use Rattle.ere_table.specs.Node.{Node}

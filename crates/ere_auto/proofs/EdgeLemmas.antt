@@ -1,4 +1,6 @@
 -- Paths of a table, cut at a place: what comes there by a byte, and what goes on from there without one.
+-- By induction on the path: its last edge skips, and so stays at the place, or takes the byte in front of it.
+-- The hard one is `parted`, that what arrives at a place is a start there, or came by a byte from the place before.
 use Rattle.std.proofs.Common.{◌≡◌, ℕ, ◌+◌, ◌<◌, ◌≤◌, ◌⊎◌, List, zero, suc, length, refl, sym, subst, inl, inr, arith, slice_index}
 use Rattle.std.proofs.lemmas.Bool.{cases_eq}
 use Rattle.ere_tree.specs.Derivation.{is_line_start, is_line_end}

@@ -1,6 +1,6 @@
 pub mod ClosureLemmas
 pub mod EdgeLemmas
-pub mod KeptLemmas
+pub mod RowTableLemmas
 pub mod ListLemmas
 pub mod MarksLemmas
 pub mod MoveLemmas

@@ -1,4 +1,6 @@
--- Lists of threads, one thread longer.
+-- Lists of threads, one thread longer: which nodes they have, from which origin, and that origins rise.
+-- A thread of the longer list is an old one or the new one, and the new one is at the old length.
+-- The hard one is `rises_more`, that the origins still rise where the new one is at least the last.
 use Rattle.std.proofs.Common.{◌≡◌, ℕ, ◌+◌, ◌<◌, ◌≤◌, ◌⊎◌, List, [], ◌∷◌, ◌++◌, zero, suc, length, refl, ap, ◌∙◌, inl, inr, arith, length-append, slice_index_or}
 use Rattle.std.proofs.Math.Seq.{get_or-append_seam}
 use Rattle.std.proofs.lemmas.List.{get_or_append_left}

@@ -1,4 +1,6 @@
--- Sets as lists of flags: a set that is emptied by a new stamp, and what an insert does.
+-- Sets as lists of stamps: a set that is emptied by a new stamp, and what an insert does.
+-- A node is a member where its stamp is the one of now; no stamp of the list is above it, so a new one has no member.
+-- The hard one is `inserted`, which says all that an insert ensures.
 use Rattle.std.proofs.Common.{◌≡◌, ℕ, ◌+◌, ◌<◌, ◌≤◌, Bool, true, false, not, cond, eqb, List, length, map, replicate, get_or, set, refl, sym, ◌∙◌, ap, arith, ext_get_or, length-set, eq-eqb, ne_eqb}
 use Rattle.std.proofs.lemmas.List.{length-map, length-replicate, get_or-replicate, get_or-map, map-set, set-get_or}
 use Rattle.std.proofs.lemmas.List.Sums.{sum_by-set, count_by-le-length}

@@ -1,4 +1,6 @@
--- The next byte: one reached node more.
+-- The next byte: what is reached behind it, and the stop that is met first, with one reached node more.
+-- The node takes nothing, or leads where an earlier one led (whose origin is no later), or leads to a new node.
+-- The hard one is `moved_more`, a new node: each reached one has one before it, and each one before is led on.
 use Rattle.std.proofs.Common.{◌≡◌, ℕ, ◌+◌, ◌<◌, if◌then◌else◌, Option, Some, None, List, [], ◌∷◌, ◌++◌, length, refl, sym, ap, ◌∙◌, subst, inl, inr, arith, eq-eqb, ne_eqb}
 use Rattle.std.proofs.lemmas.Bool.{cases_lt, cases_eq}
 use Rattle.ere_tree.proofs.CapturesLemmas.{some_same}

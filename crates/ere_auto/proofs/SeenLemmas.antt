@@ -19,7 +19,7 @@ use Rattle.ere_auto.specs.Closure.{origin_in, Counts}
 use Rattle.ere_auto.specs.Span.{IsSpan}
 use Rattle.ere_auto.specs.Step.{Shows, Begun, limit_behind, StopsBy, Past, StandsAt, IsStep}
 use Rattle.ere_auto.specs.Seen.{State, IsFor, start_of, Matches, FoundBefore, StandsIn, HasSeen, HasFound, starts_behind, best_behind, Turns, GoesTo, EndsIn, Waits, Fresh}
-use Rattle.ere_auto.specs.Kept.{Kept, AreSteps}
+use Rattle.ere_auto.specs.RowTable.{RowTable, AreSteps}
 use Rattle.ere_auto.specs.declared.thread.Thread.{Thread}
 use Rattle.ere_auto.proofs.EdgeLemmas.{goes_on, stays_in, crosses}
 use Rattle.ere_auto.proofs.StepLemmas.{opened_before}
@@ -115,7 +115,7 @@ settled a t s n of m l f late = record {
 
 -- THE NEXT BYTE
 
-abbrev pub behind : State → List Thread → Bool → Bool → Kept → Option ℕ → Option ℕ → State
+abbrev pub behind : State → List Thread → Bool → Bool → RowTable → Option ℕ → Option ℕ → State
 behind a L line searching R begun met = record {
   nodes = a.nodes;
   entry = a.entry;

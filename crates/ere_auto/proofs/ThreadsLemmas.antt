@@ -1,4 +1,6 @@
--- Lists of threads beside the marks of their nodes, and lists that grow.
+-- Lists of threads beside the marks of their nodes, and lists that grow by threads of one origin.
+-- A mark is set where a thread has the node: a thread and its mark come together, so the two agree at each length.
+-- The hard one is `grown_on`, that a list which grew twice has grown.
 use Rattle.std.proofs.Common.{◌≡◌, ℕ, ◌<◌, ◌==◌, ◌||◌, Bool, true, false, List, [], ◌∷◌, ◌++◌, zero, suc, length, replicate, refl, sym, ap, ◌∙◌, subst, inl, inr, arith, slice_index_or, eq-eqb, ne_eqb, true≢false}
 use Rattle.std.proofs.Math.ListN.{set}
 use Rattle.std.proofs.lemmas.List.{get_or-set_same, get_or-set_other, get_or-replicate, get_or_past, length-replicate}

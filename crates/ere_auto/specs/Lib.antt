@@ -1,7 +1,7 @@
 pub mod Closing
 pub mod Closure
-pub mod Kept
-pub mod KeptView
+pub mod RowTable
+pub mod RowTableView
 pub mod Marks
 pub mod Moved
 pub mod Seen

@@ -8,7 +8,7 @@ use Rattle.ere_table.specs.Node.{node_at}
 use Rattle.ere_table.specs.Path.{Leads, LeadsAs}
 use Rattle.ere_auto.specs.Span.{IsFirstLongest, IsSpan}
 use Rattle.ere_auto.specs.Step.{StandsAt, IsStep}
-use Rattle.ere_auto.specs.Kept.{Kept, AreSteps}
+use Rattle.ere_auto.specs.RowTable.{RowTable, AreSteps}
 use Rattle.ere_auto.specs.declared.thread.Thread.{Thread}
 use Rattle.ere_table.specs.declared.node.Node as code
 
@@ -23,7 +23,7 @@ pub record State : Type 0 where
   pub threads : List Thread
   pub line : Bool  -- whether a line starts here
   pub searching : Bool  -- whether no match is known
-  pub kept : Kept  -- the steps that were made so far
+  pub kept : RowTable  -- the steps that were made so far
 
 -- the automaton is that of this expression
 pub record IsFor (a : State) (t : Tree) : Type 0 where

@@ -1,6 +1,6 @@
 -- What a value of the type `Auto` holds.
-use Rattle.ere_auto.specs.Kept.{row_in, threads_of}
-use Rattle.ere_auto.specs.KeptView.{kept_of}
+use Rattle.ere_auto.specs.RowTable.{row_in, threads_of}
+use Rattle.ere_auto.specs.RowTableView.{row_table_of}
 use Rattle.ere_auto.specs.Seen.{State}
 use Rattle.ere_auto.specs.declared.auto.Auto.{Auto}
 
@@ -12,8 +12,8 @@ state_of a = record {
   at = a.at;
   best = a.best;
   starts = a.starts.items;
-  threads = threads_of (kept_of a.rows) a.row;
+  threads = threads_of (row_table_of a.rows) a.row;
   line = (row_in a.rows.rows.items a.row).line;
   searching = (row_in a.rows.rows.items a.row).searching;
-  kept = kept_of a.rows;
+  kept = row_table_of a.rows;
 }

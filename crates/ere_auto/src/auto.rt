@@ -3,8 +3,8 @@ ghost use Rattle.std.specs.Prelude.{◌≡◌, ℕ, ◌+◌, ◌<◌, ◌≤◌,
 ghost use Rattle.ere_tree.specs.Shape.{has_refs};
 ghost use Rattle.ere_tree.specs.Tree.{Tree};
 ghost use Rattle.ere_tree.specs.View.{view};
-ghost use Rattle.ere_auto.specs.Kept.{row_in, threads_of, slot_or_zero};
-ghost use Rattle.ere_auto.specs.KeptView.{kept_of};
+ghost use Rattle.ere_auto.specs.RowTable.{row_in, threads_of, slot_or_zero};
+ghost use Rattle.ere_auto.specs.RowTableView.{row_table_of};
 ghost use Rattle.ere_auto.specs.Closure.{origin_in};
 ghost use Rattle.ere_auto.specs.Step.{IsStep};
 ghost use Rattle.ere_table.specs.Node.{node_at};
@@ -166,7 +166,7 @@ impl Auto {
     /// The step from the threads of the row. `moved` gets those behind it.
     fn step(&mut self, next: Option<u8>) -> Note
         ensures step { IsStep (node_at self.old.table.nodes.items) self.old.table.entry
-            (threads_of (kept_of self.old.rows) self.old.row) self.new.moved.held.items
+            (threads_of (row_table_of self.old.rows) self.old.row) self.new.moved.held.items
             (row_in self.old.rows.rows.items self.old.row).line
             (row_in self.old.rows.rows.items self.old.row).searching next result.begun result.met }
         ensures begun { slot_or_zero result.begun ≤ vec_len self.old.table.nodes }

@@ -2,7 +2,7 @@
 ghost use Rattle.std.specs.Prelude.{◌≡◌, ℕ, ◌+◌, ◌-◌, ◌*◌, ◌<◌, ◌≤◌, ◌==◌, ◌&&◌, ◌++◌, not, true, false, replicate, length, vec_len, vec_capacity, slice_index, IfOk, IfSome, Some, None};
 ghost use Rattle.ere_table.specs.Node.{Node};
 ghost use Rattle.ere_auto.specs.Closure.{node_in, origin_in};
-ghost use Rattle.ere_auto.specs.Kept.{row_in, threads_in, threads_of, cell_of, AreSteps, Keeps, IsRow, Leads, slot_or_zero};
+ghost use Rattle.ere_auto.specs.RowTable.{row_in, threads_in, threads_of, cell_of, AreSteps, Keeps, IsRow, Leads, slot_or_zero};
 
 use crate::row::Row;
 use crate::thread::Thread;
@@ -52,12 +52,12 @@ pub struct Rows {
 }
 
 impl Rows {
-    ghost use Rattle.ere_auto.specs.KeptView.{kept_of};
+    ghost use Rattle.ere_auto.specs.RowTableView.{row_table_of};
 
     /// The first two rows, for a table of so many nodes. All room is taken here.
     pub fn new(alloc: Global, nodes: usize) -> Result<Rows, AllocError>
         ensures nodes { IfOk result (λ made. made.nodes ≡ nodes) }
-        ensures steps { IfOk result (λ made. (T : ℕ → Node) (e : ℕ) → AreSteps T e (kept_of made)) }
+        ensures steps { IfOk result (λ made. (T : ℕ → Node) (e : ℕ) → AreSteps T e (row_table_of made)) }
     {
         let Some(room) = nodes.checked_add(MAX_ROWS * ROW_WIDTH) else {
             return Err(AllocError);
@@ -108,7 +108,7 @@ impl Rows {
     /// The threads of the row at a place.
     pub fn threads(&self, row: usize) -> &[Thread]
         requires { row < vec_len self.now.rows }
-        ensures { result.now ≡ threads_of (kept_of self.now) row }
+        ensures { result.now ≡ threads_of (row_table_of self.now) row }
     {
         let row = self.rows[row];
         &self.pool[row.from..row.to]
@@ -118,7 +118,7 @@ impl Rows {
     #[inline(always)]
     pub fn cell(&self, row: usize, byte: u8) -> usize
         requires { row < vec_len self.now.rows }
-        ensures value { result ≡ cell_of (kept_of self.now) row byte }
+        ensures value { result ≡ cell_of (row_table_of self.now) row byte }
         ensures inside { result < vec_len self.now.rows }
     {
         self.cells[row * 256 + byte as usize] as usize
@@ -128,9 +128,9 @@ impl Rows {
     pub fn learn(&mut self, from: usize, byte: u8, entered: Entered)
         requires from { entered.kept ≡ true → from < vec_len self.old.rows }
         requires to { entered.row < vec_len self.old.rows }
-        ensures steps { (T : ℕ → Node) (e : ℕ) → AreSteps T e (kept_of self.old) →
-            (entered.kept ≡ true → Leads T e (kept_of self.old) from byte entered.row) →
-            AreSteps T e (kept_of self.new) }
+        ensures steps { (T : ℕ → Node) (e : ℕ) → AreSteps T e (row_table_of self.old) →
+            (entered.kept ≡ true → Leads T e (row_table_of self.old) from byte entered.row) →
+            AreSteps T e (row_table_of self.new) }
         ensures rows { self.new.rows ≡ self.old.rows }
         ensures pool { self.new.pool ≡ self.old.pool }
         ensures nodes { self.new.nodes ≡ self.old.nodes }
@@ -144,8 +144,8 @@ impl Rows {
     fn set_cell(&mut self, row: usize, byte: u8, to: usize)
         requires row { row < vec_len self.old.rows }
         requires to { to < vec_len self.old.rows }
-        ensures steps { (T : ℕ → Node) (e : ℕ) → AreSteps T e (kept_of self.old) →
-            Leads T e (kept_of self.old) row byte to → AreSteps T e (kept_of self.new) }
+        ensures steps { (T : ℕ → Node) (e : ℕ) → AreSteps T e (row_table_of self.old) →
+            Leads T e (row_table_of self.old) row byte to → AreSteps T e (row_table_of self.new) }
         ensures rows { self.new.rows ≡ self.old.rows }
         ensures pool { self.new.pool ≡ self.old.pool }
         ensures nodes { self.new.nodes ≡ self.old.nodes }
@@ -164,7 +164,7 @@ impl Rows {
         met: Option<usize>,
     ) -> Option<usize>
         requires { slot < 64 }
-        ensures { IfSome result (λ row. IsRow (kept_of self.now) row threads.now line searching begun met) }
+        ensures { IfSome result (λ row. IsRow (row_table_of self.now) row threads.now line searching begun met) }
     {
         let known = self.index[slot] as usize;
         if known >= self.rows.len() {
@@ -185,7 +185,7 @@ impl Rows {
 
     /// Drops all rows but the first two, and what is known of them.
     fn clear(&mut self)
-        ensures steps { (T : ℕ → Node) (e : ℕ) → AreSteps T e (kept_of self.new) }
+        ensures steps { (T : ℕ → Node) (e : ℕ) → AreSteps T e (row_table_of self.new) }
         ensures rows { vec_len self.new.rows ≡ 2 }
         ensures pool { vec_len self.new.pool ≡ 0 }
         ensures nodes { self.new.nodes ≡ self.old.nodes }
@@ -201,8 +201,8 @@ impl Rows {
     /// Makes room for a row of so many threads, and tells whether all rows were kept.
     fn make_room(&mut self, count: usize) -> bool
         requires { count ≤ self.old.nodes }
-        ensures steps { (T : ℕ → Node) (e : ℕ) → AreSteps T e (kept_of self.old) → AreSteps T e (kept_of self.new) }
-        ensures kept { result ≡ true → Keeps (kept_of self.old) (kept_of self.new) }
+        ensures steps { (T : ℕ → Node) (e : ℕ) → AreSteps T e (row_table_of self.old) → AreSteps T e (row_table_of self.new) }
+        ensures kept { result ≡ true → Keeps (row_table_of self.old) (row_table_of self.new) }
         ensures rows { vec_len self.new.rows < 192 }
         ensures pool { vec_len self.new.pool + count ≤ self.new.room }
         ensures nodes { self.new.nodes ≡ self.old.nodes }
@@ -230,9 +230,9 @@ impl Rows {
         requires met { slot_or_zero met ≤ self.old.nodes }
         requires origins { (x : ℕ) → x < length threads.now → origin_in threads.now x ≤ self.old.nodes }
         requires within { (x : ℕ) → x < length threads.now → node_in threads.now x < self.old.nodes }
-        ensures row { IsRow (kept_of self.new) result threads.now line searching begun met }
-        ensures keeps { Keeps (kept_of self.old) (kept_of self.new) }
-        ensures steps { (T : ℕ → Node) (e : ℕ) → AreSteps T e (kept_of self.old) → AreSteps T e (kept_of self.new) }
+        ensures row { IsRow (row_table_of self.new) result threads.now line searching begun met }
+        ensures keeps { Keeps (row_table_of self.old) (row_table_of self.new) }
+        ensures steps { (T : ℕ → Node) (e : ℕ) → AreSteps T e (row_table_of self.old) → AreSteps T e (row_table_of self.new) }
         ensures nodes { self.new.nodes ≡ self.old.nodes }
         ensures few { result < 192 }
     {
@@ -268,9 +268,9 @@ impl Rows {
         requires met { slot_or_zero met ≤ self.old.nodes }
         requires origins { (x : ℕ) → x < length threads.now → origin_in threads.now x ≤ self.old.nodes }
         requires within { (x : ℕ) → x < length threads.now → node_in threads.now x < self.old.nodes }
-        ensures row { IsRow (kept_of self.new) result.row threads.now line searching begun met }
-        ensures kept { result.kept ≡ true → Keeps (kept_of self.old) (kept_of self.new) }
-        ensures steps { (T : ℕ → Node) (e : ℕ) → AreSteps T e (kept_of self.old) → AreSteps T e (kept_of self.new) }
+        ensures row { IsRow (row_table_of self.new) result.row threads.now line searching begun met }
+        ensures kept { result.kept ≡ true → Keeps (row_table_of self.old) (row_table_of self.new) }
+        ensures steps { (T : ℕ → Node) (e : ℕ) → AreSteps T e (row_table_of self.old) → AreSteps T e (row_table_of self.new) }
         ensures nodes { self.new.nodes ≡ self.old.nodes }
     {
         let slot = slot_of(threads, line, searching, met);

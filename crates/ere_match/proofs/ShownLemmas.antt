@@ -1,4 +1,6 @@
--- How far an automaton was shown a slice.
+-- How far an automaton was shown a slice when its answer was known, and what the answer says of the slice.
+-- Early, where the span can get no longer; at the end otherwise. Places before the first shown one begin no match.
+-- The hard one is `span_from_start`, that the span found from a later start is that of the slice.
 use Rattle.std.proofs.Common.{◌≡◌, ℕ, ◌+◌, ◌<◌, ◌≤◌, ◌∷◌, ◌++◌, Option, Some, None, List, suc, length, take, drop, refl, sym, ap, ◌∙◌, subst, inl, inr, arith, slice_index, IsSome, take-append-drop, take_all, true≢false}
 use Rattle.std.proofs.Math.Seq.{drop-cons}
 use Rattle.ere_tree.specs.declared.hit.Cap.{Cap}

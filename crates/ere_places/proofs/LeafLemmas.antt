@@ -1,4 +1,6 @@
--- Where an expression with nothing inside leads.
+-- Where an expression with nothing inside (bytes, a set, an anchor, the empty one) leads from a place, either way.
+-- A leaf's span is told by a test of the bytes at one end, which has at most one other end.
+-- The hard ones are `leads_plain` and `still`, a leaf that takes bytes and one that takes none.
 use Rattle.std.proofs.Common.{◌≡◌, ◌↔◌, ℕ, ◌+◌, ◌<◌, ◌≤◌, IsTrue, Option, Some, None, List, length, slice_index, refl, sym, ap, ◌∙◌, subst, arith}
 use Rattle.std.specs.List.{Contains}
 use Rattle.std.specs.FinMap.{empty}

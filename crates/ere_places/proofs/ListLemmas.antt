@@ -1,4 +1,6 @@
 -- Lists of places, each once, beside the set of what they have: one place more, which is new or not.
+-- The set says what the list has, so a place is pushed where the set has it not, and both stay as they are elsewhere.
+-- The hard one is `both_push`, a new place in the list and in the set.
 use Rattle.std.proofs.Common.{◌≡◌, ◌↔◌, ℕ, ◌+◌, ◌<◌, ◌≤◌, Bool, true, false, not, ◌||◌, ◌==◌, IsTrue, List, [], ◌∷◌, ◌++◌, length, take, get_or, refl, sym, ap, ◌∙◌, subst, inl, inr, arith, eqb-true, eq-eqb, length-take}
 use Rattle.std.specs.Prelude.{◌⊎◌}
 use Rattle.std.specs.List.{Contains}

@@ -1,4 +1,6 @@
--- A tree that stands in a table derives what the table's paths lead through.
+-- A tree that stands in a table derives what paths of the table lead through: what derives is led through.
+-- By induction on the tree: the path of each part ends where that of the next begins.
+-- The hard one is `repeat_leads`, copies that have to be there, then copies that may, or a loop.
 use Rattle.std.proofs.Common.{◌≡◌, ℕ, Option, Some, None, List, [], ◌∷◌, ◌+◌, ◌-◌, ◌<◌, ◌≤◌, zero, suc, length, take, drop, refl, sym, ap, ◌∙◌, subst, inl, inr, arith, slice_index}
 use Rattle.std.proofs.Math.Seq.{drop-cons}
 use Rattle.std.proofs.lemmas.Option.{none-some}

@@ -1,4 +1,6 @@
--- One more part in front of those that stand in a table.
+-- One more part in front of those that stand in a table: of a concatenation, of a choice, of a repeat.
+-- The old parts still stand, for the table only grew; the new part stands at its own nodes and ends where they begin.
+-- The hard ones are `loop_first`, whose fork is written over a stop that was kept for it, and `copy_more`.
 use Rattle.std.proofs.Common.{◌≡◌, ◌≢◌, ℕ, false, List, [], ◌∷◌, ◌+◌, ◌<◌, ◌≤◌, zero, suc, length, drop, map, sym, ap, ◌∙◌, subst, inl, inr, arith, slice_index, slice_index_or}
 use Rattle.std.proofs.Math.ListN.{set}
 use Rattle.std.proofs.lemmas.List.{length-set, get_or-set_same, get_or-set_other}

@@ -1,4 +1,6 @@
 -- What a table leads through is derived by the tree that stands in it.
+-- By induction on the tree, with a path's length for loops: a path from a tree's first node passes its last one.
+-- The hard one is `repeat_sound`, and in it `copies_sound`: which copies a path went through.
 use Rattle.std.proofs.Common.{◌≡◌, ℕ, Bool, true, false, Option, Some, None, List, [], ◌∷◌, ◌+◌, ◌≤◌, zero, suc, length, refl, sym, ap, ◌∙◌, subst, inl, inr, arith, slice_index, true≢false}
 use Rattle.std.specs.Prelude.{slice_index_or}
 use Rattle.std.specs.List.{Contains}

@@ -1,5 +1,6 @@
 -- What stands in a table still stands where other nodes are added, or a stop gives way to another node.
 -- No expression stands on a stop: so each node that an expression names is the same in both tables, node by node.
+-- The hard one is `repeat_stays`.
 use Rattle.std.proofs.Common.{◌≡◌, ℕ, Bool, true, false, Option, Some, None, List, [], ◌∷◌, ◌⊎◌, zero, suc, length, sym, ap, ◌∙◌, inl, inr, arith, true≢false}
 use Rattle.std.proofs.lemmas.Bool.{cases_lt}
 use Rattle.std.proofs.lemmas.List.{get_or_past}

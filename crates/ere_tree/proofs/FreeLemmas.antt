@@ -1,5 +1,6 @@
 -- Without references captures don't matter: whatever groups hold before, the same way derives the same part.
 -- By induction on the tree; what changes is the captures that are handed on.
+-- The hard one is `each_free`, all shapes of a tree at once.
 use Rattle.std.proofs.Common.{◌≡◌, ℕ, Bool, true, false, ◌||◌, Some, zero, suc, List, refl, sym, subst, true≢false}
 use Rattle.std.specs.FinMap.{insert}
 use Rattle.std.proofs.lemmas.Option.{none-some}

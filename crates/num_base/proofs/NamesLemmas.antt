@@ -1,5 +1,6 @@
--- What a map under names has at a name: a list of entries in order of names, as std's map holds them, is a finite map;
--- putting an entry in is inserting it. Shown at each name by the order of the entries; the hard one is `put_at`.
+-- What a map under names has at a name: a list of entries in order of names, as std's map holds them, is a finite
+-- map; putting an entry in is inserting it. Shown at each name by the order of the entries.
+-- The hard one is `put_at`.
 use Rattle.std.proofs.Common.{◌≡◌, ℕ, Bool, true, false, true≢false, cond, is_some, Option, Some, List, [], ◌∷◌, map, refl, sym, ap, ◌∙◌}
 use Rattle.std.specs.Prelude.{Vec}
 use Rattle.std.specs.declared.alloc.Global.{Global}

@@ -1,5 +1,6 @@
--- What was read of an expression, and what the rest of the text adds to it, is what the whole text says: a token that
--- is taken, a blank, a byte that can't be read on, and the end each leave what is said as it is (`said_*`).
+-- What was read of an expression, and what the rest of the text adds to it, is what the whole text says.
+-- Each leaves what is said as it is: a token that is taken, a blank, a byte that can't be read on, the end (`said_*`).
+-- The hard one is `said_next`, a token that is taken.
 use Rattle.std.proofs.Common.{◌≡◌, ℕ, ◌+◌, ◌-◌, ◌<◌, ◌≤◌, suc, zero, Bool, true, false, true≢false, List, [], ◌∷◌, ◌++◌, length, drop, Option, Some, None, Ok, Err, refl, sym, ap, ◌∙◌, subst, arith, append_assoc, if◌then◌else◌}
 use Rattle.std.specs.Prelude.{nat_le, is_some}
 use Rattle.ere_tree.specs.Class.{is_blank}

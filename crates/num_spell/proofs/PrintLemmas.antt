@@ -1,4 +1,6 @@
--- What is printed is a spelling with the least digits.
+-- What is printed is a spelling of the value with the least digits that its format asks for.
+-- The digits of a number are of its base and begin with no zero, but those of 0; zeros in front change no value.
+-- The hard one is `padded_digits`, that the padded digits are as many as written, and no more than they must be.
 use Rattle.std.proofs.Common.{◌≡◌, ◌≢◌, ℕ, ◌+◌, ◌-◌, ◌*◌, ◌<◌, ◌≤◌, ◌/◌, ◌%◌, ◌^◌, suc, zero, Bool, true, false, ◌&&◌, List, [], ◌∷◌, ◌++◌, reverse, refl, sym, ap, ◌∙◌, arith, if◌then◌else◌, ◌==◌, append_assoc, inl, inr, length, length-append, max, true≢false, zero-mul, mul-zero, IsTrue, ℤ, pos, negsuc}
 use Rattle.std.specs.Prelude.{replicate, slice_index, unsigned_abs, neg_ℤ}
 use lib.Signed.{mag}

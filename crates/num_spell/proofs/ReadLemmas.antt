@@ -1,5 +1,6 @@
--- What is read is what is spelled: the parts of a spelling are told apart by the bytes in front of them. The test of
--- the digits tells what the relation says (`digits_out`, `digits_in`); the hard ones are `is_spelled` and `spells`.
+-- What is read is what is spelled: the parts of a spelling are told apart by the bytes in front of them.
+-- The test of the digits tells what the relation says (`digits_out`, `digits_in`); a minus and a lead are no digits.
+-- The hard ones are `is_spelled` and `spells`, the two ways.
 use Rattle.std.proofs.Common.{◌≡◌, ℕ, ◌≤◌, ◌^◌, inl, inr, Bool, true, false, true≢false, ◌&&◌, ◌||◌, ◌==◌, not, IsTrue, List, [], ◌∷◌, ◌++◌, length, drop, Option, Some, None, refl, sym, ap, ◌∙◌, arith, zero, suc, ℤ, if◌then◌else◌, nat_lt, nat_le, max}
 use Rattle.std.specs.Prelude.{option_and_then, is_some, IfSome}
 use Rattle.std.specs.Str.Parse.{digits_value}

@@ -1,4 +1,6 @@
--- Lemmas about what words give.
+-- What one word more gives: its row is given once more, last, and first where it was given never before.
+-- By induction on what was given; the counts of the rows, and of the plain words, add up to its length.
+-- The hard ones are `tally_row` and `tally_plain`.
 use Rattle.std.proofs.Common.{◌≡◌, ◌==◌, ◌∙◌, ℕ, ◌+◌, ◌≤◌, List, [], ◌∷◌, ◌++◌, length, get_or, ◌<◌, Option, Some, None, refl, if◌then◌else◌, arith}
 use Rattle.std.proofs.Math.ListN.{length-set, set}
 use Rattle.std.proofs.lemmas.Grind.{common_steps}

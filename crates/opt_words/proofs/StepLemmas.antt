@@ -1,5 +1,6 @@
 -- The reading of words goes step by step: where a step ends, fails, takes one too many, or leads on, so does the
--- reading from its word on.
+-- reading from its word on. A step takes one word or two, and gives one given at most.
+-- The hard one is `behind_step`, what the words behind a step say where its value was the next word, and where not.
 use Rattle.std.proofs.Common.{◌≡◌, ◌∙◌, ℕ, ◌+◌, ◌-◌, ◌<◌, ◌≤◌, Bool, true, false, List, [], ◌∷◌, length, drop, slice_get, Option, Some, None, refl, ap, arith, nat_lt, ltb-true, ltb-false, length-append, length-drop}
 use Rattle.std.proofs.lemmas.List.{drop-drop}
 use Rattle.std.specs.Prelude.{Result, Ok, Err}

@@ -1,5 +1,5 @@
 use Rattle.std.proofs.Common.{arith}
-use Rattle.ere_auto.proofs.KeptLemmas.{same_lists}
+use Rattle.ere_auto.proofs.RowTableLemmas.{same_lists}
 use Rattle.ere_auto.proofs.rows.same_threads.Goals as goal
 
 pub returns : goal.returns

@@ -1,3 +1,6 @@
+-- The reader of an expression keeps what the whole text says: at each turn, what was read and what the rest adds.
+-- Each turn is one lemma of ReaderLemmas (a token, a blank, a byte that is no token, the end).
+-- The hard one is `loop-done-preserved`, the turn of a token.
 use Rattle.std.proofs.Common.{◌≡◌, ℕ, ◌<◌, ◌≤◌, ◌+◌, ◌-◌, ◌++◌, length, drop, sym, ap, ◌∙◌, arith, length-drop}
 use Rattle.std.specs.Option.{option_map}
 use Rattle.std.proofs.lemmas.List.{drop-drop}

@@ -1,11 +1,11 @@
 use Rattle.std.proofs.Common.{◌≡◌, ◌<◌, ◌==◌, ◌&&◌, is_none, List, length, refl, sym, ap, ◌∙◌, subst, arith}
 use Rattle.ere_table.specs.Node.{node_at}
-use Rattle.ere_auto.specs.Kept.{row_in, threads_of, AreSteps, Keeps, IsRow, Leads}
-use Rattle.ere_auto.specs.KeptView.{kept_of}
+use Rattle.ere_auto.specs.RowTable.{row_in, threads_of, AreSteps, Keeps, IsRow, Leads}
+use Rattle.ere_auto.specs.RowTableView.{row_table_of}
 use Rattle.ere_auto.specs.State.{state_of}
 use Rattle.ere_auto.specs.declared.thread.Thread.{Thread}
 use Rattle.ere_auto.specs.declared.rows.Rows.{Rows}
-use Rattle.ere_auto.proofs.KeptLemmas.{leads_new, turns_new}
+use Rattle.ere_auto.proofs.RowTableLemmas.{leads_new, turns_new}
 use Rattle.ere_auto.proofs.auto.Auto.miss.Goals as goal
 
 pub returns-clause-turns : goal.returns-clause-turns
@@ -13,16 +13,16 @@ returns-clause-turns c = λ t of.
     let old = c.args.self.now in
     let T = node_at old.table.nodes.items in
     let e = old.table.entry in
-    let R = kept_of old.rows in
-    let S = kept_of c.enter-entered.new.self in
-    let L = kept_of c.learn.new.self in
+    let R = row_table_of old.rows in
+    let S = row_table_of c.enter-entered.new.self in
+    let L = row_table_of c.learn.new.self in
     let K : List Thread = c.step-note.new.self.moved.held.items in
     let to = c.enter-entered.result.row in
     let byte = c.args.byte in
     let seeks = c.seeks-searching.result in
     let begun = c.step-note.result.begun in
     let met = c.step-note.result.met in
-    let same : kept_of c.step-note.new.self.rows ≡ R = ap (λ (x : Rows). kept_of x) c.step-note.ensures.rows in
+    let same : row_table_of c.step-note.new.self.rows ≡ R = ap (λ (x : Rows). row_table_of x) c.step-note.ensures.rows in
     let known : AreSteps T e S =
     c.enter-entered.ensures.steps T e (subst (AreSteps T e) (sym same) of.steps) in
     let row : IsRow S to K (byte == 10) seeks begun met =

@@ -1,8 +1,8 @@
 use Rattle.std.proofs.Common.{◌≡◌, ◌∙◌, true, ap, sym, length, arith}
 use Rattle.std.proofs.lemmas.Bool.{not-false}
-use Rattle.ere_auto.specs.Kept.{row_in}
+use Rattle.ere_auto.specs.RowTable.{row_in}
 use Rattle.ere_auto.specs.State.{state_of}
-use Rattle.ere_auto.proofs.KeptLemmas.{over_row}
+use Rattle.ere_auto.proofs.RowTableLemmas.{over_row}
 use Rattle.ere_auto.proofs.SeenLemmas.{seen_more, seen_waiting, known_behind}
 use Rattle.ere_auto.proofs.auto.Auto.show.Goals as goal
 

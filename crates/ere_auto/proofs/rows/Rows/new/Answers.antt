@@ -1,7 +1,7 @@
 use Rattle.std.proofs.Common.{◌≡◌, ℕ, ◌+◌, ◌<◌, ◌≤◌, ◌==◌, ◌&&◌, not, true, false, None, refl, ap, arith, length}
-use Rattle.ere_auto.specs.Kept.{row_in, slot_or_zero}
+use Rattle.ere_auto.specs.RowTable.{row_in, slot_or_zero}
 use Rattle.ere_auto.specs.declared.row.Row.{Row}
-use Rattle.ere_auto.proofs.KeptLemmas.{two_of, each_two, all_zero, steps_none}
+use Rattle.ere_auto.proofs.RowTableLemmas.{two_of, each_two, all_zero, steps_none}
 use Rattle.ere_auto.proofs.rows.Rows.new.Goals as goal
 
 pub invariant_of-result : goal.invariant_of-result

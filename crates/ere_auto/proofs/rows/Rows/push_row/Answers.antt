@@ -1,9 +1,12 @@
+-- A row that is pushed: the table of steps keeps its invariant, and all that it knew stays known.
+-- The lists are the old ones with an end, so each old row, its threads and its cells are where they were.
+-- The hard one is `invariant_of-self`, the invariant field by field.
 use Rattle.std.proofs.Common.{◌≡◌, ℕ, ◌+◌, ◌*◌, ◌<◌, ◌≤◌, ◌==◌, ◌&&◌, not, true, false, length, refl, sym, ap, ◌∙◌, arith, List, length-append}
-use Rattle.ere_auto.specs.Kept.{row_in, slot_or_zero}
-use Rattle.ere_auto.specs.KeptView.{kept_of}
+use Rattle.ere_auto.specs.RowTable.{row_in, slot_or_zero}
+use Rattle.ere_auto.specs.RowTableView.{row_table_of}
 use Rattle.ere_auto.specs.declared.row.Row.{Row}
 use Rattle.ere_auto.specs.declared.thread.Thread.{Thread}
-use Rattle.ere_auto.proofs.KeptLemmas.{each_row, each_thread, row_kept, threads_kept, cells_inside, keeps_more, steps_more}
+use Rattle.ere_auto.proofs.RowTableLemmas.{each_row, each_thread, row_kept, threads_kept, cells_inside, keeps_more, steps_more}
 use Rattle.ere_auto.proofs.rows.Rows.push_row.Goals as goal
 
 pub invariant_of-self : goal.invariant_of-self
@@ -83,7 +86,7 @@ invariant_of-self c =
 pub returns-clause-steps : goal.returns-clause-steps
 returns-clause-steps c = λ T e known.
     let old = c.args.self.now in
-    let R = kept_of old in
+    let R = row_table_of old in
     let long : length old.rows.items ≡ old.rows.len = omega (arith, old.rows.ok.0) in
     steps_more T e R _
     (keeps_more R _ c.args.threads.now _ c.push_reserved.ensures.items c.add_threads.ensures.items

@@ -1,3 +1,6 @@
+-- Writing an expression into the table: it stands at the nodes that were written, and what stood there stands on.
+-- Each loop writes its parts from the last to the first, with one lemma of PutLemmas for a part more.
+-- The hard ones are those of `put_loop` and `put_copies`.
 use Rattle.std.proofs.Common.{rules, ◌≡◌, ◌+◌, ◌-◌, ◌≤◌, Some, None, sym, ap, ◌∙◌, subst, arith}
 use Rattle.std.specs.Result.{OnOk}
 use denote.Param.Weighed.{most}

@@ -1,5 +1,6 @@
--- Rows that are kept: what stays where a cell is written or a row is added.
--- A row and its threads stay where they are, so a step between rows stays that step; a new row has no cell that is known.
+-- Rows of a table of steps: what stays where a cell is written or a row is added.
+-- A row and its threads stay where they are, so a step between rows stays that step; a new row has no known cell.
+-- The hard ones are `leads_still` and `leads_new`, a step between old rows, and one to the new row.
 use Rattle.std.proofs.Common.{◌≡◌, ℕ, ◌+◌, ◌-◌, ◌*◌, ◌<◌, ◌≤◌, ◌⊎◌, ◌==◌, ◌&&◌, ◌++◌, Bool, true, false, not, true≢false, Option, Some, List, [], ◌∷◌, zero, suc, length, take, drop, replicate, refl, sym, ap, ◌∙◌, subst, inl, inr, arith, slice_index, slice_index_or, is_none, length-drop, length-append}
 use Rattle.std.proofs.Math.ListN.{set}
 use Rattle.std.proofs.Math.Seq.{get_or-append_seam}
@@ -10,12 +11,12 @@ use Rattle.ere_auto.specs.declared.row.Row.{Row}
 use Rattle.ere_auto.specs.declared.thread.Thread.{Thread}
 use Rattle.ere_table.specs.Node.{Node}
 use Rattle.ere_auto.specs.Step.{IsStep}
-use Rattle.ere_auto.specs.Kept.{Kept, no_row, row_in, threads_in, threads_of, cell_of, Leads, AreSteps, Keeps, IsRow}
+use Rattle.ere_auto.specs.RowTable.{RowTable, no_row, row_in, threads_in, threads_of, cell_of, Leads, AreSteps, Keeps, IsRow}
 use Rattle.ere_table.specs.Node.{node_at}
 use Rattle.ere_auto.specs.Seen.{State, Turns}
 
 -- a row leads as before where the rows are those that were there
-pub leads_still : (T : ℕ → Node) (e : ℕ) (R S : Kept) (r b c : ℕ) → Keeps R S → r < length R.rows → Leads T e R r b c
+pub leads_still : (T : ℕ → Node) (e : ℕ) (R S : RowTable) (r b c : ℕ) → Keeps R S → r < length R.rows → Leads T e R r b c
     → Leads T e S r b c
 leads_still T e R S r b c k l h =
     let row = sym (k.rows r l) in
@@ -37,7 +38,7 @@ leads_still T e R S r b c k l h =
           ∙ (λ i. (row i).searching && is_none (to i).met);
     }
 
-pub steps_set : (T : ℕ → Node) (e : ℕ) (R S : Kept) (r b c : ℕ) → Keeps R S → length R.cells ≡ 256 * length R.rows
+pub steps_set : (T : ℕ → Node) (e : ℕ) (R S : RowTable) (r b c : ℕ) → Keeps R S → length R.cells ≡ 256 * length R.rows
     → length S.rows ≡ length R.rows → S.cells ≡ set R.cells (r * 256 + b) c → r < length R.rows → b < 256
     → AreSteps T e R → Leads T e R r b c → AreSteps T e S
 steps_set T e R S r b c k long same cells l m a h = record {
@@ -61,7 +62,7 @@ steps_set T e R S r b c k long same cells l m a h = record {
   ];
 }
 
-pub keeps_rows : (R S : Kept) → S.pool ≡ R.pool → S.rows ≡ R.rows → Keeps R S
+pub keeps_rows : (R S : RowTable) → S.pool ≡ R.pool → S.rows ≡ R.rows → Keeps R S
 keeps_rows R S p r = record {
   longer = omega (arith, ap length r);
   rows = λ q l. ap (λ x. row_in x q) r;
@@ -141,7 +142,7 @@ cells_inside cells new few more e l z h k =
     ]
 
 -- with a row more, of which no cell is known
-pub steps_more : (T : ℕ → Node) (e : ℕ) (R S : Kept) → Keeps R S → length R.cells ≡ 256 * length R.rows
+pub steps_more : (T : ℕ → Node) (e : ℕ) (R S : RowTable) → Keeps R S → length R.cells ≡ 256 * length R.rows
     → length S.rows ≡ length R.rows + 1 → S.cells ≡ R.cells ++ replicate 256 0 → AreSteps T e R → AreSteps T e S
 steps_more T e R S k long more cells a = record {
   cells = λ r b l m known. elim (cases_lt r (length R.rows)) [
@@ -156,7 +157,7 @@ steps_more T e R S k long more cells a = record {
 }
 
 -- where no cell is known
-pub steps_none : (T : ℕ → Node) (e : ℕ) (R : Kept) → ((k : ℕ) → slice_index R.cells k ≡ 0) → AreSteps T e R
+pub steps_none : (T : ℕ → Node) (e : ℕ) (R : RowTable) → ((k : ℕ) → slice_index R.cells k ≡ 0) → AreSteps T e R
 steps_none T e R z = record { cells = λ r b l m known. absurd (omega (arith, known, z (r * 256 + b))) }
 
 -- THE FIRST TWO ROWS
@@ -178,7 +179,7 @@ all_zero none some all e f g k =
       | inr second ↦ cell_zero some all k g second
     ]
 
-pub keeps_more : (R S : Kept) (more : List Thread) (row : Row) → S.rows ≡ R.rows ++ row ∷ [] → S.pool ≡ R.pool ++ more
+pub keeps_more : (R S : RowTable) (more : List Thread) (row : Row) → S.rows ≡ R.rows ++ row ∷ [] → S.pool ≡ R.pool ++ more
     → ((r : ℕ) → r < length R.rows → (row_in R.rows r).from ≤ (row_in R.rows r).to)
     → ((r : ℕ) → r < length R.rows → (row_in R.rows r).to ≤ length R.pool) → Keeps R S
 keeps_more R S more row e f ordered ranges = record {
@@ -201,7 +202,7 @@ each_two P all a b e p q (suc (suc r)) l = absurd (omega (arith, l))
 
 -- A STEP THAT IS NEW
 
-pub leads_new : (T : ℕ → Node) (e : ℕ) (R S : Kept) (r b c : ℕ) (K : List Thread) (line searching : Bool)
+pub leads_new : (T : ℕ → Node) (e : ℕ) (R S : RowTable) (r b c : ℕ) (K : List Thread) (line searching : Bool)
     (begun met : Option ℕ) → Keeps R S → r < length R.rows → IsRow S c K line searching begun met
     → IsStep T e (threads_of R r) K (row_in R.rows r).line (row_in R.rows r).searching (Some b) begun met
     → line ≡ (b == 10) → searching ≡ ((row_in R.rows r).searching && is_none met) → Leads T e S r b c
@@ -225,7 +226,7 @@ leads_new T e R S r b c K line searching begun met k l row step at seeks =
     }
 
 -- the state behind a step that is new
-pub turns_new : (a b : State) (S L : Kept) (byte c : ℕ) (K : List Thread) (line searching : Bool) (begun met : Option ℕ)
+pub turns_new : (a b : State) (S L : RowTable) (byte c : ℕ) (K : List Thread) (line searching : Bool) (begun met : Option ℕ)
     → IsStep (node_at a.nodes) a.entry a.threads K a.line a.searching (Some byte) begun met → line ≡ (byte == 10)
     → searching ≡ (a.searching && is_none met) → IsRow S c K line searching begun met → L.pool ≡ S.pool → L.rows ≡ S.rows
     → b.threads ≡ threads_of L c → b.line ≡ (row_in L.rows c).line → b.searching ≡ (row_in L.rows c).searching
