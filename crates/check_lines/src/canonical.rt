@@ -149,12 +149,12 @@ fn is_kept(strict: bool, byte: u8, next: u8) -> bool
     !(((byte == b'\r') & (next == b'\n')) | ((!strict & is_blank(byte)) & is_blank(next)))
 }
 
-/// What stands for a byte that is kept.
+/// What stands for a byte that is kept: of the blanks a tab alone is another byte. There is no branch.
 #[inline(always)]
 fn shown(strict: bool, byte: u8) -> u8
     ensures { result ≡ shown strict byte }
 {
-    if !strict & is_blank(byte) { b' ' } else { byte }
+    byte + (b' ' - b'\t') * (!strict & (byte == b'\t')) as u8
 }
 
 /// Whether a byte is a space or a tab.
