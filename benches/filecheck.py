@@ -137,6 +137,33 @@ def write_many(checks, text, count):
             lines.write(f"\top\t{k}\tvalue {k * k % 997}\n")
 
 
+def write_next(checks, text, count):
+    """A CHECK, and as many CHECK-NEXT, each for a line of plain text."""
+    with open(checks, "w") as out, open(text, "w") as lines:
+        for k in range(count + 1):
+            out.write(f"; CHECK{'-NEXT' if k else ''}: op {k} value {k * k % 997}\n")
+            lines.write(f"\top\t{k}\tvalue {k * k % 997}\n")
+
+
+def write_counted(checks, text, count):
+    """One directive that is met once on each of so many lines."""
+    with open(checks, "w") as out, open(text, "w") as lines:
+        out.write(f"; CHECK-COUNT-{count}: call puts\n")
+        for k in range(count):
+            lines.write(f"\tcall puts {k}\n")
+
+
+def write_sparse(checks, text, count):
+    """A check file of so many lines, of which each tenth is a directive."""
+    with open(checks, "w") as out, open(text, "w") as lines:
+        for k in range(count):
+            if k % 10 == 9:
+                out.write(f"; CHECK: op {k} value {k * k % 997}\n")
+                lines.write(f"\top\t{k}\tvalue {k * k % 997}\n")
+            else:
+                out.write(f"  %{k} = add nsw i32 %{k - 1}, {k % 97} ; the check is below\n")
+
+
 def other_programs():
     """LLVM's FileCheck, by its name or in the folder of the newest LLVM."""
     named = [shutil.which("FileCheck"), shutil.which("FileCheck-14")]
@@ -200,6 +227,17 @@ def row(title, commands, text, status, rounds):
     print("| " + " | ".join(cells) + " |", flush=True)
 
 
+# The check files with many directives or many lines: the title of each, what writes it, and its size.
+MANY = [
+    ("50,000 directives on 50,000 lines", write_many, 50000),
+    ("20,000 CHECK-NEXT of plain text", write_next, 20000),
+    ("CHECK-COUNT-100000 on 100,000 lines", write_counted, 100000),
+    ("a check file of 200,000 lines, one in ten a directive", write_sparse, 200000),
+]
+FIVE = ["--check-prefixes=CHECK,OTHER", "--comment-prefixes=COM,RUN", "--allow-unused-prefixes", "--strict-whitespace",
+        "--allow-empty"]
+
+
 def main():
     wants = argparse.ArgumentParser(description="Times filecheck beside LLVM's FileCheck.")
     wants.add_argument("--mib", type=int, default=60, help="size of the large inputs (60)")
@@ -226,7 +264,8 @@ def main():
         at = lambda name: os.path.join(folder, name)
         with open(at("checks"), "w") as out:
             out.write(f"; CHECK: {NEEDLE}\n")
-        commands = lambda checks: [[ours, at(checks)]] + [[other, "--dump-input=never", at(checks)] for other in others]
+        commands = lambda checks, *words: [[ours, *words, at(checks)]] + [
+            [other, "--dump-input=never", *words, at(checks)] for other in others]
 
         write_input(at("nowhere"), given.mib * MIB, False)
         row(f"{given.mib} MiB, found nowhere", commands("checks"), at("nowhere"), 1, given.rounds)
@@ -234,10 +273,13 @@ def main():
         for mib in (given.mib, given.mib // 2, given.mib // 4):
             write_input(at("end"), mib * MIB, True)
             row(f"{mib} MiB, found at the end", commands("checks"), at("end"), 0, given.rounds)
-        write_many(at("many checks"), at("many lines"), 50000)
-        row("50,000 directives on 50,000 lines", commands("many checks"), at("many lines"), 0, given.rounds)
+        for title, write, count in MANY:
+            write(at("many checks"), at("many lines"), count)
+            row(title, commands("many checks"), at("many lines"), 0, given.rounds)
         write_input(at("tiny"), 64, True)
         row("a tiny file, best of 300", commands("checks"), at("tiny"), 0, 300)
+        write_shape(at("tiny"), 64, SHAPES["plain lines"])
+        row("a tiny file and five options, best of 300", commands("checks", *FIVE), at("tiny"), 0, 300)
 
         floor = floor_program(folder)
         titles = ["text, nanoseconds a byte", "ours"] + ["LLVM", "ours / LLVM"] * bool(others)
