@@ -3,6 +3,5 @@ pub mod ChecksLemmas
 pub mod CutLemmas
 pub mod DecisionLemmas
 pub mod LineLemmas
-pub mod PrefixLemmas
 pub mod SuffixLemmas
 pub mod UnusedLemmas

@@ -1,5 +1,5 @@
 -- What stands on a line, and what a directive's mistake has to do with it.
-use Rattle.std.proofs.Common.{◌≡◌, ℕ, ◌+◌, ◌≤◌, Option, None, Some, Result, Ok, Err, arith}
+use Rattle.std.proofs.Common.{ℕ, ◌+◌, ◌≤◌, Option, None, Some, Result, Ok, Err, arith}
 use Rattle.std.specs.Prelude.{IfSome}
 use Rattle.tt_base.specs.declared.place.Place.{Place}
 use Rattle.check_lines.specs.Line.{IsOnLine, LiesOnLine}

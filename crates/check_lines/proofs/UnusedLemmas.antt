@@ -1,13 +1,13 @@
 -- Which check prefixes no directive has: a list of flags, one for each prefix, tells the first of them.
 -- By induction on the directives: each sets the flag of its prefix, and a flag that is set stays set.
 -- The hard one is `used_next`, a directive more.
-use Rattle.std.proofs.Common.{length-set, ◌≡◌, ℕ, zero, suc, ◌+◌, ◌<◌, ◌≤◌, Bool, true, false, not, ◌||◌, List, [], ◌∷◌, ◌++◌, Option, Some, None, cond, eqb, length, get_or, take, take_all, refl, sym, ◌∙◌, ap, subst, arith, add-one}
+use Rattle.std.proofs.Common.{length-set, ◌≡◌, ℕ, suc, ◌+◌, ◌<◌, ◌≤◌, Bool, true, false, not, ◌||◌, List, [], ◌∷◌, ◌++◌, Option, Some, None, cond, eqb, length, get_or, take, take_all, refl, sym, ◌∙◌, ap, subst, arith}
 use Rattle.std.proofs.Math.ListN.{set}
 use Rattle.std.proofs.lemmas.Bool.Decides.{nat_tests}
 use Rattle.std.proofs.lemmas.List.{get_or-replicate, length-replicate, get_or-set_other, get_or-set_same, take_more}
 use Rattle.std.proofs.lemmas.List.Folds.{list_any-append}
 use Rattle.std.specs.Prelude.{nat_lt, replicate}
-use Rattle.std.specs.List.{list_any, position_from}
+use Rattle.std.specs.List.{position_from}
 use Rattle.check_lines.specs.Checks.{is_used, unused_from, unused_prefix}
 use Rattle.check_lines.specs.declared.directive.Directive.{Directive}
 

@@ -2,7 +2,7 @@
 -- After LLVM Command Guide, FileCheck: directives count in the order of their lines, and --allow-unused-prefixes.
 -- Own rules: the first line that is refused refuses the file, and so do, behind all lines, a file without a directive, and one
 -- of several check prefixes that no directive has.
-use Rattle.std.specs.Prelude.{◌≡◌, ◌≢◌, ◌⊎◌, ◌<◌, ◌≤◌, ⊤, ◌++◌, ℕ, zero, suc, ◌+◌, ◌-◌, ◌==◌, nat_lt, Bool, true, false, ◌&&◌, ◌||◌, not, if◌then◌else◌, List, [], ◌∷◌, take, drop, length, slice_index, All, AllPairs, Contains, Option, None, Some, Result, Ok, Err}
+use Rattle.std.specs.Prelude.{◌≡◌, ◌⊎◌, ◌<◌, ◌≤◌, ⊤, ◌++◌, ℕ, zero, suc, ◌+◌, ◌-◌, ◌==◌, nat_lt, Bool, true, false, ◌&&◌, ◌||◌, not, if◌then◌else◌, List, [], ◌∷◌, take, drop, length, slice_index, All, AllPairs, Contains, Option, None, Some, Result, Ok, Err}
 use Rattle.std.specs.List.{list_any, slice_split}
 use Rattle.tt_base.specs.Place.{is_newline, line_end, place_at}
 use Rattle.check_lines.specs.Line.{fault_at, is_earlier, read_line}

@@ -2,16 +2,16 @@
 -- After LLVM Command Guide, FileCheck: a directive is a prefix, a suffix and a colon anywhere on a line, and a comment prefix
 -- with its colon hides the rest of its line. Own rules: no letter, digit, `-` or `_` stands before a prefix, of the
 -- prefixes of both kinds that stand at a place the longest is meant, and the least place that decides counts.
-use Rattle.std.specs.Prelude.{◌≡◌, ⊤, ℕ, zero, suc, ◌+◌, ◌<◌, ◌≤◌, length, ◌==◌, nat_le, nat_lt, Bool, false, ◌&&◌, ◌||◌, if◌then◌else◌, List, [], ◌∷◌, drop, slice_index, Option, None, Some, codes}
+use Rattle.std.specs.Prelude.{◌≡◌, ℕ, zero, suc, ◌+◌, ◌<◌, ◌≤◌, length, ◌==◌, nat_lt, Bool, false, ◌||◌, if◌then◌else◌, List, [], ◌∷◌, drop, slice_index, Option, None, Some, codes}
 use Rattle.std.specs.Option.{option_or, option_map}
 use Rattle.tt_base.specs.Occurrence.{begins_with}
 use Rattle.check_lines.specs.Class.{is_digit, is_letter}
-use Rattle.check_lines.specs.Prefix.{meant}
+use Rattle.prefix_tree.specs.Prefix.{meant}
 use Rattle.check_lines.specs.Suffix.{suffix}
 use Rattle.check_lines.specs.declared.decision.Decision.{Decision}
 use Rattle.check_lines.specs.declared.decision.Mark.{Mark}
 use Rattle.check_lines.specs.declared.decision.Mark.TheVariants.{Comment, Check}
-use Rattle.check_lines.specs.declared.prefix.Standing.{Standing}
+use Rattle.prefix_tree.specs.declared.standing.Standing.{Standing}
 use Rattle.check_lines.specs.declared.suffix.Spelling.{Spelling}
 use Rattle.check_lines.specs.declared.suffix.Spelling.TheVariants.{Good, Bad}
 

@@ -5,5 +5,4 @@ pub mod Class
 pub mod Cut
 pub mod Decision
 pub mod Line
-pub mod Prefix
 pub mod Suffix

@@ -19,7 +19,6 @@ use Rattle.check_lines.specs.declared.directive.Kind.TheVariants.{Plain, Next, S
 use Rattle.check_lines.specs.declared.fault.CheckFault.{CheckFault}
 use Rattle.check_lines.specs.declared.fault.CheckKind.{CheckKind}
 use Rattle.check_lines.specs.declared.fault.CheckKind.TheVariants.{EmptyPattern, NonEmptyForEmpty, NoEarlierCheck, NotBuilt}
-use Rattle.check_lines.specs.declared.prefix.Standing.{Standing}
 use Rattle.check_lines.specs.declared.suffix.Spelling.TheVariants.{Good, Bad}
 use Rattle.check_lines.specs.declared.suffix.Spelled.{Spelled}
 

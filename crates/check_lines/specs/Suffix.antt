@@ -1,7 +1,7 @@
 -- What is spelled behind a check prefix.
 -- After LLVM Command Guide, FileCheck, the suffixes -NEXT, -SAME, -EMPTY, -NOT, -DAG, -LABEL and -COUNT-n, and the modifier
 -- {LITERAL}. Own rules: how many a COUNT may ask for, and which misspellings are refused; any other text is no directive.
-use Rattle.std.specs.Prelude.{◌≤◌, ⊤, ℕ, ◌+◌, ◌-◌, ◌*◌, ◌==◌, nat_le, Bool, true, false, ◌&&◌, ◌||◌, not, if◌then◌else◌, List, [], ◌∷◌, take, drop, length, fold, codes, Option, None, Some}
+use Rattle.std.specs.Prelude.{◌≤◌, ⊤, ℕ, ◌+◌, ◌-◌, ◌*◌, nat_le, Bool, true, false, ◌&&◌, ◌||◌, not, if◌then◌else◌, List, take, drop, length, fold, codes, Option, None, Some}
 use Rattle.std.specs.List.{prefix_len, suffix_len}
 use Rattle.std.specs.Str.{bytes_eq}
 use Rattle.tt_base.specs.Occurrence.{begins_with}
@@ -9,11 +9,9 @@ use Rattle.check_lines.specs.Class.{has}
 use Rattle.check_lines.specs.declared.class.Class.TheVariants.{Blank, Digit, Modifier}
 use Rattle.check_lines.specs.declared.directive.Kind.{Kind}
 use Rattle.check_lines.specs.declared.directive.Kind.TheVariants.{Plain, Next, Same, Empty, Not, Dag, Label, Count}
-use Rattle.check_lines.specs.declared.fault.CheckKind.{CheckKind}
 use Rattle.check_lines.specs.declared.fault.CheckKind.TheVariants.{BadCount, NotCombination, BadModifier}
 use Rattle.check_lines.specs.declared.suffix.Spelling.{Spelling}
 use Rattle.check_lines.specs.declared.suffix.Spelling.TheVariants.{Good, Bad}
-use Rattle.check_lines.specs.declared.suffix.Spelled.{Spelled}
 
 -- ---- its kind
 

@@ -9,6 +9,7 @@ use crate::decision::Prefixes;
 use crate::directive::{Directive, Kind};
 use crate::fault::{CheckFail, CheckFault, CheckKind};
 use crate::line::{LineAt, Rules, read_line};
+use prefix_tree::PrefixTree;
 use std::alloc::Global;
 use tt_base::{Bytes, Items, NoMemory, Place, line_of};
 
@@ -34,8 +35,8 @@ pub fn read_checks(
 {
     let rules = Rules {
         prefixes: Prefixes {
-            checks: prefixes,
-            comments,
+            checks: PrefixTree::new(alloc, prefixes)?,
+            comments: PrefixTree::new(alloc, comments)?,
         },
         keep_blanks,
     };
@@ -47,15 +48,15 @@ pub fn read_checks(
 fn read_lines(alloc: Global, text: &[u8], rules: &Rules<'_>) -> Result<Items<Directive>, CheckFail>
     requires { length text.now ≤ 2 ^ 30 }
     ensures by_lines { MatchResult result
-        (AreDirectives rules.now.prefixes.checks.now rules.now.prefixes.comments.now rules.now.keep_blanks text.now)
-        (FailIsFirst rules.now.prefixes.checks.now rules.now.prefixes.comments.now rules.now.keep_blanks text.now) }
+        (AreDirectives rules.now.prefixes.checks.prefixes.now rules.now.prefixes.comments.prefixes.now rules.now.keep_blanks text.now)
+        (FailIsFirst rules.now.prefixes.checks.prefixes.now rules.now.prefixes.comments.prefixes.now rules.now.keep_blanks text.now) }
     ensures value { MatchResult result
-        (λ directives. read_lines rules.now.prefixes.checks.now rules.now.prefixes.comments.now rules.now.keep_blanks text.now
+        (λ directives. read_lines rules.now.prefixes.checks.prefixes.now rules.now.prefixes.comments.prefixes.now rules.now.keep_blanks text.now
         ≡ Ok directives)
-        (λ fail. IsRefusalOf (read_lines rules.now.prefixes.checks.now rules.now.prefixes.comments.now rules.now.keep_blanks text.now)
+        (λ fail. IsRefusalOf (read_lines rules.now.prefixes.checks.prefixes.now rules.now.prefixes.comments.prefixes.now rules.now.keep_blanks text.now)
         fail) }
     ensures placed { MatchResult result
-        (All (IsPlaced text.now (length rules.now.prefixes.checks.now))) (FailIsPlaced text.now) }
+        (All (IsPlaced text.now (length rules.now.prefixes.checks.prefixes.now))) (FailIsPlaced text.now) }
 {
     let mut directives = Items::new(alloc);
     let mut earlier = false;
@@ -86,13 +87,13 @@ fn add_line(
 ) -> Result<bool, CheckFail>
     requires { place.start + length line.now ≤ 2 ^ 30 }
     ensures ok { IfOk result (λ found. AddsLine directives.old directives.new found (read_line
-        rules.now.prefixes.checks.now rules.now.prefixes.comments.now rules.now.keep_blanks earlier place.number place.start line.now)) }
-    ensures err { IfErr result (λ fail. IsRefusalOf (read_line rules.now.prefixes.checks.now rules.now.prefixes.comments.now
+        rules.now.prefixes.checks.prefixes.now rules.now.prefixes.comments.prefixes.now rules.now.keep_blanks earlier place.number place.start line.now)) }
+    ensures err { IfErr result (λ fail. IsRefusalOf (read_line rules.now.prefixes.checks.prefixes.now rules.now.prefixes.comments.prefixes.now
         rules.now.keep_blanks earlier place.number place.start line.now) fail) }
     ensures lies { LiesOnLine place.number place.start (place.start + length line.now) (read_line
-        rules.now.prefixes.checks.now rules.now.prefixes.comments.now rules.now.keep_blanks earlier place.number place.start line.now) }
-    ensures among { LiesAmong (length rules.now.prefixes.checks.now) (read_line
-        rules.now.prefixes.checks.now rules.now.prefixes.comments.now rules.now.keep_blanks earlier place.number place.start line.now) }
+        rules.now.prefixes.checks.prefixes.now rules.now.prefixes.comments.prefixes.now rules.now.keep_blanks earlier place.number place.start line.now) }
+    ensures among { LiesAmong (length rules.now.prefixes.checks.prefixes.now) (read_line
+        rules.now.prefixes.checks.prefixes.now rules.now.prefixes.comments.prefixes.now rules.now.keep_blanks earlier place.number place.start line.now) }
 {
     match read_line(rules, earlier, place, line) {
         Ok(None) => Ok(false),

@@ -2,17 +2,16 @@
 ghost use Rattle.std.specs.Prelude.{◌≡◌, ◌<◌, ◌≤◌, ◌^◌, IfSome, length};
 ghost use Rattle.check_lines.specs.Decision.{IsDecision, MarkLies, check_mark, comment_mark, decide, decided_at, is_word, mark_at};
 
-use crate::prefix::{Standing, meant};
 use crate::suffix::{Spelling, suffix};
-use tt_base::Bytes;
+use prefix_tree::{PrefixTree, Standing};
 
 /// The prefixes of both kinds.
-#[derive(Clone, Copy, Debug)]
+#[derive(Drop)]
 pub struct Prefixes<'a> {
     /// Those of directives.
-    pub checks: &'a [Bytes],
+    pub checks: PrefixTree<'a>,
     /// Those that hide the rest of their lines.
-    pub comments: &'a [Bytes],
+    pub comments: PrefixTree<'a>,
 }
 
 /// What stands at an offset and decides its line.
@@ -34,9 +33,9 @@ pub struct Decision {
 /// What decides a line, if anything does.
 pub fn decide(prefixes: &Prefixes<'_>, line: &[u8]) -> Option<Decision>
     requires { length line.now ≤ 2 ^ 30 }
-    ensures least { IsDecision prefixes.now.checks.now prefixes.now.comments.now line.now result }
-    ensures value { result ≡ decide prefixes.now.checks.now prefixes.now.comments.now line.now }
-    ensures lies { IfSome result (λ found. MarkLies (length prefixes.now.checks.now) line.now found.at found.mark) }
+    ensures least { IsDecision prefixes.now.checks.prefixes.now prefixes.now.comments.prefixes.now line.now result }
+    ensures value { result ≡ decide prefixes.now.checks.prefixes.now prefixes.now.comments.prefixes.now line.now }
+    ensures lies { IfSome result (λ found. MarkLies (length prefixes.now.checks.prefixes.now) line.now found.at found.mark) }
 {
     let mut behind_word = false;
     for at in 0..line.len() {
@@ -55,8 +54,8 @@ fn decided_at(
     text: &[u8],
 ) -> Option<Decision>
     requires { length text.now ≤ 2 ^ 30 }
-    ensures value { result ≡ decided_at prefixes.now.checks.now prefixes.now.comments.now behind_word at text.now }
-    ensures lies { IfSome result (λ found. (found.at ≡ at) × MarkLies (length prefixes.now.checks.now) text.now 0 found.mark) }
+    ensures value { result ≡ decided_at prefixes.now.checks.prefixes.now prefixes.now.comments.prefixes.now behind_word at text.now }
+    ensures lies { IfSome result (λ found. (found.at ≡ at) × MarkLies (length prefixes.now.checks.prefixes.now) text.now 0 found.mark) }
 {
     if behind_word {
         return None;
@@ -70,15 +69,15 @@ fn decided_at(
 /// The mark at the front of a text.
 fn mark_at(prefixes: &Prefixes<'_>, text: &[u8]) -> Option<Mark>
     requires { length text.now ≤ 2 ^ 30 }
-    ensures value { result ≡ mark_at prefixes.now.checks.now prefixes.now.comments.now text.now }
-    ensures lies { IfSome result (MarkLies (length prefixes.now.checks.now) text.now 0) }
+    ensures value { result ≡ mark_at prefixes.now.checks.prefixes.now prefixes.now.comments.prefixes.now text.now }
+    ensures lies { IfSome result (MarkLies (length prefixes.now.checks.prefixes.now) text.now 0) }
 {
-    match meant(prefixes.checks, text) {
-        None => match meant(prefixes.comments, text) {
+    match prefixes.checks.longest(text) {
+        None => match prefixes.comments.longest(text) {
             None => None,
             Some(comment) => comment_mark(&text[comment.length..]),
         },
-        Some(check) => match meant(prefixes.comments, text) {
+        Some(check) => match prefixes.comments.longest(text) {
             None => check_mark(check, suffix(&text[check.length..])),
             Some(comment) => {
                 if check.length < comment.length {

@@ -9,7 +9,6 @@ mod decision;
 mod directive;
 mod fault;
 mod line;
-mod prefix;
 mod suffix;
 #[cfg(test)]
 mod tests;

@@ -13,7 +13,7 @@ use tt_base::{Place, Span, find_in};
 pub const MAX_BODY: usize = 65_536;
 
 /// How lines are read.
-#[derive(Clone, Copy, Debug)]
+#[derive(Drop)]
 pub struct Rules<'a> {
     pub prefixes: Prefixes<'a>,
     /// Whether the blanks at both ends of a body are part of it.
@@ -49,10 +49,10 @@ pub fn read_line(
     line: &[u8],
 ) -> Result<Option<Directive>, CheckFault>
     requires { place.start + length line.now ≤ 2 ^ 30 }
-    ensures value { result ≡ read_line rules.now.prefixes.checks.now rules.now.prefixes.comments.now rules.now.keep_blanks earlier
+    ensures value { result ≡ read_line rules.now.prefixes.checks.prefixes.now rules.now.prefixes.comments.prefixes.now rules.now.keep_blanks earlier
         place.number place.start line.now }
     ensures lies { LiesOnLine place.number place.start (place.start + length line.now) result }
-    ensures among { LiesAmong (length rules.now.prefixes.checks.now) result }
+    ensures among { LiesAmong (length rules.now.prefixes.checks.prefixes.now) result }
 {
     match decide(&rules.prefixes, line) {
         None => Ok(None),

@@ -4,8 +4,8 @@ use Rattle.check_lines.proofs.checks.read_lines.Goals as goal
 
 pub returns-in-Err : goal.returns-in-Err
 returns-in-Err c =
-    let checks = c.args.rules.now.prefixes.checks.now in
-    let comments = c.args.rules.now.prefixes.comments.now in
+    let checks = c.args.rules.now.prefixes.checks.prefixes.now in
+    let comments = c.args.rules.now.prefixes.comments.prefixes.now in
     let keep = c.args.rules.now.keep_blanks in
     let text = c.args.text.now in
     let old = c.loop-found.directives in
@@ -26,8 +26,8 @@ returns-in-Err c =
 
 pub returns-then-end-text : goal.returns-then-end-text
 returns-then-end-text c =
-    let checks = c.args.rules.now.prefixes.checks.now in
-    let comments = c.args.rules.now.prefixes.comments.now in
+    let checks = c.args.rules.now.prefixes.checks.prefixes.now in
+    let comments = c.args.rules.now.prefixes.comments.prefixes.now in
     let keep = c.args.rules.now.keep_blanks in
     let text = c.args.text.now in
     let old = c.loop-found.directives in
@@ -55,6 +55,6 @@ loop-found-preserved c =
     let is = c.line_of-end.ensures.to in
     let within : end ≤ length text = end_within text start end c.loop-found.invariant.begins.within is in
     let inside : end < length text = omega arith in
-    read_next c.args.rules.now.prefixes.checks.now c.args.rules.now.prefixes.comments.now c.args.rules.now.keep_blanks text
+    read_next c.args.rules.now.prefixes.checks.prefixes.now c.args.rules.now.prefixes.comments.prefixes.now c.args.rules.now.keep_blanks text
     c.loop-found.directives c.add_line.new.directives c.in-Ok.found c.loop-found.earlier c.loop-found.number start end _
     c.loop-found.invariant is refl c.in-Ok.ensures.ok c.in-Ok.ensures.lies c.in-Ok.ensures.among inside

@@ -4,7 +4,7 @@ use Rattle.check_lines.proofs.checks.read_lines.Given as goal
 
 abbrev pub invariant-loop-found : goal.invariant-loop-found
 invariant-loop-found l =
-    ReadBefore l.rules.prefixes.checks.now l.rules.prefixes.comments.now l.rules.keep_blanks l.text l.directives l.earlier
+    ReadBefore l.rules.prefixes.checks.prefixes.now l.rules.prefixes.comments.prefixes.now l.rules.keep_blanks l.text l.directives l.earlier
     l.number l.start
 
 abbrev pub decreases-loop-found : goal.decreases-loop-found

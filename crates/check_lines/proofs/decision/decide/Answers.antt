@@ -6,8 +6,8 @@ use Rattle.check_lines.proofs.decision.decide.Goals as goal
 
 pub returns-in-Some : goal.returns-in-Some
 returns-in-Some c =
-    let checks = c.args.prefixes.now.checks.now in
-    let comments = c.args.prefixes.now.comments.now in
+    let checks = c.args.prefixes.now.checks.prefixes.now in
+    let comments = c.args.prefixes.now.comments.prefixes.now in
     let line = c.args.line.now in
     let at = c.loop-at.at in
     let behind = c.loop-at.behind_word in
@@ -23,8 +23,8 @@ returns-in-Some c =
 
 pub loop-at-preserved : goal.loop-at-preserved
 loop-at-preserved c =
-    let checks = c.args.prefixes.now.checks.now in
-    let comments = c.args.prefixes.now.comments.now in
+    let checks = c.args.prefixes.now.checks.prefixes.now in
+    let comments = c.args.prefixes.now.comments.prefixes.now in
     let line = c.args.line.now in
     let at = c.loop-at.at in
     let behind = c.loop-at.behind_word in
@@ -38,7 +38,7 @@ loop-at-preserved c =
     }
 
 pub returns-clause-value : goal.returns-clause-value
-returns-clause-value c = sym (decided_never c.args.prefixes.now.checks.now c.args.prefixes.now.comments.now c.loop-at.behind_word c.args.line.now c.loop-at.at c.loop-at-test.false)
+returns-clause-value c = sym (decided_never c.args.prefixes.now.checks.prefixes.now c.args.prefixes.now.comments.prefixes.now c.loop-at.behind_word c.args.line.now c.loop-at.at c.loop-at-test.false)
     ∙ c.loop-at.invariant.same
 
 pub returns-clause-least : goal.returns-clause-least

@@ -5,7 +5,7 @@ use Rattle.check_lines.proofs.decision.decide.Given as goal
 abbrev pub invariant-loop-at : goal.invariant-loop-at
 invariant-loop-at l = record {
   behind : l.behind_word ≡ is_behind_word l.line l.at;
-  none : NoneDecidesBefore l.prefixes.checks.now l.prefixes.comments.now l.line l.at;
-  same : decide_from l.prefixes.checks.now l.prefixes.comments.now l.behind_word l.at (drop l.at l.line)
-      ≡ decide l.prefixes.checks.now l.prefixes.comments.now l.line;
+  none : NoneDecidesBefore l.prefixes.checks.prefixes.now l.prefixes.comments.prefixes.now l.line l.at;
+  same : decide_from l.prefixes.checks.prefixes.now l.prefixes.comments.prefixes.now l.behind_word l.at (drop l.at l.line)
+      ≡ decide l.prefixes.checks.prefixes.now l.prefixes.comments.prefixes.now l.line;
 }

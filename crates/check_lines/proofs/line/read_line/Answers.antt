@@ -6,7 +6,7 @@ use Rattle.check_lines.proofs.line.read_line.Goals as goal
 
 pub returns-in-Good-clause-among : goal.returns-in-Good-clause-among
 returns-in-Good-clause-among c =
-    let count = length c.args.rules.now.prefixes.checks.now in
+    let count = length c.args.rules.now.prefixes.checks.prefixes.now in
     let line = c.args.line.now in
     let at = c.in-Some.found.at in
     let lies : MarkLies count line at (Check c.in-Check.prefix (Good c.in-Good.suffix)) =

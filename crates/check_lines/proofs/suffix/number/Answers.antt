@@ -1,4 +1,4 @@
-use Rattle.check_lines.proofs.SuffixLemmas.{number_all, number_next}
+use Rattle.check_lines.proofs.SuffixLemmas.{number_all}
 use Rattle.check_lines.proofs.suffix.number.Goals as goal
 
 pub returns : goal.returns

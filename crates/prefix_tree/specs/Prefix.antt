@@ -1,9 +1,9 @@
 -- Prefixes: which of them is meant at the front of a text.
 -- After LLVM Command Guide, FileCheck, --check-prefixes and --comment-prefixes. Own rule: of those that stand at one place the
 -- longest counts.
-use Rattle.std.specs.Prelude.{◌≡◌, ◌≤◌, ◌⊎◌, ℕ, ◌+◌, ◌<◌, nat_lt, Bool, true, if◌then◌else◌, List, [], ◌∷◌, ◌++◌, length, slice_index_or, Option, None, Some}
+use Rattle.std.specs.Prelude.{◌≡◌, ◌≤◌, ◌⊎◌, ℕ, ◌+◌, ◌<◌, nat_lt, Bool, true, if◌then◌else◌, List, [], ◌∷◌, length, slice_index_or, Option, None, Some}
 use Rattle.tt_base.specs.Occurrence.{begins_with}
-use Rattle.check_lines.specs.declared.prefix.Standing.{Standing}
+use Rattle.prefix_tree.specs.declared.standing.Standing.{Standing}
 
 -- ---- as a reader of a check file takes it
 
@@ -13,11 +13,15 @@ pub record Stands (prefixes : List (List ℕ)) (text : List ℕ) (one : Standing
   pub begins : begins_with text (slice_index_or prefixes one.index []) ≡ true
   pub long : length (slice_index_or prefixes one.index []) ≡ one.length
 
--- of the prefixes that stand at the front of a text this is a longest, or none stands
+-- a prefix counts before another: it is longer, or they are equally long and it comes first
+abbrev pub CountsBefore : Standing → Standing → Type 0
+CountsBefore one other = (other.length < one.length) ⊎ ((other.length ≡ one.length) × (one.index ≤ other.index))
+
+-- of the prefixes that stand at the front of a text this one counts, or none stands
 abbrev pub IsMeant : List (List ℕ) → List ℕ → Option Standing → Type 0
 IsMeant prefixes text None = (one : Standing) → ¬ Stands prefixes text one
 IsMeant prefixes text (Some one) =
-    Stands prefixes text one × ((other : Standing) → Stands prefixes text other → other.length ≤ one.length)
+    Stands prefixes text one × ((other : Standing) → Stands prefixes text other → CountsBefore one other)
 
 -- ---- the same as a value
 

@@ -1,0 +1,4 @@
+pub mod HeadsLemmas
+pub mod PrefixLemmas
+pub mod TreeLemmas
+pub mod TurnsLemmas

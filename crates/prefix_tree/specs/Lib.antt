@@ -1,0 +1,4 @@
+pub mod Heads
+pub mod Prefix
+pub mod Tree
+pub mod Turns

@@ -1,0 +1,12 @@
+//! Prefixes as a tree of bytes: which of them is meant at a place, in a time that doesn't depend on how many there are.
+#![tactic(auto)]
+
+mod heads;
+mod standing;
+#[cfg(test)]
+mod tests;
+mod tree;
+mod turns;
+
+pub use standing::Standing;
+pub use tree::PrefixTree;
