@@ -1,0 +1,7 @@
+pub mod BestLemmas
+mod DepthLemmas
+pub mod ExistLemmas
+pub mod GreatestLemmas
+pub mod KeepLemmas
+pub mod RestsLemmas
+pub mod WalkLemmas

@@ -1,0 +1,42 @@
+-- The preferred way down an expression, part by part.
+-- Own rule: what the code's steps set; what its answer means is said by `AreBestCaps`.
+use Rattle.std.specs.Prelude.{◌≡◌, ◌↔◌, ℕ, ◌-◌, ◌≤◌, Bool, IsTrue, max, Option, Some, None, List}
+use Rattle.std.specs.List.{Contains}
+use Rattle.ere_places.specs.Places.{SpanAll}
+use Rattle.ere_places.specs.Seen.{is_held}
+use Rattle.ere_places.specs.declared.seen.Seen.{Seen}
+use Rattle.ere_tree.specs.Captures.{Captures, caps_of}
+use Rattle.ere_tree.specs.Derivation.{Way, Derives, Spans}
+use Rattle.ere_tree.specs.Tree.{Tree, repeat}
+use Rattle.ere_tree.specs.declared.hit.Cap.{Cap}
+use Rattle.ere_captures.specs.Best.{IsBest}
+
+-- from captures that a list holds, the list gets those behind a best way over [i, j)
+abbrev pub SetsBest : List ℕ → Tree → ℕ → ℕ → ℕ → ℕ → List (Option Cap) → List (Option Cap) → Type 0
+SetsBest s t start i j count old new =
+    (c : Captures) → old ≡ caps_of start c count
+    → (w : Way) × (d : Captures) × Derives s t w i j c d × IsBest s t w i j × (new ≡ caps_of start d count)
+
+-- the greatest number of members behind one
+abbrev pub less_one : Option ℕ → Option ℕ
+less_one None = None
+less_one (Some most) = Some (most - 1)
+
+-- the set has the places of [i, j] from which the trees, one behind the other, lead to j
+abbrev pub LeadOn : List ℕ → List Tree → ℕ → ℕ → Seen → Type 0
+LeadOn s ts i j seen = (q : ℕ) → IsTrue (is_held seen q) ↔ (SpanAll s ts q j × (i ≤ q))
+
+-- of some places, the greatest that passes the test, where one does
+abbrev pub IsGreatest : (ℕ → Bool) → List ℕ → Option ℕ → Type 0
+IsGreatest test places None = (q : ℕ) → Contains places q → IsTrue (test q) → ⊥
+IsGreatest test places (Some m) =
+    Contains places m × IsTrue (test m) × ((q : ℕ) → Contains places q → IsTrue (test q) → q ≤ m)
+
+-- the greater of two places, of which the first may be missing
+abbrev pub greater : Option ℕ → ℕ → ℕ
+greater None place = place
+greater (Some other) place = max other place
+
+-- the set has the places of [i, j] from which so many members lead to j
+abbrev pub RestOf : List ℕ → Tree → ℕ → Option ℕ → ℕ → ℕ → Seen → Type 0
+RestOf s t least most i j seen = (q : ℕ) → IsTrue (is_held seen q) ↔ (Spans s (repeat t least most) q j × (i ≤ q))

@@ -1,0 +1,12 @@
+//! The captures of an expression without references inside a span that is known: those of the way down the expression
+//! that is preferred. A search stands on this crate.
+#![tactic(auto)]
+
+mod members;
+mod parts;
+mod rest;
+#[cfg(test)]
+mod tests;
+mod walk;
+
+pub use walk::captures;
