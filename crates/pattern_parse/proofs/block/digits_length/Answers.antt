@@ -1,0 +1,14 @@
+use Rattle.std.proofs.Common.{arith, rules, sym, ◌∙◌, le_refl}
+use Rattle.std.proofs.lemmas.List.Sums.{prefix_len_is}
+use Rattle.ere_tree.specs.Class.{is_digit}
+use Rattle.pattern_parse.proofs.block.digits_length.Goals as goal
+
+pub returns-then-not-is_ascii_digit-clause-exact : goal.returns-then-not-is_ascii_digit-clause-exact
+returns-then-not-is_ascii_digit-clause-exact c =
+    sym (prefix_len_is is_digit c.args.text.now c.loop-at.at 0 (omega arith) c.loop-at.invariant
+    (λ _. sym c.is_ascii_digit.ensures.value ∙ search rules))
+
+pub returns-clause-exact : goal.returns-clause-exact
+returns-clause-exact c =
+    sym (prefix_len_is is_digit c.args.text.now _ 0 (le_refl _)
+    (λ k below. c.loop-at.invariant k (omega arith)) (λ impossible. absurd (omega arith)))

@@ -1,0 +1,22 @@
+//! Bodies of directives: plain text, regular expressions, text variables and numbers, as pieces of a pattern. After LLVM
+//! Command Guide, FileCheck, 'FileCheck Regex Matching Syntax', 'String Substitution Blocks' and 'Numeric Substitution
+//! Blocks'. Directives and scanning stand above this crate.
+#![tactic(auto)]
+
+mod block;
+mod cutting;
+mod fault;
+mod formats;
+mod laws;
+mod parser;
+mod pattern;
+mod said;
+#[cfg(test)]
+mod tests;
+
+pub use fault::{PatFail, PatFault, PatKind};
+pub use formats::Formats;
+pub use laws::law_of_bodies;
+pub use num_base::{Format, FormatKind};
+pub use parser::{MAX_BODY, MAX_REFERENCES, parse_pattern};
+pub use pattern::{Frame, Kind, Pattern, Piece};

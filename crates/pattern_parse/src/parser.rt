@@ -1,0 +1,232 @@
+//! A body as pieces.
+ghost use Rattle.std.specs.Prelude.{◌≡◌, [], ◌∷◌, ◌-◌, IfOk, OnErr, drop, map, take};
+ghost use Rattle.std.specs.FinMap as fin;
+ghost use Rattle.pattern_parse.specs.PieceView.{ReadsAs, Tells, items_view, said_view, told_view};
+ghost use Rattle.pattern_parse.specs.Item.{plain};
+ghost use Rattle.pattern_parse.specs.Pieces.{IsPieces, behind_raw, ended, frame_of, is_label, is_plain, items_from, nothing_said, raw_read, with_formats};
+ghost use Rattle.pattern_parse.specs.RawView.{ending_view, raw_view};
+
+use crate::block::{Read, behind_raw, raw_read, refused};
+use crate::cutting::{Ending, Raw, cut_body};
+use crate::fault::{PatFail, PatFault, PatKind};
+use crate::formats::Formats;
+use crate::pattern::{Frame, Kind, Pattern, Piece};
+use crate::said::Said;
+use num_spell::behind;
+use std::alloc::Global;
+use tt_base::{Bytes, Items, NoMemory};
+
+/// The most bytes that a body has.
+pub const MAX_BODY: usize = 65_536;
+
+/// The most definitions of texts that recalls of a body mean.
+pub const MAX_REFERENCES: usize = 9;
+
+/// Pieces, or why there are none; outside of it stands want of memory.
+type Told = Result<Result<Items<Piece>, PatFault>, NoMemory>;
+
+/// The bytes of a body from one offset to before another.
+#[tactic(auto, using(std::proofs::lemmas::List::take_min, crate::proofs::PieceLemmas::none_there))]
+fn part(body: &[u8], from: usize, to: usize) -> &[u8]
+    ensures { result.now ≡ take (to - from) (drop from body.now) }
+{
+    if body.len() < from {
+        return body.split_at(0).0;
+    }
+    let rest = behind(body, from);
+    let count = to.saturating_sub(from).min(rest.len());
+    rest.split_at(count).0
+}
+
+/// Why a body that ends so at an offset is refused, where so many definitions are meant.
+fn ended(label: bool, references: usize, at: usize, ending: Ending) -> Option<PatFault>
+    ensures { result ≡ ended label references at (ending_view ending) }
+{
+    match ending {
+        Ending::Over => {
+            if references > MAX_REFERENCES {
+                Some(refused(PatKind::TooManyReferences, 0))
+            } else {
+                None
+            }
+        }
+        Ending::NoRegexEnd => Some(refused(PatKind::NoRegexEnd, at)),
+        Ending::NoBlockEnd => {
+            let kind = if label {
+                PatKind::VariableInLabel
+            } else {
+                PatKind::NoBlockEnd
+            };
+            Some(refused(kind, at))
+        }
+    }
+}
+
+/// A piece of a body at an offset.
+fn read_next(
+    alloc: Global,
+    known: &Formats,
+    said: &mut Said,
+    fold: bool,
+    label: bool,
+    at: usize,
+    body: &[u8],
+    raw: &Raw,
+) -> Read
+    ensures { IfOk result (λ read. ReadsAs read said.new
+        (raw_read fold (fin.get known.now) label (said_view said.old) at (raw_view body.now raw.now))) }
+{
+    let bytes = part(body, raw.from, raw.to);
+    raw_read(alloc, known, said, fold, label, at, raw.kind, bytes)
+}
+
+/// The offset behind a piece of a body.
+fn next_at(at: usize, body: &[u8], raw: &Raw) -> Result<usize, NoMemory>
+    ensures { IfOk result (λ next. next ≡ behind_raw at (raw_view body.now raw.now)) }
+{
+    behind_raw(at, raw.kind, part(body, raw.from, raw.to))
+}
+
+/// The pieces of a body that was cut.
+fn read_pieces(
+    alloc: Global,
+    known: &Formats,
+    fold: bool,
+    label: bool,
+    body: &[u8],
+    raws: &[Raw],
+    ending: Ending,
+) -> Told
+    ensures { IfOk result (λ told. told_view told ≡ items_from fold (fin.get known.now) label nothing_said 0
+        (map (raw_view body.now) raws.now) (ending_view ending)) }
+{
+    let mut said = Said::new(alloc);
+    let mut pieces = Items::new(alloc);
+    let mut at: usize = 0;
+    for raw in raws {
+        match read_next(alloc, known, &mut said, fold, label, at, body, raw)? {
+            Ok(piece) => pieces.push(piece)?,
+            Err(fault) => return Ok(Err(fault)),
+        }
+        at = next_at(at, body, raw)?;
+    }
+    match ended(label, said.references, at, ending) {
+        Some(fault) => Ok(Err(fault)),
+        None => Ok(Ok(pieces)),
+    }
+}
+
+/// Whether a body is plain text as a whole.
+fn is_plain(kind: Kind, literal: bool) -> bool
+    ensures { result ≡ is_plain kind literal }
+{
+    match kind {
+        Kind::Empty => true,
+        Kind::Plain => literal,
+        Kind::Next => literal,
+        Kind::Same => literal,
+        Kind::Not => literal,
+        Kind::Dag => literal,
+        Kind::Label => literal,
+        Kind::Count(_) => literal,
+    }
+}
+
+fn is_label(kind: Kind) -> bool
+    ensures { result ≡ is_label kind }
+{
+    match kind {
+        Kind::Label => true,
+        Kind::Plain => false,
+        Kind::Next => false,
+        Kind::Same => false,
+        Kind::Empty => false,
+        Kind::Not => false,
+        Kind::Dag => false,
+        Kind::Count(_) => false,
+    }
+}
+
+/// Where a match may stand on its line.
+fn frame_of(kind: Kind, frame: Frame) -> Frame
+    ensures { result ≡ frame_of kind frame }
+{
+    match kind {
+        Kind::Not => Frame::Open,
+        Kind::Empty => Frame::Open,
+        Kind::Plain => frame,
+        Kind::Next => frame,
+        Kind::Same => frame,
+        Kind::Dag => frame,
+        Kind::Label => frame,
+        Kind::Count(_) => frame,
+    }
+}
+
+/// A body that is plain text.
+fn plain_body(alloc: Global, body: &[u8]) -> Result<Items<Piece>, NoMemory>
+    ensures { IfOk result (λ pieces. items_view pieces ≡ plain body.now ∷ []) }
+{
+    let mut pieces = Items::new(alloc);
+    pieces.push(Piece::Plain(Bytes::from_slice(alloc, body)?))?;
+    Ok(pieces)
+}
+
+/// The pieces of a body, or its first refusal.
+fn read_body(
+    alloc: Global,
+    known: &Formats,
+    fold: bool,
+    kind: Kind,
+    literal: bool,
+    body: &[u8],
+) -> Told
+    ensures { IfOk result (λ told. IsPieces body.now kind literal fold (fin.get known.now) (told_view told)) }
+{
+    if body.len() > MAX_BODY {
+        Ok(Err(refused(PatKind::TooLong, 0)))
+    } else if is_plain(kind, literal) {
+        Ok(Ok(plain_body(alloc, body)?))
+    } else {
+        let cut = cut_body(alloc, body)?;
+        read_pieces(
+            alloc,
+            known,
+            fold,
+            is_label(kind),
+            body,
+            cut.raws.as_slice(),
+            cut.ending,
+        )
+    }
+}
+
+/// The pattern of a directive of this kind, where these formats are known; from then on those of the numbers that it
+/// defines are, too. Of a refusal nothing is kept.
+pub fn parse_pattern(
+    alloc: Global,
+    body: &[u8],
+    kind: Kind,
+    literal: bool,
+    fold: bool,
+    frame: Frame,
+    known: &mut Formats,
+) -> Result<Pattern, PatFail>
+    ensures pieces { Tells (IsPieces body.now kind literal fold (fin.get known.old)) result }
+    ensures framed { IfOk result (λ pattern. (pattern.frame ≡ frame_of kind frame) × (pattern.fold ≡ fold)) }
+    ensures known { IfOk result (λ pattern. known.new ≡ with_formats known.old (items_view pattern.pieces)) }
+    ensures err { OnErr result (known.new ≡ known.old) }
+{
+    match read_body(alloc, known, fold, kind, literal, body) {
+        Ok(Ok(pieces)) => match known.add_all(pieces.as_slice()) {
+            Ok(()) => Ok(Pattern {
+                pieces,
+                frame: frame_of(kind, frame),
+                fold,
+            }),
+            Err(NoMemory) => Err(PatFail::NoMemory),
+        },
+        Ok(Err(fault)) => Err(PatFail::Bad(fault)),
+        Err(NoMemory) => Err(PatFail::NoMemory),
+    }
+}
