@@ -1,4 +1,6 @@
--- A body is cut in at most one way.
+-- A body is cut in at most one way, and the code's lengths of text, expressions and blocks give that cut. What begins at
+-- the front decides the piece (`kind_is`), and the grammar of what stands inside a block decides where it ends. The hard ones
+-- are `one_inside`, sixteen cases of two insides of one text, and `filled`: a count of open brackets finds the block's end.
 use Rattle.std.proofs.Common.{◌≡◌, ℕ, ◌+◌, ◌-◌, ◌<◌, zero, suc, Bool, true, false, IsTrue, IsFalse, true≢false, if◌then◌else◌, ◌==◌, List, [], ◌∷◌, ◌++◌, Option, Some, None, is_some, length, length-append, append_assoc, ◌&&◌, not, take, drop, inl, inr, arith, refl, sym, subst, ap, ◌∙◌}
 use Rattle.std.proofs.lemmas.Option.{same_Some}
 use Rattle.std.proofs.lemmas.Bool.{eqb-true}
@@ -29,31 +31,42 @@ no_plain : (b n : ℕ) (A : Type 0) → IsTrue (is_plain b) → b ≡ n → is_p
 no_plain b n A p e f = absurd (true≢false (sym p ∙ ap is_plain e ∙ f))
 
 -- what stands inside a block is one
-one_inside : (i j : Inside) (x y : List ℕ) → IsSound i → IsSound j → written i (93 ∷ x) ≡ written j (93 ∷ y) → (i ≡ j) × (x ≡ y)
+one_inside : (i j : Inside) (x y : List ℕ) → IsSound i → IsSound j → written i (93 ∷ x) ≡ written j (93 ∷ y)
+    → (i ≡ j) × (x ≡ y)
 one_inside nothing nothing x y p q e = (refl, same_tail 93 93 x y e)
 one_inside nothing (plain b j) x y p q e = no_plain b 93 _ q.0 (sym (same_head 93 b x (written j (93 ∷ y)) e)) refl
 one_inside nothing (escaped b j) x y p q e = absurd (omega (arith, same_head 93 92 x (b ∷ written j (93 ∷ y)) e))
-one_inside nothing (bracket j k) x y p q e = absurd (omega (arith, same_head 93 91 x (written j (93 ∷ written k (93 ∷ y))) e))
+one_inside nothing (bracket j k) x y p q e =
+    absurd (omega (arith, same_head 93 91 x (written j (93 ∷ written k (93 ∷ y))) e))
 one_inside (plain a i) nothing x y p q e = no_plain a 93 _ p.0 (same_head a 93 (written i (93 ∷ x)) y e) refl
 one_inside (plain a i) (plain b j) x y p q e =
     let h = same_head a b (written i (93 ∷ x)) (written j (93 ∷ y)) e in
     let r = one_inside i j x y p.1 q.1 (same_tail a b (written i (93 ∷ x)) (written j (93 ∷ y)) e) in
     (λ n. plain (h n) (r.0 n), r.1)
-one_inside (plain a i) (escaped b j) x y p q e = no_plain a 92 _ p.0 (same_head a 92 (written i (93 ∷ x)) (b ∷ written j (93 ∷ y)) e) refl
-one_inside (plain a i) (bracket j k) x y p q e = no_plain a 91 _ p.0 (same_head a 91 (written i (93 ∷ x)) (written j (93 ∷ written k (93 ∷ y))) e) refl
+one_inside (plain a i) (escaped b j) x y p q e =
+    no_plain a 92 _ p.0 (same_head a 92 (written i (93 ∷ x)) (b ∷ written j (93 ∷ y)) e) refl
+one_inside (plain a i) (bracket j k) x y p q e =
+    no_plain a 91 _ p.0 (same_head a 91 (written i (93 ∷ x)) (written j (93 ∷ written k (93 ∷ y))) e) refl
 one_inside (escaped a i) nothing x y p q e = absurd (omega (arith, same_head 92 93 (a ∷ written i (93 ∷ x)) y e))
-one_inside (escaped a i) (plain b j) x y p q e = no_plain b 92 _ q.0 (sym (same_head 92 b (a ∷ written i (93 ∷ x)) (written j (93 ∷ y)) e)) refl
+one_inside (escaped a i) (plain b j) x y p q e =
+    no_plain b 92 _ q.0 (sym (same_head 92 b (a ∷ written i (93 ∷ x)) (written j (93 ∷ y)) e)) refl
 one_inside (escaped a i) (escaped b j) x y p q e =
     let t = same_tail 92 92 (a ∷ written i (93 ∷ x)) (b ∷ written j (93 ∷ y)) e in
     let h = same_head a b (written i (93 ∷ x)) (written j (93 ∷ y)) t in
     let r = one_inside i j x y p q (same_tail a b (written i (93 ∷ x)) (written j (93 ∷ y)) t) in
     (λ n. escaped (h n) (r.0 n), r.1)
-one_inside (escaped a i) (bracket j k) x y p q e = absurd (omega (arith, same_head 92 91 (a ∷ written i (93 ∷ x)) (written j (93 ∷ written k (93 ∷ y))) e))
-one_inside (bracket i l) nothing x y p q e = absurd (omega (arith, same_head 91 93 (written i (93 ∷ written l (93 ∷ x))) y e))
-one_inside (bracket i l) (plain b j) x y p q e = no_plain b 91 _ q.0 (sym (same_head 91 b (written i (93 ∷ written l (93 ∷ x))) (written j (93 ∷ y)) e)) refl
-one_inside (bracket i l) (escaped b j) x y p q e = absurd (omega (arith, same_head 91 92 (written i (93 ∷ written l (93 ∷ x))) (b ∷ written j (93 ∷ y)) e))
+one_inside (escaped a i) (bracket j k) x y p q e =
+    absurd (omega (arith, same_head 92 91 (a ∷ written i (93 ∷ x)) (written j (93 ∷ written k (93 ∷ y))) e))
+one_inside (bracket i l) nothing x y p q e =
+    absurd (omega (arith, same_head 91 93 (written i (93 ∷ written l (93 ∷ x))) y e))
+one_inside (bracket i l) (plain b j) x y p q e =
+    no_plain b 91 _ q.0 (sym (same_head 91 b (written i (93 ∷ written l (93 ∷ x))) (written j (93 ∷ y)) e)) refl
+one_inside (bracket i l) (escaped b j) x y p q e =
+    absurd (omega (arith, same_head 91 92 (written i (93 ∷ written l (93 ∷ x))) (b ∷ written j (93 ∷ y)) e))
 one_inside (bracket i l) (bracket j k) x y p q e =
-    let r = one_inside i j (written l (93 ∷ x)) (written k (93 ∷ y)) p.0 q.0 (same_tail 91 91 (written i (93 ∷ written l (93 ∷ x))) (written j (93 ∷ written k (93 ∷ y))) e) in
+    let r =
+    one_inside i j (written l (93 ∷ x)) (written k (93 ∷ y)) p.0 q.0
+    (same_tail 91 91 (written i (93 ∷ written l (93 ∷ x))) (written j (93 ∷ written k (93 ∷ y))) e) in
     let u = one_inside l k x y p.1 q.1 r.1 in
     (λ n. bracket (r.0 n) (u.0 n), u.1)
 
@@ -115,14 +128,21 @@ kind_is body (block bs ∷ raws) e p = ap rank p.0
 
 -- a body that ends doesn't go on
 end_not_more : (body : List ℕ) (x : Raw) (xs : List Raw) (e f : Ending) → IsCut body [] e → IsCut body (x ∷ xs) f → ⊥
-end_not_more body (text b) xs over f p q = absurd (omega (arith, kind_is body [] over p, kind_is body (text b ∷ xs) f q))
-end_not_more body (regex bs) xs over f p q = absurd (omega (arith, kind_is body [] over p, kind_is body (regex bs ∷ xs) f q))
-end_not_more body (block i) xs over f p q = absurd (omega (arith, kind_is body [] over p, kind_is body (block i ∷ xs) f q))
-end_not_more body (text b) xs no_regex_end f p q = absurd (omega (arith, kind_is body [] no_regex_end p, kind_is body (text b ∷ xs) f q))
+end_not_more body (text b) xs over f p q =
+    absurd (omega (arith, kind_is body [] over p, kind_is body (text b ∷ xs) f q))
+end_not_more body (regex bs) xs over f p q =
+    absurd (omega (arith, kind_is body [] over p, kind_is body (regex bs ∷ xs) f q))
+end_not_more body (block i) xs over f p q =
+    absurd (omega (arith, kind_is body [] over p, kind_is body (block i ∷ xs) f q))
+end_not_more body (text b) xs no_regex_end f p q =
+    absurd (omega (arith, kind_is body [] no_regex_end p, kind_is body (text b ∷ xs) f q))
 end_not_more body (regex bs) xs no_regex_end f p q = p.1 bs q.1 q.2
-end_not_more body (block i) xs no_regex_end f p q = absurd (omega (arith, kind_is body [] no_regex_end p, kind_is body (block i ∷ xs) f q))
-end_not_more body (text b) xs no_block_end f p q = absurd (omega (arith, kind_is body [] no_block_end p, kind_is body (text b ∷ xs) f q))
-end_not_more body (regex bs) xs no_block_end f p q = absurd (omega (arith, kind_is body [] no_block_end p, kind_is body (regex bs ∷ xs) f q))
+end_not_more body (block i) xs no_regex_end f p q =
+    absurd (omega (arith, kind_is body [] no_regex_end p, kind_is body (block i ∷ xs) f q))
+end_not_more body (text b) xs no_block_end f p q =
+    absurd (omega (arith, kind_is body [] no_block_end p, kind_is body (text b ∷ xs) f q))
+end_not_more body (regex bs) xs no_block_end f p q =
+    absurd (omega (arith, kind_is body [] no_block_end p, kind_is body (regex bs ∷ xs) f q))
 end_not_more body (block i) xs no_block_end f p q = p.1 i q.1 q.2
 
 same_end : (body : List ℕ) (e f : Ending) → IsCut body [] e → IsCut body [] f → e ≡ f
@@ -131,9 +151,11 @@ same_end body over no_regex_end p q = absurd (omega (arith, kind_is body [] over
 same_end body over no_block_end p q = absurd (omega (arith, kind_is body [] over p, kind_is body [] no_block_end q))
 same_end body no_regex_end over p q = absurd (omega (arith, kind_is body [] no_regex_end p, kind_is body [] over q))
 same_end body no_regex_end no_regex_end p q = refl
-same_end body no_regex_end no_block_end p q = absurd (omega (arith, kind_is body [] no_regex_end p, kind_is body [] no_block_end q))
+same_end body no_regex_end no_block_end p q =
+    absurd (omega (arith, kind_is body [] no_regex_end p, kind_is body [] no_block_end q))
 same_end body no_block_end over p q = absurd (omega (arith, kind_is body [] no_block_end p, kind_is body [] over q))
-same_end body no_block_end no_regex_end p q = absurd (omega (arith, kind_is body [] no_block_end p, kind_is body [] no_regex_end q))
+same_end body no_block_end no_regex_end p q =
+    absurd (omega (arith, kind_is body [] no_block_end p, kind_is body [] no_regex_end q))
 same_end body no_block_end no_block_end p q = refl
 
 pub one_cut : CutIsOne
@@ -152,7 +174,8 @@ one_cut body (block bs ∷ raws) (block cs ∷ others) e f p q =
     let h = one_block bs cs (drop 2 body) p.1 q.1 p.2 q.2 in
     let r = one_cut p.1 raws others e f p.3 (subst (λ m. IsCut m others f) (sym h.1) q.3) in
     (λ n. block (h.0 n) ∷ r.0 n, r.1)
-one_cut body (x ∷ raws) (y ∷ others) e f p q = absurd (omega (arith, kind_is body (x ∷ raws) e p, kind_is body (y ∷ others) f q))
+one_cut body (x ∷ raws) (y ∷ others) e f p q =
+    absurd (omega (arith, kind_is body (x ∷ raws) e p, kind_is body (y ∷ others) f q))
 
 -- THE CUT THAT IS FOUND
 
@@ -174,7 +197,8 @@ pub run_is : (body : List ℕ) → IsRun (take (run_of body) body) body (drop (r
 run_is [] = (refl, λ e. absurd (omega (arith, ap rank e)))
 run_is (b ∷ rest) = each (is_text (front_at (b ∷ rest))) refl (run_is rest)
   where
-    each : (v : Bool) → is_text (front_at (b ∷ rest)) ≡ v → IsRun (take (run_of rest) rest) rest (drop (run_of rest) rest)
+    each : (v : Bool) → is_text (front_at (b ∷ rest)) ≡ v
+        → IsRun (take (run_of rest) rest) rest (drop (run_of rest) rest)
         → IsRun (take (if v then suc (run_of rest) else 0) (b ∷ rest)) (b ∷ rest)
         (drop (if v then suc (run_of rest) else 0) (b ∷ rest))
     each true is h = (text_tells (front_at (b ∷ rest)) is, rest, refl, h)
@@ -184,7 +208,7 @@ pub some_run : (body : List ℕ) → front_at body ≡ Text → 0 < run_of body
 some_run [] h = absurd (omega (arith, ap rank h))
 some_run (b ∷ rest) h = rw (ap is_text h) (omega arith)
 
-two_out : (a b : Bool) → (a && b) ≡ true → (a ≡ true) × (b ≡ true)
+pub two_out : (a b : Bool) → (a && b) ≡ true → (a ≡ true) × (b ≡ true)
 two_out true b h = (refl, h)
 two_out false b h = absurd (true≢false (sym h))
 
@@ -248,7 +272,7 @@ count (plain b i) = suc (count i)
 count (escaped b i) = suc (suc (count i))
 count (bracket i j) = suc (count i + suc (count j))
 
-written_front : (i : Inside) (rest : List ℕ) → written i rest ≡ written i [] ++ rest
+pub written_front : (i : Inside) (rest : List ℕ) → written i rest ≡ written i [] ++ rest
 written_front nothing rest = refl
 written_front (plain b i) rest = ap (λ xs. b ∷ xs) (written_front i rest)
 written_front (escaped b i) rest = ap (λ xs. 92 ∷ b ∷ xs) (written_front i rest)

@@ -1,4 +1,6 @@
--- A byte more of plain text, of a regular expression and of a block: what each loop of the code does with one byte.
+-- A byte more of plain text, of a regular expression and of a block: what each loop of the code does with one byte. With the
+-- bytes that were passed added, the length of the rest stays the length of the whole. The hard one is `block_more`, by
+-- the cases of `end_step`.
 use Rattle.std.proofs.Common.{◌≡◌, ℕ, ◌+◌, ◌<◌, ◌≤◌, zero, suc, Bool, true, false, if◌then◌else◌, ◌==◌, List, [], ◌∷◌, Option, Some, None, length, drop, get_or, refl, sym, ap, ◌∙◌, arith}
 use Rattle.std.proofs.Math.Seq.{drop-cons}
 use Rattle.std.proofs.lemmas.List.{drop_all}

@@ -1,4 +1,5 @@
--- What formats have at a name: the map that the code's entries make, with places that nobody sees.
+-- What formats have at a name: the map that the code's entries make, with places that nobody sees. Shown at each name, by
+-- what num_base says of entries under names. The hard one is `place_under`: a new place changes no look-up.
 use Rattle.std.proofs.lemmas.List.{drop_all}
 use Rattle.std.proofs.Common.{◌≡◌, ℕ, ◌+◌, ◌<◌, ◌≤◌, add-one, drop, drop-cons, get_or, length, Bool, true, false, true≢false, cond, is_some, Option, Some, None, List, [], ◌∷◌, refl, sym, ap, ◌∙◌, subst}
 use Rattle.std.specs.Prelude.{Vec}
@@ -73,7 +74,8 @@ place_under es k none = same_map nat_list_cmp_total exact_bytes _ _ (λ q.
   where
     each : (q : List ℕ) (b : Bool) → is_eq (name_cmp q k.items) ≡ b
         → option_flatten (cond b (Some None) (value_at es q)) ≡ option_flatten (value_at es q)
-    each q true is = sym (ap (λ n. option_flatten (value_at es n)) (exact_bytes q k.items (is_equal _ is)) ∙ ap option_flatten none)
+    each q true is =
+        sym (ap (λ n. option_flatten (value_at es n)) (exact_bytes q k.items (is_equal _ is)) ∙ ap option_flatten none)
     each q false is = refl
 
 -- a format at a place is in the map
@@ -107,7 +109,9 @@ place_stays_set es k o q there has = ap is_some (set_place es k o q there) ∙ e
 
 pub place_made : (es : List (Vec ℕ Global × Option Format)) (k : Vec ℕ Global) (o : Option Format)
     → is_some (value_at (insert_entry (λ x y. slice_cmp nat_cmp x.items y.items) es k o) k.items) ≡ true
-place_made es k o = ap is_some (put_value es k o k.items) ∙ each (is_eq (name_cmp k.items k.items)) ((eq_by_cmp_equiv nat_list_cmp_total).refl k.items)
+place_made es k o =
+    ap is_some (put_value es k o k.items)
+    ∙ each (is_eq (name_cmp k.items k.items)) ((eq_by_cmp_equiv nat_list_cmp_total).refl k.items)
   where
     each : (b : Bool) → b ≡ true → is_some (cond b (Some o) (value_at es k.items)) ≡ true
     each true is = refl

@@ -1,4 +1,6 @@
--- The pieces of a body one by one, as the loop reads them.
+-- The pieces of a body one by one, as the loop reads them: what was read, in front of what the definition says of the rest,
+-- is what it says of the whole. So a refusal or the end at hand is the body's. The hard one is `one_more`; `pieces_are_one`
+-- follows from `one_cut`.
 use Rattle.std.specs.Bool.{MatchBool}
 use Rattle.pattern_parse.specs.Cut.{IsCut}
 use Rattle.pattern_parse.specs.Item.{plain, refused}
@@ -72,7 +74,8 @@ module _ (fold : Bool) (known : List ℕ → Option Format) (label : Bool) (body
       → behind_items items (items_from fold known label said at (map (raw_view body) (drop i all)) ending) ≡ told
       → raw_read fold known label said at (raw_view body raw) ≡ Ok (item, then_said)
       → next_at ≡ behind_raw at (raw_view body raw) → more ≡ items ++ item ∷ []
-      → behind_items more (items_from fold known label then_said next_at (map (raw_view body) (drop (i + 1) all)) ending)
+      → behind_items more
+      (items_from fold known label then_said next_at (map (raw_view body) (drop (i + 1) all)) ending)
       ≡ told
   one_more raw item then_said next_at more low is before read next joined =
       let rest : ℕ → Result (List Item) PatFault =

@@ -1,4 +1,6 @@
--- What comes next in a body is a piece of its cut, or its end.
+-- What comes next in a body is a piece of its cut, or its end, and a piece that is found is put behind the others. By
+-- the lemmas on each kind of piece in `CutLemmas`, at an offset of the body. The hard one is `one_more_raw`: a cut of the
+-- rest stays a cut of the whole.
 use Rattle.std.proofs.Common.{◌≡◌, ℕ, ◌+◌, ◌≤◌, false, List, [], ◌∷◌, ◌++◌, Some, None, length, length-drop, drop, map, sym, ap, ◌∙◌, subst, arith, append_assoc}
 use Rattle.std.proofs.lemmas.List.{map-append}
 use Rattle.pattern_parse.specs.Cut.{IsCut, Raw, Ending, front_at}

@@ -1,7 +1,7 @@
 -- What a block says: `[[X]]`, `[[X:ere]]`, `[[#num]]`, `[[@LINE+n]]`, or its first refusal.
 -- After LLVM Command Guide, FileCheck, 'FileCheck String Substitution Blocks' and 'FileCheck Numeric Substitution
--- Blocks'. Own rules: a number that a directive defines is used in no expression of that directive; where a block has no
--- format of its own, the numbers that it uses have one format; the first refusal from the left counts.
+-- Blocks'. Own rules: a number that a directive defines is used in no expression of that directive; where a block has
+-- no format of its own, the numbers that it uses have one format; the first refusal from the left counts.
 use Rattle.std.specs.Prelude.{codes, ℕ, ◌+◌, ◌^◌, Bool, true, false, not, ◌&&◌, ◌==◌, nat_lt, is_some, ℤ, pos, negsuc, zero, suc, List, [], ◌∷◌, length, take, drop, Option, Some, None, Result, Ok, Err, if◌then◌else◌}
 use Rattle.std.specs.FinMap.{FinMap, get, insert}
 use Rattle.std.specs.List.{prefix_len}

@@ -1,8 +1,8 @@
 -- How a body is cut into plain text, regular expressions and blocks, apart from any way of reading it.
 --   body = { text | "{{" bytes "}}" | "[[" inside "]]" }      inside = { byte | "\" byte | "[" inside "]" }
--- After LLVM Command Guide, FileCheck, 'FileCheck Regex Matching Syntax' and 'FileCheck String Substitution Blocks'. Own
--- rules: a regular expression ends at its first `}}`; inside a block brackets pair, and a backslash hides the byte behind
--- it; of several `[` the last two begin the block.
+-- After LLVM Command Guide, FileCheck, 'FileCheck Regex Matching Syntax' and 'FileCheck String Substitution Blocks'.
+-- Own rules: a regular expression ends at its first `}}`; inside a block brackets pair, and a backslash hides the byte
+-- behind it; of several `[` the last two begin the block.
 use Rattle.std.specs.Prelude.{◌≡◌, ◌≢◌, ℕ, Bool, false, ◌&&◌, ◌==◌, not, if◌then◌else◌, List, [], ◌∷◌, IsTrue, IsFalse, drop}
 use Rattle.pattern_parse.specs.declared.cutting.Front.{Front}
 use Rattle.pattern_parse.specs.declared.cutting.Front.TheVariants.{End, Regex, Block, Text}

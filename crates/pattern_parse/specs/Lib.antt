@@ -6,3 +6,4 @@ pub mod Item
 pub mod PieceView
 pub mod Pieces
 pub mod RawView
+pub mod Search

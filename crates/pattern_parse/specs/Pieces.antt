@@ -1,6 +1,6 @@
 -- The pieces of a body, or its first refusal, from its cut.
--- After LLVM Command Guide, FileCheck. Own rules: at most nine definitions of a body are meant by recalls; a body has at
--- most 65,536 bytes; a label has no block.
+-- After LLVM Command Guide, FileCheck. Own rules: at most nine definitions of a body are meant by recalls; a body has
+-- at most 65,536 bytes; a label has no block.
 use Rattle.std.specs.Prelude.{◌≡◌, ℕ, ◌+◌, Bool, true, false, nat_lt, List, [], ◌∷◌, length, Option, Some, None, Result, Ok, Err, if◌then◌else◌}
 use Rattle.std.specs.Bool.{MatchBool}
 use Rattle.std.specs.FinMap.{FinMap, empty, insert}

@@ -70,7 +70,8 @@ fn set_format(held: &mut BTreeMap<Vec<u8>, Option<Format>>, name: &[u8], format:
 
 fn set_entry(held: &mut BTreeMap<Vec<u8>, Option<Format>>, name: &[u8], format: Format)
     requires { is_some (value_at held.old.entries name.now) ≡ true }
-    ensures { held.new.entries ≡ set_value (is_at (λ k. slice_cmp nat_cmp name.now k.items)) held.old.entries (Some format) }
+    ensures { held.new.entries
+        ≡ set_value (is_at (λ k. slice_cmp nat_cmp name.now k.items)) held.old.entries (Some format) }
 {
     if let Some(place) = held.get_mut(name) {
         *place = Some(format);

@@ -1,6 +1,6 @@
-//! Bodies of directives: plain text, regular expressions, text variables and numbers, as pieces of a pattern. After LLVM
-//! Command Guide, FileCheck, 'FileCheck Regex Matching Syntax', 'String Substitution Blocks' and 'Numeric Substitution
-//! Blocks'. Directives and scanning stand above this crate.
+//! Bodies of directives: plain text, regular expressions, text variables and numbers, as pieces of a pattern. After
+//! LLVM Command Guide, FileCheck, 'FileCheck Regex Matching Syntax', 'FileCheck String Substitution Blocks' and 'FileCheck
+//! Numeric Substitution Blocks'. Directives and scanning stand above this crate.
 #![tactic(auto)]
 
 mod block;

@@ -5,6 +5,7 @@ ghost use Rattle.pattern_parse.specs.PieceView.{ReadsAs, Tells, items_view, said
 ghost use Rattle.pattern_parse.specs.Item.{plain};
 ghost use Rattle.pattern_parse.specs.Pieces.{IsPieces, behind_raw, ended, frame_of, is_label, is_plain, items_from, nothing_said, raw_read, with_formats};
 ghost use Rattle.pattern_parse.specs.RawView.{ending_view, raw_view};
+ghost use Rattle.pattern_parse.specs.Search.{IsSearchable};
 
 use crate::block::{Read, behind_raw, raw_read, refused};
 use crate::cutting::{Ending, Raw, cut_body};
@@ -203,6 +204,7 @@ fn read_body(
 
 /// The pattern of a directive of this kind, where these formats are known; from then on those of the numbers that it
 /// defines are, too. Of a refusal nothing is kept.
+#[tactic(auto, using(crate::proofs::SearchLemmas::pieces_searchable))]
 pub fn parse_pattern(
     alloc: Global,
     body: &[u8],
@@ -216,6 +218,8 @@ pub fn parse_pattern(
     ensures framed { IfOk result (λ pattern. (pattern.frame ≡ frame_of kind frame) × (pattern.fold ≡ fold)) }
     ensures known { IfOk result (λ pattern. known.new ≡ with_formats known.old (items_view pattern.pieces)) }
     ensures err { OnErr result (known.new ≡ known.old) }
+    // A search finds the numbers of groups and references as it needs them.
+    ensures searchable { IfOk result (λ pattern. IsSearchable (items_view pattern.pieces)) }
 {
     match read_body(alloc, known, fold, kind, literal, body) {
         Ok(Ok(pieces)) => match known.add_all(pieces.as_slice()) {

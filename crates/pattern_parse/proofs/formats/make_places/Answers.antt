@@ -20,4 +20,5 @@ loop-piece-preserved c =
 pub returns-clause-made : goal.returns-clause-made
 returns-clause-made c =
     c.loop-piece.invariant.made c.loop-piece.held.entries (λ q there. there)
-    (no_places c.loop-piece.held.entries c.args.pieces.now c.loop-piece.piece-index (omega (arith, c.loop-piece-test.false)))
+    (no_places c.loop-piece.held.entries c.args.pieces.now c.loop-piece.piece-index
+    (omega (arith, c.loop-piece-test.false)))
