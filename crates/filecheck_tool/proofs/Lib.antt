@@ -1,3 +1,4 @@
 pub mod EachLemmas
 pub mod FaultLemmas
+pub mod PrefixesLemmas
 pub mod WordsLemmas

@@ -1,21 +1,26 @@
--- Words as texts.
-use Rattle.std.proofs.Common.{◌≡◌, ℕ, suc, ◌+◌, ◌<◌, Bool, List, [], ◌∷◌, Some, cond, length, get_or, refl, ap, String, string_bytes}
-use Rattle.std.specs.declared.alloc.Global.{Global}
-use Rattle.std.specs.List.{position_from}
-use Rattle.std.proofs.lemmas.List.{get_or-map}
-use Rattle.filecheck_tool.specs.Words.{texts, word_at}
+-- Words, and what they give.
+use Rattle.std.proofs.Common.{◌≡◌, ◌≢◌, ℕ, Bool, true, false, List, refl, sym, ap, subst}
+use Rattle.std.proofs.lemmas.Str.{is_utf8-from_IsUtf8, IsUtf8-from_is_utf8}
+use Rattle.std.specs.Prelude.{Result, Ok, Err}
+use Rattle.std.specs.Str.{IsUtf8, is_utf8}
+use Rattle.opt_words.specs.Reading.{IsTally, Reads}
+use Rattle.opt_words.specs.declared.fault.WordFault.{WordFault}
+use Rattle.opt_words.specs.declared.settings.Settings.{Settings}
+use Rattle.opt_words.specs.declared.step.Given.{Given}
 
-pub position_from_texts : (test : List ℕ → Bool) (at : ℕ) (words : List (String Global))
-    → position_from test at (texts words) ≡ position_from (λ word. test (string_bytes word)) at words
-position_from_texts test at [] = refl
-position_from_texts test at (word ∷ words) =
-    ap (λ later. cond (test (string_bytes word)) (Some at) later) (position_from_texts test (at + 1) words)
+pub text_is : (bytes : List ℕ) → IsUtf8 bytes → is_utf8 bytes ≡ true
+text_is bytes is = is_utf8-from_IsUtf8 bytes is
 
-pub length_texts : (words : List (String Global)) → length (texts words) ≡ length words
-length_texts [] = refl
-length_texts (word ∷ words) = ap (λ n. suc n) (length_texts words)
+no_text_by : (bytes : List ℕ) (test : Bool) → is_utf8 bytes ≡ test → ¬ (IsUtf8 bytes) → is_utf8 bytes ≡ false
+no_text_by bytes true is never = absurd (never (IsUtf8-from_is_utf8 bytes is))
+no_text_by bytes false is never = is
 
--- a word's bytes, whatever stands past the end
-pub word_at_texts : (words : List (String Global)) (at : ℕ) (d : String Global) → at < length words
-    → word_at (texts words) at ≡ string_bytes (get_or words at d)
-word_at_texts words at d within = get_or-map string_bytes words at d [] within
+pub no_text : (bytes : List ℕ) → ¬ (IsUtf8 bytes) → is_utf8 bytes ≡ false
+no_text bytes never = no_text_by bytes (is_utf8 bytes) refl never
+
+-- what was read and all that is given belong together
+pub read_is : (n : ℕ) (got : Result (List Given) WordFault) (settings : Settings n) (all : List Given) → Reads n got (Ok settings)
+    → ((due : List Given) → got ≡ Ok due → all ≡ due) → (got ≡ Ok all) × IsTally n all settings
+read_is n (Ok due) settings all tally is =
+    let same : all ≡ due = is due refl in (ap Ok (sym same), subst (λ list. IsTally n list settings) (sym same) tally)
+read_is n (Err fault) settings all none is = absurd none

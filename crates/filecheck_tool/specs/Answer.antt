@@ -2,9 +2,10 @@
 -- After LLVM Command Guide, FileCheck: 0 where the input matches, 1 where it doesn't. Own rules: the texts, and the
 -- statuses 2 for a refusal and 3 for a fault of reading.
 use Rattle.std.specs.Prelude.{ℕ, List, [], ◌∷◌, ◌++◌, codes, Result, Ok, Err}
+use Rattle.opt_words.specs.Fault.{text_before, text_behind}
 use Rattle.filecheck_tool.specs.Message.{placed, told, unplaced}
 use Rattle.filecheck_tool.specs.declared.refusal.Refusal.{Refusal}
-use Rattle.filecheck_tool.specs.declared.refusal.Refusal.TheVariants.{WordNotText, UnknownOption, NotOneFile, NotFound, TooLarge, BadCount, NotCombination, BadModifier, EmptyPattern, NonEmptyForEmpty, NoEarlierCheck, NotBuilt, NoChecks, UnusedPrefix, IsEmpty}
+use Rattle.filecheck_tool.specs.declared.refusal.Refusal.TheVariants.{WordNotText, FaultyWord, NotOneFile, BadPrefix, PrefixTwice, NotFound, TooLarge, BadCount, NotCombination, BadModifier, EmptyPattern, NonEmptyForEmpty, NoEarlierCheck, NotBuilt, NoChecks, UnusedPrefix, IsEmpty}
 use Rattle.filecheck_tool.specs.declared.refusal.Stop.{Stop}
 use Rattle.filecheck_tool.specs.declared.refusal.Stop.TheVariants.{Refused, NotReadable}
 use Rattle.filecheck_tool.specs.declared.finding.Finding.{Finding}
@@ -13,8 +14,10 @@ use Rattle.tt_run.specs.declared.answer.Answer.{Answer}
 -- the table
 abbrev pub text_of : Refusal → List ℕ
 text_of WordNotText = unplaced (codes "a word isn't text")
-text_of (UnknownOption word) = unplaced (codes "unknown option '" ++ word ++ codes "'")
+text_of (FaultyWord fault word) = unplaced (text_before fault ++ word ++ text_behind fault)
 text_of NotOneFile = unplaced (codes "one check file is needed")
+text_of (BadPrefix prefix) = unplaced (codes "bad prefix '" ++ prefix ++ codes "'")
+text_of (PrefixTwice prefix) = unplaced (codes "prefix '" ++ prefix ++ codes "' given twice")
 text_of (NotFound name) = unplaced (codes "'" ++ name ++ codes "' not found")
 text_of (TooLarge name) = unplaced (codes "'" ++ name ++ codes "' is too large")
 text_of (BadCount spot) = placed spot (codes "error: bad count")

@@ -1,6 +1,6 @@
 -- The input, and what is found amiss in it.
--- After LLVM Command Guide, FileCheck: the input is read from standard input, and an empty one is refused.
-use Rattle.std.specs.Prelude.{ℕ, false, ◌==◌, if◌then◌else◌, List, [], ◌∷◌, ◌++◌, slice_get, slice_index_or, codes, Option, Some, None, Result, Ok, Err}
+-- After LLVM Command Guide, FileCheck: --input-file, and an empty input is refused without --allow-empty.
+use Rattle.std.specs.Prelude.{ℕ, Bool, ◌==◌, if◌then◌else◌, List, [], ◌∷◌, ◌++◌, slice_get, slice_index_or, codes, Option, Some, None, Result, Ok, Err}
 use Rattle.std.specs.List.{flat_map}
 use Rattle.check_lines.specs.Canonical.{canon}
 use Rattle.check_lines.specs.declared.directive.Directive.{Directive}
@@ -23,16 +23,19 @@ use Rattle.filecheck_tool.specs.declared.program.Program.{Program}
 use Rattle.filecheck_tool.specs.declared.refusal.Refusal.{Refusal}
 use Rattle.filecheck_tool.specs.declared.refusal.Refusal.TheVariants.{IsEmpty}
 use Rattle.filecheck_tool.specs.declared.refusal.Stop.{Stop}
+use Rattle.filecheck_tool.specs.declared.words.Input.{Input}
+use Rattle.filecheck_tool.specs.declared.words.Input.TheVariants.{Standard, Named}
 use Rattle.tt_run.specs.declared.reading.Reading.{Reading}
 
 -- how the input is named
-abbrev pub input_name : List ℕ
-input_name = codes "<stdin>"
+abbrev pub input_name : Input → List ℕ
+input_name Standard = codes "<stdin>"
+input_name (Named name) = name
 
--- bytes, if there is one
-abbrev pub filled : List ℕ → List ℕ → Result (List ℕ) Refusal
-filled name [] = Err (IsEmpty name)
-filled name (byte ∷ bytes) = Ok (byte ∷ bytes)
+-- bytes, of which there may be none or not
+abbrev pub filled : Bool → List ℕ → List ℕ → Result (List ℕ) Refusal
+filled allow name (byte ∷ bytes) = Ok (byte ∷ bytes)
+filled allow name [] = if allow then Ok [] else Err (IsEmpty name)
 
 -- ---- what is told of a fault
 
@@ -64,22 +67,25 @@ trouble_of kind (WrongLine found last newlines) = if newlines == 0 then OnSameLi
 trouble_of kind (NotSameLine found last) = NotOnSameLine
 
 -- a place in the input
-abbrev pub note_at : Remark → List ℕ → ℕ → Note
-note_at remark input at = record { remark = remark; spot = spot_at input_name input at }
+abbrev pub note_at : Remark → List ℕ → List ℕ → ℕ → Note
+note_at remark name input at = record { remark = remark; spot = spot_at name input at }
 
 -- the places in the input that are told with a fault
-abbrev pub notes_of : List ℕ → FaultKind → List Note
-notes_of input (IsAbsent from done) = note_at ScanningFrom input from ∷ []
-notes_of input (WrongLine found last newlines) = note_at MatchWasHere input found ∷ note_at PreviousEnded input last ∷ []
-notes_of input (NotSameLine found last) = note_at MatchWasHere input found ∷ note_at PreviousEnded input last ∷ []
+abbrev pub both_notes : List ℕ → List ℕ → ℕ → ℕ → List Note
+both_notes name input found last = note_at MatchWasHere name input found ∷ note_at PreviousEnded name input last ∷ []
+
+abbrev pub notes_of : List ℕ → List ℕ → FaultKind → List Note
+notes_of name input (IsAbsent from done) = note_at ScanningFrom name input from ∷ []
+notes_of name input (WrongLine found last newlines) = both_notes name input found last
+notes_of name input (NotSameLine found last) = both_notes name input found last
 
 -- what is told of a directive that isn't met
 abbrev pub finding_of : Program → List ℕ → Directive → FaultKind → Finding
 finding_of program input directive kind = record {
-  name = slice_index_or program.prefixes directive.prefix [] ++ suffix_of directive.kind;
+  name = slice_index_or program.asked.prefixes.checks directive.prefix [] ++ suffix_of directive.kind;
   trouble = trouble_of directive.kind kind;
-  check = spot_at program.name program.text directive.body.from;
-  notes = notes_of input kind;
+  check = spot_at program.asked.name program.text directive.body.from;
+  notes = notes_of (input_name program.asked.input) input kind;
 }
 
 abbrev pub finding_by : Program → List ℕ → Option Directive → FaultKind → List Finding
@@ -101,6 +107,6 @@ verdict program input = findings_of program input (check program.checks input)
 -- what is found amiss in what reading the input gave
 abbrev pub verdict_read : Program → Reading → Result (List Finding) Stop
 verdict_read program read = do
-  bytes ← whole input_name read
-  input ← accepted (filled input_name bytes)
-  Ok (verdict program (canon false input))
+  bytes ← whole (input_name program.asked.input) read
+  input ← accepted (filled program.asked.allow_empty (input_name program.asked.input) bytes)
+  Ok (verdict program (canon program.asked.strict input))

@@ -49,8 +49,12 @@ fn text_of(alloc: Global, refusal: &Refusal) -> Result<Bytes, NoMemory>
 {
     match refusal {
         Refusal::WordNotText => unplaced(alloc, b"a word isn't text"),
-        Refusal::UnknownOption(word) => named(alloc, b"unknown option '", word, b"'"),
+        Refusal::FaultyWord(fault, word) => {
+            named(alloc, fault.text_before(), word, fault.text_behind())
+        }
         Refusal::NotOneFile => unplaced(alloc, b"one check file is needed"),
+        Refusal::BadPrefix(prefix) => named(alloc, b"bad prefix '", prefix, b"'"),
+        Refusal::PrefixTwice(prefix) => named(alloc, b"prefix '", prefix, b"' given twice"),
         Refusal::NotFound(name) => named(alloc, b"'", name, b"' not found"),
         Refusal::TooLarge(name) => named(alloc, b"'", name, b"' is too large"),
         Refusal::BadCount(spot) => placed(alloc, spot, b"error: bad count"),

@@ -16,7 +16,9 @@ mod verdict;
 mod words;
 
 pub use finding::{Finding, Note, Remark, Trouble};
+pub use prefixes::Prefixes;
 pub use program::Program;
 pub use refusal::{Refusal, Stop};
-pub use run::{CHECK_LIMIT, INPUT_LIMIT, filecheck_run, refuse_words, tell_memory};
+pub use run::{CHECK_LIMIT, INPUT_LIMIT, filecheck_run};
 pub use spot::Spot;
+pub use words::{Asked, Input};

@@ -3,11 +3,12 @@ ghost use Rattle.std.specs.Prelude.{◌≡◌, ◌≤◌, ◌^◌, [], IfOk, len
 ghost use Rattle.filecheck_tool.specs.Program.{IsSound, program_in, program_read, refusal_of, whole};
 ghost use Rattle.filecheck_tool.specs.Refusal.{Gives, accepted};
 ghost use Rattle.filecheck_tool.specs.Spot.{spot_at};
+ghost use Rattle.filecheck_tool.specs.Words.{HasNames};
 ghost use Rattle.tt_run.specs.Run.{IsShort};
 
-use crate::prefixes::{default_checks, default_comments};
 use crate::refusal::{Refusal, StepFail, Stop, refuse};
 use crate::spot::spot_at;
+use crate::words::Asked;
 use check_lines::{CheckFail, CheckFault, CheckKind, Directive, canon_owned, read_checks};
 use check_run::compile;
 use std::alloc::Global;
@@ -17,12 +18,10 @@ use tt_run::Reading;
 /// A check file that was accepted.
 #[derive(Drop, Debug)]
 pub struct Program {
-    /// The name of the check file, as it was given.
-    pub name: Bytes,
-    /// Its canonical text.
+    /// What the words ask for.
+    pub asked: Asked,
+    /// The canonical text of the check file.
     pub text: Bytes,
-    /// The check prefixes.
-    pub prefixes: Items<Bytes>,
     /// Its directives, whose bodies lie in the text.
     pub directives: Items<Directive>,
     /// The same with the texts that they look for.
@@ -30,13 +29,15 @@ pub struct Program {
 }
 
 /// The program of a check file.
-pub fn program_read(alloc: Global, name: &[u8], file: Reading) -> Result<Program, StepFail>
-    requires { IsShort (2 ^ 30) file }
-    ensures value { Gives (λ program. program) result (program_read name.now file) }
+pub fn program_read(alloc: Global, asked: Asked, file: Reading) -> Result<Program, StepFail>
+    requires short { IsShort (2 ^ 30) file }
+    requires named { HasNames asked }
+    ensures value { Gives (λ program. program) result (program_read asked file) }
     ensures sound { IfOk result IsSound }
 {
-    let bytes = whole(alloc, name, file)?;
-    program_in(alloc, name, canon_owned(bytes, false))
+    let bytes = whole(alloc, asked.name.as_slice(), file)?;
+    let text = canon_owned(bytes, asked.strict);
+    program_in(alloc, asked, text)
 }
 
 /// The bytes that reading gave.
@@ -54,37 +55,35 @@ pub fn whole(alloc: Global, name: &[u8], reading: Reading) -> Result<Bytes, Step
     }
 }
 
-fn program_in(alloc: Global, name: &[u8], text: Bytes) -> Result<Program, StepFail>
-    requires { length text ≤ 2 ^ 30 }
-    ensures value { Gives (λ program. program) result (accepted (program_in name.now text)) }
+fn program_in(alloc: Global, asked: Asked, text: Bytes) -> Result<Program, StepFail>
+    requires small { length text ≤ 2 ^ 30 }
+    requires named { HasNames asked }
+    ensures value { Gives (λ program. program) result (accepted (program_in asked text)) }
     ensures sound { IfOk result IsSound }
 {
-    let prefixes = default_checks(alloc)?;
-    let comments = default_comments(alloc)?;
     match read_checks(
         alloc,
         text.as_slice(),
-        prefixes.as_slice(),
-        comments.as_slice(),
-        false,
+        asked.prefixes.checks.as_slice(),
+        asked.prefixes.comments.as_slice(),
+        asked.allow_unused,
         false,
         false,
     ) {
         Ok(directives) => {
             let checks = compile(alloc, text.as_slice(), directives.as_slice())?;
             Ok(Program {
-                name: Bytes::from_slice(alloc, name)?,
+                asked,
                 text,
-                prefixes,
                 directives,
                 checks,
             })
         }
         Err(CheckFail::Bad(fault)) => refuse(refusal_of(
             alloc,
-            name,
+            asked.name.as_slice(),
             text.as_slice(),
-            prefixes.as_slice(),
+            asked.prefixes.checks.as_slice(),
             fault,
         )?),
         Err(CheckFail::NoMemory) => Err(StepFail::NoMemory),

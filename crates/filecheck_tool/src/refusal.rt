@@ -5,6 +5,7 @@ ghost use Rattle.filecheck_tool.specs.declared.refusal.Stop.TheVariants.{Refused
 ghost use Rattle.filecheck_tool.specs.declared.refusal.StepFail.TheVariants.{Stopped};
 
 use crate::spot::Spot;
+use opt_words::WordFault;
 use tt_base::{Bytes, NoMemory};
 
 /// Why words, check file or input aren't accepted, in the order of docs/PROFILE.md.
@@ -12,10 +13,14 @@ use tt_base::{Bytes, NoMemory};
 pub enum Refusal {
     /// One of the words isn't text.
     WordNotText,
-    /// `--nope`: the word.
-    UnknownOption(Bytes),
+    /// `--nope`, or an option without its value: what is wrong, and the word.
+    FaultyWord(WordFault, Bytes),
     /// No plain word, or more than one.
     NotOneFile,
+    /// `--check-prefix=1A`: not a letter, and then letters, digits, `-` and `_`.
+    BadPrefix(Bytes),
+    /// `--check-prefixes=A,A`: an equal one holds before it.
+    PrefixTwice(Bytes),
     /// No file has this name.
     NotFound(Bytes),
     /// It has more bytes than the limit.

@@ -1,16 +1,17 @@
 //! The top call.
-ghost use Rattle.std.specs.Prelude.{◌≡◌, ◌⊎◌, ◌≤◌, ◌≢◌, ◌+◌, ◌^◌, IfOk, List, Result};
+ghost use Rattle.std.specs.Prelude.{◌≡◌, ◌⊎◌, ◌≤◌, ◌<◌, ◌≢◌, ◌+◌, ◌^◌, true, IfOk, List, Result};
 ghost use Rattle.tt_outside.specs.Faults.{Rose};
 ghost use Rattle.tt_outside.specs.Transfer.{TakesAtMost};
-ghost use Rattle.tt_run.specs.Run.{Answered, Told, Written, files, source, stream};
-ghost use Rattle.filecheck_tool.specs.Answer.{answer_to, text_of};
+ghost use Rattle.tt_run.specs.Run.{Told, Written, files, source, stream};
+ghost use Rattle.std.specs.Str.{is_utf8};
+ghost use Rattle.opt_words.specs.Step.{texts};
+ghost use Rattle.tt_run.specs.Run.{FileRead, IsShort};
+ghost use Rattle.filecheck_tool.specs.Answer.{answer_to};
 ghost use Rattle.filecheck_tool.specs.Message.{cannot_write, out_of_memory};
 ghost use Rattle.filecheck_tool.specs.Program.{IsSound};
-ghost use Rattle.filecheck_tool.specs.Refusal.{accepted};
-ghost use Rattle.filecheck_tool.specs.Run.{OutcomeFrom, ProgramFrom};
-ghost use Rattle.filecheck_tool.specs.Words.{named, texts};
+ghost use Rattle.filecheck_tool.specs.Run.{InputRead, OutcomeFrom, ProgramFrom};
+ghost use Rattle.filecheck_tool.specs.Words.{IsNamed, asked_by};
 ghost use Rattle.filecheck_tool.specs.declared.program.Program.{Program};
-ghost use Rattle.filecheck_tool.specs.declared.refusal.Refusal.TheVariants.{WordNotText};
 ghost use Rattle.filecheck_tool.specs.declared.refusal.Stop.{Stop};
 ghost use Rattle.filecheck_tool.specs.declared.finding.Finding.{Finding};
 
@@ -19,11 +20,12 @@ use crate::finding::Finding;
 use crate::program::{Program, program_read};
 use crate::refusal::{StepFail, Stop, settled};
 use crate::verdict::verdict_read;
-use crate::words::named;
+use crate::words::{Input, asked_by};
 use std::alloc::Global;
+use std::str::from_utf8;
 use tt_base::{Items, NoMemory};
 use tt_outside::{Files, Sink, Source};
-use tt_run::{answer_on, read_named, read_source, tell, write_answer};
+use tt_run::{Reading, read_named, read_source, tell, write_answer};
 
 /// The greatest length of a check file, in bytes.
 pub const CHECK_LIMIT: u64 = 16_777_216;
@@ -42,10 +44,11 @@ pub fn filecheck_run<F: Files, I: Source, O: Sink, E: Sink>(
     out: &mut O,
     err: &mut E,
 ) -> u8
-    ensures answer { result ≢ 4 → (program : Result Program Stop) × (outcome : Result (List Finding) Stop)
-        × ProgramFrom (files F.held F.steady F.faults from.old from.new) (2 ^ 24)
-        (accepted (named (texts words.now))) program
-        × OutcomeFrom (source I.left I.steady I.faults input.old input.new) (2 ^ 26) program outcome
+    ensures answer { result ≢ 4 → (middle : F) × (program : Result Program Stop) × (outcome : Result (List Finding) Stop)
+        × ProgramFrom (files F.held F.steady F.faults from.old middle) (2 ^ 24) (asked_by (texts words.now)) program
+        × (F.held middle ≡ F.held from.old)
+        × OutcomeFrom (files F.held F.steady F.faults middle from.new)
+        (source I.left I.steady I.faults input.old input.new) (2 ^ 26) program outcome
         × Written cannot_write (answer_to outcome) result
         (stream O.held O.faults O.room out.old out.new) (stream E.held E.faults E.room err.old err.new) }
     ensures fault { result ≡ 3 → Rose (F.faults from.old) (F.faults from.new)
@@ -61,7 +64,7 @@ pub fn filecheck_run<F: Files, I: Source, O: Sink, E: Sink>(
     let Ok(program) = program_from(alloc, words, from) else {
         return tell_memory(err);
     };
-    let Ok(outcome) = outcome_from(alloc, program, input) else {
+    let Ok(outcome) = outcome_from(alloc, program, from, input) else {
         return tell_memory(err);
     };
     let Ok(answer) = answer_to(alloc, &outcome) else {
@@ -70,58 +73,93 @@ pub fn filecheck_run<F: Files, I: Source, O: Sink, E: Sink>(
     write_answer(b"filecheck: error: cannot write\n", &answer, out, err)
 }
 
-/// The program of the check file that the words name.
+/// The program of the check file that the words ask for.
 fn program_from<F: Files>(
     alloc: Global,
     words: &[String],
     from: &mut F,
 ) -> Result<Result<Program, Stop>, NoMemory>
     ensures value { IfOk result (ProgramFrom (files F.held F.steady F.faults from.old from.new) (2 ^ 24)
-        (accepted (named (texts words.now)))) }
+        (asked_by (texts words.now))) }
     ensures sound { IfOk result (λ program. IfOk program IsSound) }
     ensures files_stay { F.held from.new ≡ F.held from.old }
 {
-    let name = match named(alloc, words) {
-        Ok(name) => name,
+    let asked = match asked_by(alloc, words) {
+        Ok(asked) => asked,
         Err(StepFail::Stopped(stop)) => return Ok(Err(stop)),
         Err(StepFail::NoMemory) => return Err(NoMemory),
     };
-    let file = read_named(alloc, name, CHECK_LIMIT, from)?;
-    settled(program_read(alloc, name.as_bytes(), file))
+    let file = read_file(alloc, asked.name.as_slice(), CHECK_LIMIT, from)?;
+    settled(program_read(alloc, asked, file))
 }
 
 /// What the program finds amiss in the input.
-fn outcome_from<I: Source>(
+fn outcome_from<F: Files, I: Source>(
     alloc: Global,
     program: Result<Program, Stop>,
+    from: &mut F,
     input: &mut I,
 ) -> Result<Result<Items<Finding>, Stop>, NoMemory>
     requires { IfOk program IsSound }
-    ensures value { IfOk result (OutcomeFrom (source I.left I.steady I.faults input.old input.new) (2 ^ 26)
-        program) }
+    ensures value { IfOk result (OutcomeFrom (files F.held F.steady F.faults from.old from.new)
+        (source I.left I.steady I.faults input.old input.new) (2 ^ 26) program) }
     ensures taken { TakesAtMost (I.left input.old) (I.left input.new) (2 ^ 26 + 1) }
+    ensures files_stay { F.held from.new ≡ F.held from.old }
 {
     match program {
         Ok(program) => {
-            let read = read_source(alloc, INPUT_LIMIT, input)?;
+            let read = read_input(alloc, &program.asked.input, from, input)?;
             settled(verdict_read(alloc, &program, read))
         }
         Err(stop) => Ok(Err(stop)),
     }
 }
 
+/// What reading the input gave.
+fn read_input<F: Files, I: Source>(
+    alloc: Global,
+    place: &Input,
+    from: &mut F,
+    input: &mut I,
+) -> Result<Reading, NoMemory>
+    requires { IsNamed place.now }
+    ensures read { IfOk result (InputRead (files F.held F.steady F.faults from.old from.new)
+        (source I.left I.steady I.faults input.old input.new) (2 ^ 26) place.now) }
+    ensures short { IfOk result (IsShort (2 ^ 26)) }
+    ensures taken { TakesAtMost (I.left input.old) (I.left input.new) (2 ^ 26 + 1) }
+    ensures files_stay { F.held from.new ≡ F.held from.old }
+{
+    match place {
+        Input::Standard => read_source(alloc, INPUT_LIMIT, input),
+        Input::Named(name) => read_file(alloc, name.as_slice(), INPUT_LIMIT, from),
+    }
+}
+
+/// What reading the file of a name gave.
+#[tactic(auto, using(crate::proofs::WordsLemmas::no_text))]
+fn read_file<F: Files>(
+    alloc: Global,
+    name: &[u8],
+    limit: u64,
+    from: &mut F,
+) -> Result<Reading, NoMemory>
+    requires text { is_utf8 name.now ≡ true }
+    requires small { limit < 2 ^ 62 }
+    ensures read { IfOk result (FileRead (files F.held F.steady F.faults from.old from.new) limit name.now) }
+    ensures short { IfOk result (IsShort limit) }
+    ensures files_stay { F.held from.new ≡ F.held from.old }
+{
+    match from_utf8(name) {
+        Ok(name) => read_named(alloc, name, limit, from),
+        Err(_) => Ok(Reading::Missing),
+    }
+}
+
 /// Tells the want of memory, as far as the error stream takes it, and answers 4.
-pub fn tell_memory<E: Sink>(err: &mut E) -> u8
+fn tell_memory<E: Sink>(err: &mut E) -> u8
     ensures status { result ≡ 4 }
     ensures told { Told out_of_memory (stream E.held E.faults E.room err.old err.new) }
 {
     tell(b"filecheck: error: out of memory\n", err);
     4
-}
-
-/// Refuses words of which one isn't text. It takes no memory.
-pub fn refuse_words<E: Sink>(err: &mut E) -> u8
-    ensures { Answered (text_of WordNotText) 2 result (stream E.held E.faults E.room err.old err.new) }
-{
-    answer_on(b"filecheck: error: a word isn't text\n", 2, err)
 }

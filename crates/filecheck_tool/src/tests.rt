@@ -1,9 +1,9 @@
 //! FileCheck on objects in memory, with ample memory.
-use crate::{filecheck_run, refuse_words, tell_memory};
+use crate::filecheck_run;
 use std::alloc::{AllocError, Global};
 use std::test::Fail;
 use tt_base::{Bytes, Items, NoMemory};
-use tt_outside::{MemFiles, MemSink, MemSource, Named, take_all};
+use tt_outside::{MemFiles, MemSink, MemSource, Named};
 
 /// The number of a call that is never reached.
 const NEVER: u64 = 1_000_000;
@@ -11,13 +11,20 @@ const NEVER: u64 = 1_000_000;
 /// Room for each message of these tests.
 const AMPLE: usize = 1 << 14;
 
-/// The objects of a run. The check file is named `t.txt`.
+/// The objects of a run. The check file is named `t.txt`; `in.txt` has a line, and `empty.txt` nothing.
 #[derive(Drop)]
 struct Objects {
     files: MemFiles,
     input: MemSource,
     out: MemSink,
     err: MemSink,
+}
+
+fn named(alloc: Global, name: &str, text: &str) -> Result<Named, NoMemory> {
+    Ok(Named {
+        name: Bytes::from_slice(alloc, name.as_bytes())?,
+        bytes: Bytes::from_slice(alloc, text.as_bytes())?,
+    })
 }
 
 impl Objects {
@@ -35,10 +42,9 @@ impl Objects {
         read: u64,
     ) -> Result<Objects, NoMemory> {
         let mut files = Items::new(alloc);
-        files.push(Named {
-            name: Bytes::from_slice(alloc, b"t.txt")?,
-            bytes: Bytes::from_slice(alloc, checks.as_bytes())?,
-        })?;
+        files.push(named(alloc, "t.txt", checks)?)?;
+        files.push(named(alloc, "in.txt", "foo\n")?)?;
+        files.push(named(alloc, "empty.txt", "")?)?;
         Ok(Objects {
             files: MemFiles::new(alloc, files, &[call])?,
             input: MemSource::new(alloc, input.as_bytes(), &[read])?,
@@ -47,10 +53,10 @@ impl Objects {
         })
     }
 
-    /// Runs FileCheck on these words, which stand between commas.
+    /// Runs FileCheck on these words, which stand between bars.
     fn run(&mut self, alloc: Global, line: &str) -> Result<u8, AllocError> {
         let mut words = Vec::new(alloc);
-        for word in line.split(',') {
+        for word in line.split('|') {
             words.push(String::from_str(alloc, word)?)?;
         }
         self.run_words(alloc, words.as_slice())
@@ -68,6 +74,16 @@ impl Objects {
     }
 }
 
+/// What is told of a run on these words, a check file and an input, behind its status. Nothing is written to `out`.
+fn told(alloc: Global, line: &str, checks: &str, input: &str) -> Result<Bytes, Fail> {
+    let mut objects = Objects::new(alloc, checks, input)?;
+    let status = objects.run(alloc, line)?;
+    let mut told = Bytes::from_slice(alloc, &[b'0' + status.min(9), b' '])?;
+    told.append(objects.err.as_slice())?;
+    told.append(objects.out.as_slice())?;
+    Ok(told)
+}
+
 const ROW_MESSAGE: &str = "t.txt:1:8: error: CHECK: expected string not found in input
 CHECK: foo
        ^
@@ -77,59 +93,184 @@ bar
 ";
 
 #[test]
-fn directives_match_one_behind_the_other(rt: HostRuntime) -> Result<(), Fail> {
+fn inputs_that_match_have_status_0(rt: HostRuntime) -> Result<(), Fail> {
     let alloc = rt.alloc();
     let cases = [
-        ("CHECK: foo\n", "foo\n", 0),
-        ("CHECK: a  b\n", "a\t b\n", 0),
-        ("CHECK: a\nCHECK: b\n", "a b\n", 0),
-        ("CHECK: a\nCHECK: b\n", "b a\n", 1),
-        ("CHECK: a\nCHECK: a\n", "a\n", 1),
-        ("CHECK: a\nCHECK-NEXT: b\n", "a\nb", 0),
-        ("CHECK: a\nCHECK-EMPTY:\n", "a\n", 0),
-        ("CHECK: a\nCHECK-EMPTY:\n", "a", 1),
-        ("CHECK-COUNT-3: a\n", "aaaa", 0),
-        ("CHECK{LITERAL}: {{a\n", "x{{a", 0),
+        ("t.txt", "CHECK: foo\n", "foo\n"),
+        ("t.txt", "CHECK: a  b\n", "a\t b\n"),
+        ("t.txt", "CHECK: a\nCHECK: b\n", "a b\n"),
+        ("t.txt", "CHECK: a\nCHECK-NEXT: b\n", "a\nb"),
+        ("t.txt", "CHECK: a\nCHECK-EMPTY:\n", "a\n"),
+        ("t.txt", "CHECK-COUNT-3: a\n", "aaaa"),
+        ("t.txt", "CHECK{LITERAL}: {{a\n", "x{{a"),
+        ("--input-file=-|t.txt", "CHECK: foo", "foo"),
+        ("-input-file|in.txt|t.txt", "CHECK: foo", "bar"),
+        ("--input-file=in.txt|--|t.txt", "CHECK: foo", ""),
+        ("-strict-whitespace|t.txt", "CHECK: a  b", "a  b"),
+        ("--check-prefix=A|t.txt", "A: x\nCHECK: y", "x"),
+        (
+            "--check-prefixes=A,B|-check-prefix|C|t.txt",
+            "A: x\nB: y\nC-SAME: z",
+            "x y z",
+        ),
+        (
+            "t.txt|-allow-unused-prefixes|--check-prefixes=A,B",
+            "A: x",
+            "x",
+        ),
+        (
+            "--comment-prefixes=NB,N-1_b|t.txt",
+            "NB: CHECK: z\nN-1_b: CHECK: z\nRUN: CHECK: x",
+            "x",
+        ),
+        (
+            "--check-prefix=COM|--comment-prefixes=X|t.txt",
+            "COM: x",
+            "x",
+        ),
     ];
-    for (checks, input, status) in cases {
-        let mut objects = Objects::new(alloc, checks, input)?;
+    for (line, checks, input) in cases {
+        let told = told(alloc, line, checks, input)?;
         assert_eq!(rt;
-            objects.run(alloc, "t.txt")?,
-            status,
-            "{checks:?} on {input:?}"
-        );
-        assert_eq!(rt;
-            objects.err.as_slice().is_empty(),
-            status == 0,
-            "{checks:?} on {input:?}"
-        );
-        assert!(rt;
-            objects.out.as_slice().is_empty(),
-            "{checks:?} on {input:?}"
+            told.as_slice(),
+            b"0 ".as_slice(),
+            "{line}: {checks:?} on {input:?}"
         );
     }
     Ok(())
 }
 
 #[test]
-fn what_is_not_found_is_told_with_both_places(rt: HostRuntime) -> Result<(), Fail> {
+fn what_is_found_amiss_is_told_with_its_places(rt: HostRuntime) -> Result<(), Fail> {
     let alloc = rt.alloc();
-    let later = "t.txt:2:9: error: CHECK: expected string not found in input
+    let cases = [
+        ("t.txt", "CHECK: foo\n", "bar\n", ROW_MESSAGE),
+        (
+            "t.txt",
+            "CHECK: a\n\t CHECK:   bc\n",
+            "x\nya z\n",
+            "t.txt:2:9: error: CHECK: expected string not found in input
  CHECK: bc
         ^
 <stdin>:2:3: note: scanning from here
 ya z
   ^
-";
-    let cases = [
-        ("CHECK: foo\n", "bar\n", ROW_MESSAGE),
-        ("CHECK: a\n\t CHECK:   bc\n", "x\nya z\n", later),
+",
+        ),
+        (
+            "t.txt",
+            "CHECK: a\nCHECK-NEXT: b\n",
+            "a\n\nb",
+            "t.txt:2:13: error: CHECK-NEXT: is not on the line after the previous match
+CHECK-NEXT: b
+            ^
+<stdin>:3:1: note: match was here
+b
+^
+<stdin>:1:2: note: previous match ended here
+a
+ ^
+",
+        ),
+        (
+            "t.txt",
+            "CHECK: a\nCHECK-NEXT: b\n",
+            "ab",
+            "t.txt:2:13: error: CHECK-NEXT: is on the same line as previous match
+CHECK-NEXT: b
+            ^
+<stdin>:1:2: note: match was here
+ab
+ ^
+<stdin>:1:2: note: previous match ended here
+ab
+ ^
+",
+        ),
+        (
+            "t.txt",
+            "CHECK: a\nCHECK-SAME: b\n",
+            "a\nb",
+            "t.txt:2:13: error: CHECK-SAME: is not on the same line as previous match
+CHECK-SAME: b
+            ^
+<stdin>:2:1: note: match was here
+b
+^
+<stdin>:1:2: note: previous match ended here
+a
+ ^
+",
+        ),
+        (
+            "t.txt",
+            "CHECK-COUNT-3: a\n",
+            "aa",
+            "t.txt:1:16: error: CHECK-COUNT: expected string not found in input (2 of 3 found)
+CHECK-COUNT-3: a
+               ^
+<stdin>:1:3: note: scanning from here
+aa
+  ^
+",
+        ),
+        (
+            "t.txt",
+            "CHECK: a\nCHECK-EMPTY:\n",
+            "a",
+            "t.txt:2:13: error: CHECK-EMPTY: expected string not found in input
+CHECK-EMPTY:
+            ^
+<stdin>:1:2: note: scanning from here
+a
+ ^
+",
+        ),
+        (
+            "--allow-empty|t.txt",
+            "CHECK: foo",
+            "",
+            "t.txt:1:8: error: CHECK: expected string not found in input
+CHECK: foo
+       ^
+<stdin>:1:1: note: scanning from here
+
+^
+",
+        ),
+        (
+            "--strict-whitespace|t.txt",
+            "CHECK: a  b",
+            "a\t b\n",
+            "t.txt:1:8: error: CHECK: expected string not found in input
+CHECK: a  b
+       ^
+<stdin>:1:1: note: scanning from here
+a\t b
+^
+",
+        ),
+        (
+            "--check-prefix=A|t.txt|--input-file=in.txt",
+            "A: bar",
+            "bar",
+            "t.txt:1:4: error: A: expected string not found in input
+A: bar
+   ^
+in.txt:1:1: note: scanning from here
+foo
+^
+",
+        ),
     ];
-    for (checks, input, message) in cases {
-        let mut objects = Objects::new(alloc, checks, input)?;
-        assert_eq!(rt; objects.run(alloc, "t.txt")?, 1, "{checks:?}");
-        assert_eq!(rt; objects.err.as_slice(), message.as_bytes(), "{checks:?}");
-        assert!(rt; objects.out.as_slice().is_empty(), "{checks:?}");
+    for (line, checks, input, message) in cases {
+        let told = told(alloc, line, checks, input)?;
+        let due = format!(in alloc; "1 {message}")?;
+        assert_eq!(rt;
+            told.as_slice(),
+            due.as_bytes(),
+            "{line}: {checks:?} on {input:?}"
+        );
     }
     Ok(())
 }
@@ -147,67 +288,13 @@ fn each_fault_of_a_line_is_told_with_its_place(rt: HostRuntime) -> Result<(), Fa
         ("CHECK{FOO}: a", "1:1: error: bad modifier\n", "^"),
         ("CHECK:", "1:7: error: empty pattern\n", "      ^"),
         ("CHECK-NEXT: x", "1:1: error: no earlier check\n", "^"),
+        ("; CHECK-NOT: b", "1:3: error: form not built yet\n", "  ^"),
         ("CHECK: {{a", "1:8: error: form not built yet\n", "       ^"),
     ];
-    for (checks, told, mark) in cases {
-        let mut objects = Objects::new(alloc, checks, "a")?;
-        assert_eq!(rt; objects.run(alloc, "t.txt")?, 2, "{checks:?}");
-        let message = format!(in alloc; "t.txt:{told}{checks}\n{mark}\n")?;
-        assert_eq!(rt; objects.err.as_slice(), message.as_bytes(), "{checks:?}");
-    }
-    Ok(())
-}
-
-#[test]
-fn what_a_kind_lacks_is_told(rt: HostRuntime) -> Result<(), Fail> {
-    let alloc = rt.alloc();
-    let next = "t.txt:2:13: error: CHECK-NEXT: is not on the line after the previous match
-CHECK-NEXT: b
-            ^
-<stdin>:3:1: note: match was here
-b
-^
-<stdin>:1:2: note: previous match ended here
-a
- ^
-";
-    let same = "t.txt:2:13: error: CHECK-SAME: is not on the same line as previous match
-CHECK-SAME: b
-            ^
-<stdin>:2:1: note: match was here
-b
-^
-<stdin>:1:2: note: previous match ended here
-a
- ^
-";
-    let counted = "t.txt:1:16: error: CHECK-COUNT: expected string not found in input (2 of 3 found)
-CHECK-COUNT-3: a
-               ^
-<stdin>:1:3: note: scanning from here
-aa
-  ^
-";
-    let beside = "t.txt:2:13: error: CHECK-NEXT: is on the same line as previous match
-CHECK-NEXT: b
-            ^
-<stdin>:1:2: note: match was here
-ab
- ^
-<stdin>:1:2: note: previous match ended here
-ab
- ^
-";
-    let cases = [
-        ("CHECK: a\nCHECK-NEXT: b\n", "a\n\nb", next),
-        ("CHECK: a\nCHECK-NEXT: b\n", "ab", beside),
-        ("CHECK: a\nCHECK-SAME: b\n", "a\nb", same),
-        ("CHECK-COUNT-3: a\n", "aa", counted),
-    ];
-    for (checks, input, message) in cases {
-        let mut objects = Objects::new(alloc, checks, input)?;
-        assert_eq!(rt; objects.run(alloc, "t.txt")?, 1, "{checks:?}");
-        assert_eq!(rt; objects.err.as_slice(), message.as_bytes(), "{checks:?}");
+    for (checks, place, mark) in cases {
+        let told = told(alloc, "t.txt", checks, "a")?;
+        let due = format!(in alloc; "2 t.txt:{place}{checks}\n{mark}\n")?;
+        assert_eq!(rt; told.as_slice(), due.as_bytes(), "{checks:?}");
     }
     Ok(())
 }
@@ -216,92 +303,78 @@ ab
 fn the_first_refusal_is_told_alone(rt: HostRuntime) -> Result<(), Fail> {
     let alloc = rt.alloc();
     let cases = [
-        ("", "CHECK: a\n", "a", "filecheck: error: '' not found\n"),
+        ("", "'' not found"),
+        ("|t.txt", "one check file is needed"),
+        ("t.txt|t.txt", "one check file is needed"),
+        ("--allow-empty", "one check file is needed"),
+        ("t.txt ", "'t.txt ' not found"),
+        ("-", "'-' not found"),
+        ("--|--allow-empty", "'--allow-empty' not found"),
+        ("nofile.txt|--check-prefix=A", "'nofile.txt' not found"),
+        ("--nope|t.txt", "unknown option '--nope'"),
+        ("no.txt|-x|--nope", "unknown option '-x'"),
+        ("-DX=1|t.txt", "unknown option '-DX=1'"),
         (
-            ",t.txt",
-            "CHECK: a\n",
-            "a",
-            "filecheck: error: one check file is needed\n",
+            "--dump-input=never|t.txt",
+            "unknown option '--dump-input=never'",
+        ),
+        ("--check-prefix", "option '--check-prefix' needs a value"),
+        (
+            "-allow-empty=1|t.txt",
+            "option '-allow-empty=1' takes no such value",
         ),
         (
-            "t.txt ",
-            "CHECK: a\n",
-            "a",
-            "filecheck: error: 't.txt ' not found\n",
+            "--input-file=a|t.txt|--input-file=in.txt",
+            "option '--input-file=in.txt' given twice",
+        ),
+        ("--check-prefix=1A|t.txt", "bad prefix '1A'"),
+        ("--check-prefix=A,B|t.txt", "bad prefix 'A,B'"),
+        ("--check-prefixes=A,,B|t.txt", "bad prefix ''"),
+        ("--check-prefix=1A", "one check file is needed"),
+        ("t.txt|--check-prefix=COM", "prefix 'COM' given twice"),
+        (
+            "t.txt|--comment-prefixes=CHECK",
+            "prefix 'CHECK' given twice",
         ),
         (
-            "t.txt,t.txt",
-            "CHECK: a\n",
-            "a",
-            "filecheck: error: one check file is needed\n",
+            "--comment-prefixes=A,B|--check-prefix=A|--check-prefix=1|t.txt",
+            "prefix 'A' given twice",
         ),
         (
-            "--nope,t.txt",
-            "CHECK: a\n",
-            "a",
-            "filecheck: error: unknown option '--nope'\n",
+            "--comment-prefixes=A,1|--check-prefix=A|t.txt",
+            "bad prefix '1'",
         ),
+        ("--check-prefix=A|t.txt", "no checks in 't.txt'"),
+        ("--check-prefixes=CHECK,B|t.txt", "prefix 'B' isn't used"),
         (
-            "no.txt,-x,--nope",
-            "CHECK: a\n",
-            "a",
-            "filecheck: error: unknown option '-x'\n",
+            "-allow-unused-prefixes=false|--check-prefixes|CHECK,B|t.txt",
+            "prefix 'B' isn't used",
         ),
+        ("t.txt", "'<stdin>' is empty"),
+        ("t.txt|--input-file=empty.txt", "'empty.txt' is empty"),
         (
-            "nofile.txt",
-            "CHECK: a\n",
-            "",
-            "filecheck: error: 'nofile.txt' not found\n",
-        ),
-        ("-", "CHECK: a\n", "a", "filecheck: error: '-' not found\n"),
-        (
-            "t.txt",
-            "MYCHECK: a\n",
-            "",
-            "filecheck: error: no checks in 't.txt'\n",
-        ),
-        (
-            "t.txt",
-            "CHECK: a\n; CHECK-NOT: b\n",
-            "",
-            "t.txt:2:3: error: form not built yet\n; CHECK-NOT: b\n  ^\n",
-        ),
-        (
-            "t.txt",
-            "CHECK: a\n",
-            "",
-            "filecheck: error: '<stdin>' is empty\n",
+            "--allow-empty|t.txt|--input-file=no.txt",
+            "'no.txt' not found",
         ),
     ];
-    for (line, checks, input, message) in cases {
-        let mut objects = Objects::new(alloc, checks, input)?;
-        assert_eq!(rt; objects.run(alloc, line)?, 2, "{line:?} with {checks:?}");
-        assert_eq!(rt;
-            objects.err.as_slice(),
-            message.as_bytes(),
-            "{line:?} with {checks:?}"
-        );
-        assert!(rt;
-            objects.out.as_slice().is_empty(),
-            "{line:?} with {checks:?}"
-        );
-        let left = take_all(alloc, &mut objects.input, 10)?;
-        assert_eq!(rt;
-            left.as_slice(),
-            input.as_bytes(),
-            "{line:?} with {checks:?}"
-        );
+    for (line, text) in cases {
+        let told = told(alloc, line, "CHECK: a", "")?;
+        let due = format!(in alloc; "2 filecheck: error: {text}\n")?;
+        assert_eq!(rt; told.as_slice(), due.as_bytes(), "{line:?}");
     }
     Ok(())
 }
 
 #[test]
-fn no_word_is_no_check_file(rt: HostRuntime) -> Result<(), Fail> {
+fn no_word_is_no_check_file_and_no_line_no_check(rt: HostRuntime) -> Result<(), Fail> {
     let alloc = rt.alloc();
     let mut objects = Objects::new(alloc, "CHECK: a\n", "a")?;
     assert_eq!(rt; objects.run_words(alloc, &[])?, 2);
-    let message = b"filecheck: error: one check file is needed\n";
-    assert_eq!(rt; objects.err.as_slice(), message.as_slice());
+    for checks in ["MYCHECK: x", "CHECK-NOTE: x", ""] {
+        let told = told(alloc, "t.txt", checks, "")?;
+        let due = b"2 filecheck: error: no checks in 't.txt'\n";
+        assert_eq!(rt; told.as_slice(), due.as_slice(), "{checks:?}");
+    }
     Ok(())
 }
 
@@ -340,27 +413,32 @@ fn a_message_has_lines_of_any_length(rt: HostRuntime) -> Result<(), Fail> {
 }
 
 #[test]
-fn what_stops_a_run_before_its_words_is_told(rt: HostRuntime) -> Result<(), Fail> {
-    let alloc = rt.alloc();
-    let mut err = MemSink::new(alloc, AMPLE)?;
-    assert_eq!(rt; refuse_words(&mut err), 2);
-    assert_eq!(rt; tell_memory(&mut err), 4);
-    let told = b"filecheck: error: a word isn't text\nfilecheck: error: out of memory\n";
-    assert_eq!(rt; err.as_slice(), told.as_slice());
-    Ok(())
-}
-
-#[test]
 fn a_failed_read_ends_with_three(rt: HostRuntime) -> Result<(), Fail> {
     let alloc = rt.alloc();
     let cases = [
-        (0, NEVER, "filecheck: error: cannot read 't.txt'\n"),
-        (NEVER, 0, "filecheck: error: cannot read '<stdin>'\n"),
-        (NEVER, 1, "filecheck: error: cannot read '<stdin>'\n"),
+        ("t.txt", 0, NEVER, "filecheck: error: cannot read 't.txt'\n"),
+        (
+            "t.txt",
+            NEVER,
+            0,
+            "filecheck: error: cannot read '<stdin>'\n",
+        ),
+        (
+            "t.txt",
+            NEVER,
+            1,
+            "filecheck: error: cannot read '<stdin>'\n",
+        ),
+        (
+            "--input-file=in.txt|t.txt",
+            1,
+            NEVER,
+            "filecheck: error: cannot read 'in.txt'\n",
+        ),
     ];
-    for (call, read, message) in cases {
+    for (line, call, read, message) in cases {
         let mut objects = Objects::failing(alloc, "CHECK: foo\n", "foo\n", call, read)?;
-        assert_eq!(rt; objects.run(alloc, "t.txt")?, 3, "call {call}, read {read}");
+        assert_eq!(rt; objects.run(alloc, line)?, 3, "call {call}, read {read}");
         assert_eq!(rt;
             objects.err.as_slice(),
             message.as_bytes(),

@@ -5,14 +5,14 @@ ghost use Rattle.check_run.specs.Found.{OffsetsLie};
 ghost use Rattle.check_run.specs.Scan.{FaultLies, FaultsLie};
 ghost use Rattle.filecheck_tool.specs.Program.{IsSound};
 ghost use Rattle.filecheck_tool.specs.Refusal.{Gives, accepted};
-ghost use Rattle.filecheck_tool.specs.Verdict.{filled, finding_of, findings_at, findings_of, note_at, notes_of, suffix_of, trouble_of, verdict, verdict_read};
-ghost use Rattle.filecheck_tool.specs.declared.finding.Remark.TheVariants.{MatchWasHere, PreviousEnded};
+ghost use Rattle.filecheck_tool.specs.Verdict.{both_notes, filled, finding_of, findings_at, findings_of, input_name, note_at, notes_of, suffix_of, trouble_of, verdict, verdict_read};
 ghost use Rattle.tt_run.specs.Run.{IsShort};
 
 use crate::finding::{Finding, Note, Remark, Trouble};
 use crate::program::{Program, whole};
 use crate::refusal::{Refusal, StepFail, refuse};
 use crate::spot::{spot_at, spot_of};
+use crate::words::Input;
 use check_lines::{Directive, Kind, canon_owned};
 use check_run::{Fault, FaultKind, check};
 use std::alloc::Global;
@@ -20,7 +20,14 @@ use tt_base::{Bytes, Items, NoMemory, Place};
 use tt_run::Reading;
 
 /// How the input is named.
-const INPUT: &[u8] = b"<stdin>";
+fn input_name(input: &Input) -> &[u8]
+    ensures { result.now ≡ input_name input.now }
+{
+    match input {
+        Input::Standard => b"<stdin>",
+        Input::Named(name) => name.as_slice(),
+    }
+}
 
 /// What is found amiss in what reading the input gave.
 pub fn verdict_read(
@@ -32,19 +39,21 @@ pub fn verdict_read(
     requires short { IsShort (2 ^ 30) read }
     ensures { Gives (λ findings. findings) result (verdict_read program.now read) }
 {
-    let bytes = whole(alloc, INPUT, read)?;
-    let bytes = filled(alloc, INPUT, bytes)?;
-    let input = canon_owned(bytes, false);
+    let asked = &program.asked;
+    let name = input_name(&asked.input);
+    let bytes = whole(alloc, name, read)?;
+    let bytes = filled(alloc, asked.allow_empty, name, bytes)?;
+    let input = canon_owned(bytes, asked.strict);
     Ok(verdict(alloc, program, input.as_slice())?)
 }
 
-/// Bytes, if there is one.
-fn filled(alloc: Global, name: &[u8], bytes: Bytes) -> Result<Bytes, StepFail>
+/// Bytes, of which there may be none or not.
+fn filled(alloc: Global, allow: bool, name: &[u8], bytes: Bytes) -> Result<Bytes, StepFail>
     requires { length bytes ≤ 2 ^ 30 }
-    ensures value { Gives (λ same. same) result (accepted (filled name.now bytes)) }
+    ensures value { Gives (λ same. same) result (accepted (filled allow name.now bytes)) }
     ensures short { IfOk result (λ same. length same ≤ 2 ^ 30) }
 {
-    if bytes.is_empty() {
+    if bytes.is_empty() && !allow {
         return refuse(Refusal::IsEmpty(Bytes::from_slice(alloc, name)?));
     }
     Ok(bytes)
@@ -112,14 +121,14 @@ fn finding_of(
     kind: FaultKind,
 ) -> Result<Finding, NoMemory>
     requires small { length program.now.text ≤ 2 ^ 30 }
-    requires placed { IsPlaced program.now.text (length program.now.prefixes) directive }
+    requires placed { IsPlaced program.now.text (length program.now.asked.prefixes.checks) directive }
     requires short { length input.now ≤ 2 ^ 30 }
     requires lies { OffsetsLie input.now kind }
     ensures { IfOk result (λ finding. finding ≡ finding_of program.now input.now directive kind) }
 {
     let mut name = Bytes::from_slice(
         alloc,
-        program.prefixes.as_slice()[directive.prefix].as_slice(),
+        program.asked.prefixes.checks.as_slice()[directive.prefix].as_slice(),
     )?;
     name.append(suffix_of(directive.kind))?;
     let place = Place {
@@ -131,12 +140,12 @@ fn finding_of(
         trouble: trouble_of(directive.kind, kind),
         check: spot_of(
             alloc,
-            program.name.as_slice(),
+            program.asked.name.as_slice(),
             program.text.as_slice(),
             directive.body.from,
             place,
         )?,
-        notes: notes_of(alloc, input, kind)?,
+        notes: notes_of(alloc, input_name(&program.asked.input), input, kind)?,
     })
 }
 
@@ -178,24 +187,30 @@ fn trouble_of(kind: Kind, fault: FaultKind) -> Trouble
 }
 
 /// The places in the input that are told with a fault.
-fn notes_of(alloc: Global, input: &[u8], kind: FaultKind) -> Result<Items<Note>, NoMemory>
+fn notes_of(
+    alloc: Global,
+    name: &[u8],
+    input: &[u8],
+    kind: FaultKind,
+) -> Result<Items<Note>, NoMemory>
     requires short { length input.now ≤ 2 ^ 30 }
     requires lies { OffsetsLie input.now kind }
-    ensures { IfOk result (λ notes. notes ≡ notes_of input.now kind) }
+    ensures { IfOk result (λ notes. notes ≡ notes_of name.now input.now kind) }
 {
     match kind {
         FaultKind::NotFound { from, .. } => {
             let mut notes = Items::new(alloc);
-            notes.push(note_at(alloc, Remark::ScanningFrom, input, from)?)?;
+            notes.push(note_at(alloc, Remark::ScanningFrom, name, input, from)?)?;
             Ok(notes)
         }
-        FaultKind::WrongLine { found, last, .. } => both_notes(alloc, input, found, last),
-        FaultKind::NotSameLine { found, last } => both_notes(alloc, input, found, last),
+        FaultKind::WrongLine { found, last, .. } => both_notes(alloc, name, input, found, last),
+        FaultKind::NotSameLine { found, last } => both_notes(alloc, name, input, found, last),
     }
 }
 
 fn both_notes(
     alloc: Global,
+    name: &[u8],
     input: &[u8],
     found: usize,
     last: usize,
@@ -203,22 +218,28 @@ fn both_notes(
     requires short { length input.now ≤ 2 ^ 30 }
     requires found { found ≤ length input.now }
     requires last { last ≤ length input.now }
-    ensures { IfOk result (λ notes. notes ≡ note_at MatchWasHere input.now found ∷ note_at PreviousEnded input.now last ∷ []) }
+    ensures { IfOk result (λ notes. notes ≡ both_notes name.now input.now found last) }
 {
     let mut notes = Items::new(alloc);
-    notes.push(note_at(alloc, Remark::MatchWasHere, input, found)?)?;
-    notes.push(note_at(alloc, Remark::PreviousEnded, input, last)?)?;
+    notes.push(note_at(alloc, Remark::MatchWasHere, name, input, found)?)?;
+    notes.push(note_at(alloc, Remark::PreviousEnded, name, input, last)?)?;
     Ok(notes)
 }
 
 /// A place in the input.
-fn note_at(alloc: Global, remark: Remark, input: &[u8], at: usize) -> Result<Note, NoMemory>
+fn note_at(
+    alloc: Global,
+    remark: Remark,
+    name: &[u8],
+    input: &[u8],
+    at: usize,
+) -> Result<Note, NoMemory>
     requires within { at ≤ length input.now }
     requires short { length input.now ≤ 2 ^ 30 }
-    ensures { IfOk result (λ note. note ≡ note_at remark input.now at) }
+    ensures { IfOk result (λ note. note ≡ note_at remark name.now input.now at) }
 {
     Ok(Note {
         remark,
-        spot: spot_at(alloc, INPUT, input, at)?,
+        spot: spot_at(alloc, name, input, at)?,
     })
 }

@@ -1,7 +1,7 @@
 -- The reading of words goes step by step: where a step ends, fails, takes one too many, or leads on, so does the
 -- reading from its word on. A step takes one word or two, and gives one given at most.
 -- The hard one is `behind_step`, what the words behind a step say where its value was the next word, and where not.
-use Rattle.std.proofs.Common.{◌≡◌, ◌∙◌, ℕ, ◌+◌, ◌-◌, ◌<◌, ◌≤◌, Bool, true, false, List, [], ◌∷◌, length, drop, slice_get, Option, Some, None, refl, ap, arith, nat_lt, ltb-true, ltb-false, length-append, length-drop}
+use Rattle.std.proofs.Common.{◌≡◌, ◌∙◌, ℕ, ◌+◌, ◌-◌, ◌<◌, ◌≤◌, Bool, true, false, List, [], ◌∷◌, length, drop, slice_get, Option, Some, None, refl, ap, sym, arith, nat_lt, ltb-true, ltb-false, length-append, length-drop}
 use Rattle.std.proofs.lemmas.List.{drop-drop}
 use Rattle.std.specs.Prelude.{Result, Ok, Err}
 use Rattle.opt_words.specs.Step.{StepsOn, step, step_at, stepped}
@@ -102,3 +102,32 @@ step_leads rows stop only at before words s n took all on =
     let there : at + (s.next - at) ≡ s.next = omega arith in
     step_leads_on rows stop only at before (behind before s.given) (drop at words) s took all onward on.short within
     ∙ ap (givens_from rows stop s.next s.only_plain false (behind before s.given)) (drop-drop (s.next - at) at words ∙ ap (λ n. drop n words) there)
+
+-- what is joined is what is given behind
+joined_is : (rows : List Row) (at : ℕ) (before after : List Given) (given : Given) (twice : Bool) → is_twice rows before given ≡ twice
+    → joined rows at before (Some given) ≡ Ok after → joined rows at before (Some given) ≡ Ok (behind before (Some given))
+joined_is rows at before after given true is all = let no = joins_twice rows at before given is in cc
+joined_is rows at before after given false is all = joins_once rows at before given is
+
+joined_behind : (rows : List Row) (at : ℕ) (before after : List Given) (given : Option Given) → joined rows at before given ≡ Ok after
+    → joined rows at before given ≡ Ok (behind before given)
+joined_behind rows at before after None all = refl
+joined_behind rows at before after (Some given) all = joined_is rows at before after given (is_twice rows before given) refl all
+
+-- where the words have no fault, a step leads on to all that they give
+goes_on : (rows : List Row) (stop only : Bool) (at : ℕ) (before due : List Given) (words : List (List ℕ)) (s : Step) (n : ℕ)
+    (all : Result (List Given) WordFault) → joined rows at before s.given ≡ all
+    → step rows stop at only (drop at words) ≡ Ok (Some s) → StepsOn n at words s
+    → givens_from rows stop at only false before (drop at words) ≡ Ok due
+    → givens_from rows stop s.next s.only_plain false (behind before s.given) (drop s.next words) ≡ Ok due
+goes_on rows stop only at before due words s n (Ok after) is took on whole =
+    sym (step_leads rows stop only at before words s n took (joined_behind rows at before after s.given is) on) ∙ whole
+goes_on rows stop only at before due words s n (Err fault) is took on whole =
+    let no = step_takes_twice rows stop only at before (drop at words) s fault took is in cc
+
+pub step_goes_on : (rows : List Row) (stop only : Bool) (at : ℕ) (before due : List Given) (words : List (List ℕ)) (s : Step) (n : ℕ)
+    → step rows stop at only (drop at words) ≡ Ok (Some s) → StepsOn n at words s
+    → givens_from rows stop at only false before (drop at words) ≡ Ok due
+    → givens_from rows stop s.next s.only_plain false (behind before s.given) (drop s.next words) ≡ Ok due
+step_goes_on rows stop only at before due words s n took on whole =
+    goes_on rows stop only at before due words s n (joined rows at before s.given) refl took on whole

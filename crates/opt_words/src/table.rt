@@ -1,5 +1,5 @@
 //! Tables of options, and the step from one word to the next.
-ghost use Rattle.std.specs.Prelude.{◌≡◌, ◌≤◌, ◌<◌, ◌+◌, ◌^◌, IfErr, IfOk, IfSome, List, ℕ, OnOk, Ok, Err, length, drop, slice_get};
+ghost use Rattle.std.specs.Prelude.{◌≡◌, ◌≤◌, ◌<◌, ◌+◌, ◌^◌, All, IfErr, IfOk, IfSome, List, ℕ, OnOk, Ok, Err, length, drop, slice_get};
 ghost use Rattle.std.specs.List.{position_from};
 ghost use Rattle.opt_words.specs.Fault.{word_of};
 ghost use Rattle.opt_words.specs.Reading.{AllStand, IsTally, Reads, behind, givens, is_once, is_twice, joined};
@@ -12,6 +12,8 @@ use crate::row::{Form, Row};
 use crate::settings::Settings;
 use crate::step::{Given, Step, formed, takes};
 use crate::word::{begins_named, dashes, is_named, is_option, name_in, own_value};
+use std::alloc::Global;
+use tt_base::{Items, NoMemory};
 
 /// The options of a program. Of rows with equal names the first is meant.
 #[derive(Drop, Debug)]
@@ -167,6 +169,31 @@ impl<const N: usize> Table<N> {
         }
     }
 
+    /// All that the words give, in order, where they are read without a fault.
+    pub fn givens(&self, alloc: Global, words: &[String]) -> Result<Items<Given>, NoMemory>
+        ensures all { IfOk result (λ all. (due : List Given)
+            → givens self.now.rows self.now.stop_at_plain (texts words.now) ≡ Ok due → all ≡ due) }
+        ensures stand { IfOk result (All (Stands (texts words.now))) }
+    {
+        let mut all = Items::new(alloc);
+        let mut at = 0;
+        let mut only_plain = false;
+        loop {
+            match self.step(words, at, only_plain) {
+                Err(_) => return Ok(all),
+                Ok(None) => return Ok(all),
+                Ok(Some(step)) => {
+                    match push_given(&mut all, step.given) {
+                        Ok(()) => {}
+                        Err(fail) => return Err(fail),
+                    }
+                    at = step.next;
+                    only_plain = step.only_plain;
+                }
+            }
+        }
+    }
+
     /// Reads all words.
     pub fn read(&self, words: &[String]) -> Result<Settings<N>, WordFault>
         ensures read { Reads N (givens self.now.rows self.now.stop_at_plain (texts words.now)) result }
@@ -189,6 +216,18 @@ impl<const N: usize> Table<N> {
                 }
             }
         }
+    }
+}
+
+/// Adds what a step takes.
+fn push_given(all: &mut Items<Given>, given: Option<Given>) -> Result<(), NoMemory>
+    ensures added { OnOk result (all.new ≡ behind all.old given) }
+    ensures stand { (words : List (List ℕ)) → IfSome given (Stands words) → All (Stands words) all.old
+        → OnOk result (All (Stands words) all.new) }
+{
+    match given {
+        None => Ok(()),
+        Some(given) => all.push(given),
     }
 }
 

@@ -158,6 +158,8 @@ fn all_words_behind_a_plain_one_may_be_plain(rt: HostRuntime) -> Result<(), Fail
         Ok(settings) => {
             assert_eq!(rt; settings.times[0], 1);
             assert_eq!(rt; settings.plain, 4);
+            let all = table.givens(rt.alloc(), words.as_slice())?;
+            assert_eq!(rt; all.len(), 5);
         }
     }
     Ok(())
