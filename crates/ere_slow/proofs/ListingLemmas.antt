@@ -533,5 +533,9 @@ pub at_most_more : (more : ℕ → Captures → List Found) (n k : ℕ) (bs : Li
 at_most_more more n k bs b =
     let one : n - k ≡ suc (n - (k + 1)) = omega arith in ap (λ m. at_most more m bs) one
 
+pub none_further : (more : ℕ → Captures → List Found) (n : ℕ) → at_most more n [] ≡ []
+none_further more zero = refl
+none_further more (suc n) = none_further more n
+
 pub at_most_over : (more : ℕ → Captures → List Found) (n k : ℕ) (bs : List Begun) → n ≤ k → at_most more (n - k) bs ≡ bs
 at_most_over more n k bs b = let none_left : n - k ≡ 0 = omega arith in ap (λ m. at_most more m bs) none_left

@@ -224,6 +224,9 @@ fn rows_of_members(
     }
     let mut all = Vec::new(alloc);
     for _ in 0..more {
+        if rows.is_empty() {
+            return Ok(all);
+        }
         let longer = go_on(alloc, inner, text, rows.as_slice(), false)?;
         all.append(&mut rows)?;
         rows = longer;

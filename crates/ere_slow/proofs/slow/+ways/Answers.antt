@@ -1,11 +1,12 @@
-use Rattle.std.proofs.Common.{◌≡◌, ◌++◌, ◌-◌, ◌+◌, true, map, sym, ap, ◌∙◌, append_assoc, false, subst, IfOk}
+use Rattle.std.proofs.Common.{◌≡◌, List, [], ◌∷◌, ◌++◌, ◌-◌, ◌+◌, true, length, map, refl, sym, ap, ◌∙◌, append_assoc, append-nil, false, subst, IfOk, arith}
+use Rattle.std.proofs.lemmas.Bool.Decides.{nat_tests}
 use Rattle.std.proofs.lemmas.List.{map-append}
 use Rattle.ere_tree.specs.View.{view}
 use Rattle.ere_tree.specs.Tree.{repeat}
 use Rattle.ere_slow.specs.WayView.{captures_of}
 use Rattle.ere_tree.proofs.ViewLemmas.{view_Repeat}
 use Rattle.ere_slow.specs.Listing.{all_ways, required, at_most, go_on, begun_of, found_of}
-use Rattle.ere_slow.proofs.ListingLemmas.{required_more, at_most_more}
+use Rattle.ere_slow.proofs.ListingLemmas.{required_more, at_most_more, none_further}
 use Rattle.ere_slow.proofs.slow.+ways.Goals as goal
 
 pub rows_of_members-loop-preserved : goal.rows_of_members-loop-preserved
@@ -30,6 +31,21 @@ rows_of_members-loop-2-preserved t c =
     ∙ ap (λ rest. map begun_of c.loop-2.all.items ++ rest)
     (sym (at_most_more more c.args.more c.loop-2.counter before c.loop-2-test.true))
     ∙ c.loop-2.invariant
+
+nothing : {A : Type 0} (xs : List A) → length xs ≡ 0 → xs ≡ []
+nothing [] none = refl
+nothing (x ∷ xs) none = absurd (omega (arith, none))
+
+pub rows_of_members-returns-then-is_empty : goal.rows_of_members-returns-then-is_empty
+rows_of_members-returns-then-is_empty t c =
+    let more = all_ways c.args.text.now (view c.args.inner.now) in
+    let left = c.args.more - c.loop-2.counter in
+    let all = map begun_of c.loop-2.all.items in
+    let empty : length c.loop-2.rows.items ≡ 0 =
+    grind (arith, nat_tests, c.is_empty.ensures, c.if-is_empty.true, c.loop-2.rows.ok) in
+    let none : at_most more left (map begun_of c.loop-2.rows.items) ≡ [] =
+    ap (λ rows. at_most more left (map begun_of rows)) (nothing c.loop-2.rows.items empty) ∙ none_further more left in
+    sym (append-nil all) ∙ ap (λ rest. all ++ rest) (sym none) ∙ c.loop-2.invariant
 
 pub ways_of-returns-in-Repeat : goal.ways_of-returns-in-Repeat
 ways_of-returns-in-Repeat t c =
