@@ -1,8 +1,8 @@
 -- Before which place nothing begins: a concatenation begins nowhere where its first part doesn't, nor does a group
 -- whose inside doesn't. A span of a concatenation begins with one of its first part; a group spans what its inside does.
 -- The hard one is `first_begins`, the first part for all of them.
-use Rattle.std.proofs.Common.{◌≡◌, ℕ, ◌+◌, ◌<◌, ◌≤◌, List, [], ◌∷◌, zero, suc, length, map, arith, ap, sym, subst, slice_index_or, ◌∙◌}
-use Rattle.ere_tree.specs.Tree.{Tree, Trees, cat, group, none, then, trees_of}
+use Rattle.std.proofs.Common.{◌≡◌, ℕ, ◌<◌, List, [], ◌∷◌, zero, suc, length, map, arith, sym, subst, slice_index_or}
+use Rattle.ere_tree.specs.Tree.{Tree, Trees, cat, group, then, trees_of}
 use Rattle.ere_tree.specs.Captures.{Captures}
 use Rattle.ere_tree.specs.Derivation.{Way, Ways, leaf, parts, members, chosen, inside, done, next, Spans, Derives, DerivesAll}
 use Rattle.ere_tree.proofs.DerivationLemmas.{is_part}

@@ -1,2 +1,3 @@
 pub mod BeginsLemmas
 pub mod ShownLemmas
+mod HitLemmas

@@ -8,7 +8,7 @@ use Rattle.std.proofs.lemmas.Bool.{cases_lt}
 use Rattle.ere_match.specs.Begins.{NoneBefore}
 use Rattle.ere_match.specs.Shown.{ShownFor, Finds}
 use Rattle.ere_tree.specs.Tree.{Tree}
-use Rattle.ere_auto.specs.Span.{IsFirstLongest, IsSpan}
+use Rattle.ere_auto.specs.Span.{IsSpan}
 use Rattle.ere_auto.specs.Seen.{State, HasFound}
 
 -- the byte at a place, with what stands before and behind it

@@ -2,6 +2,7 @@
 use Rattle.std.specs.Prelude.{◌≡◌, ℕ, ◌+◌, ◌≤◌, Option, Some, None, List, length}
 use Rattle.ere_tree.specs.Tree.{Tree}
 use Rattle.ere_tree.specs.declared.hit.Cap.{Cap}
+use Rattle.ere_tree.specs.declared.hit.Hit.{Hit}
 use Rattle.ere_auto.specs.Span.{IsSpan}
 
 -- Of a slice of so many bytes, so many bytes and ends were shown: all where nothing was found, and else as far as the
@@ -9,6 +10,12 @@ use Rattle.ere_auto.specs.Span.{IsSpan}
 abbrev pub ShownFor : ℕ → Option Cap → ℕ → Type 0
 ShownFor count None shown = shown ≡ count + 1
 ShownFor count (Some cap) shown = (cap.to ≤ shown) × (shown ≤ count + 1)
+
+-- The same of the hit in the slice that begins at an offset of a text: all where there is none, and else at least as far
+-- as its end.
+abbrev pub ShownForHit : ℕ → ℕ → Option Hit → ℕ → Type 0
+ShownForHit count from None shown = shown ≡ count + 1
+ShownForHit count from (Some hit) shown = hit.to ≤ from + shown
 
 -- The span of the tree in the slice, of those that begin at `begin` or behind it, was found while so many bytes and
 -- ends were shown.

@@ -1,7 +1,10 @@
-//! Where an expression without references matches in a slice of a text: the leftmost longest span, by an automaton that
-//! is built once and kept, with plain text telling where a match can begin.
+//! Where an expression matches in a slice of a text, and what its groups hold. Without references: the leftmost longest
+//! span, by an automaton that is built once and kept, with plain text telling where a match can begin; and inside that
+//! span the captures. With references all derivations are listed.
 #![tactic(auto)]
 
+#[cfg(test)]
+mod find_tests;
 mod literal;
 mod search;
 mod span;
@@ -9,5 +12,5 @@ mod span;
 mod tests;
 
 pub use literal::earliest;
-pub use search::Search;
+pub use search::{Search, find};
 pub use span::find_span;

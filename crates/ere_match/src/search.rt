@@ -1,15 +1,18 @@
 //! A search that is built once, and kept for many slices.
-ghost use Rattle.std.specs.Prelude.{◌≡◌, ◌-◌, ◌≤◌, false, drop, length, IfOk};
+ghost use Rattle.std.specs.Prelude.{◌≡◌, ◌+◌, ◌-◌, ◌≤◌, false, drop, length, IfOk};
+ghost use Rattle.ere_tree.specs.Hit.{FindsHit};
 ghost use Rattle.ere_tree.specs.Shape.{has_refs};
 ghost use Rattle.ere_tree.specs.View.{view};
 ghost use Rattle.ere_auto.specs.Seen.{IsFor};
 ghost use Rattle.ere_auto.specs.State.{state_of};
-ghost use Rattle.ere_match.specs.Shown.{Finds};
+ghost use Rattle.ere_match.specs.Shown.{Finds, ShownForHit};
 
 use crate::literal::earliest;
 use crate::span::find_span;
 use ere_auto::{Auto, Steps};
-use ere_tree::{Cap, Ere};
+use ere_captures::captures;
+use ere_slow::slow_hit;
+use ere_tree::{Cap, Ere, Hit};
 use std::alloc::Global;
 use std::sync::ledger::Ledger;
 use tt_base::NoMemory;
@@ -51,4 +54,63 @@ impl Search {
         self.automaton.begin_at(earliest(ere, slice));
         find_span(&mut self.automaton, slice, steps)
     }
+
+    /// The hit of the expression in the slice from `from` to the text's end, with offsets of the text. The expression is
+    /// the one for which the search was built.
+    pub fn find<L: Ledger>(
+        &mut self,
+        alloc: Global,
+        ere: &Ere,
+        text: &[u8],
+        from: usize,
+        steps: &mut Steps<L>,
+    ) -> Result<Option<Hit>, NoMemory>
+        requires no_refs { has_refs (view ere.now) ≡ false }
+        requires built { IsFor (state_of self.old.automaton) (view ere.now) }
+        requires inside { from ≤ length text.now }
+        ensures hit { IfOk result (FindsHit text.now (view ere.now) from) }
+        ensures least { IfOk result (λ found. ShownForHit (length text.now - from) from found (steps.new - steps.old)) }
+        ensures most { steps.new ≤ steps.old + (length text.now - from) + 1 }
+        ensures counted { steps.old ≤ steps.new }
+        ensures built { IsFor (state_of self.new.automaton) (view ere.now) }
+    {
+        let Some(span) = self.span(ere, text, from, steps) else {
+            return Ok(None);
+        };
+        let (_, slice) = text.split_at(from);
+        match captures(alloc, ere, slice, span.from, span.to, from) {
+            Ok(groups) => Ok(Some(Hit {
+                from: from + span.from,
+                to: from + span.to,
+                groups,
+            })),
+            Err(_) => Err(NoMemory),
+        }
+    }
+}
+
+/// The hit of the expression in the slice from `from` to the text's end, with offsets of the text. One with references
+/// is looked for among all its derivations. Whoever looks for one expression in many slices keeps a `Search`.
+pub fn find<L: Ledger>(
+    alloc: Global,
+    ere: &Ere,
+    text: &[u8],
+    from: usize,
+    steps: &mut Steps<L>,
+) -> Result<Option<Hit>, NoMemory>
+    requires inside { from ≤ length text.now }
+    ensures hit { IfOk result (FindsHit text.now (view ere.now) from) }
+    ensures least { has_refs (view ere.now) ≡ false → IfOk result (λ found.
+        ShownForHit (length text.now - from) from found (steps.new - steps.old)) }
+    ensures most { steps.new ≤ steps.old + (length text.now - from) + 1 }
+    ensures counted { steps.old ≤ steps.new }
+{
+    if ere.has_refs() {
+        return match slow_hit(alloc, ere, text, from) {
+            Ok(found) => Ok(found),
+            Err(_) => Err(NoMemory),
+        };
+    }
+    let mut search = Search::new(alloc, ere)?;
+    search.find(alloc, ere, text, from, steps)
 }

@@ -1,4 +1,4 @@
-use Rattle.std.proofs.Common.{◌≡◌, ◌∙◌, ◌∷◌, ◌++◌, ◌+◌, ◌-◌, [], refl, ap, sym, subst, take, drop, length, slice_index, arith}
+use Rattle.std.proofs.Common.{◌∙◌, ◌+◌, ◌-◌, refl, sym, subst, take, drop, arith}
 use Rattle.std.proofs.lemmas.List.{take_more}
 use Rattle.ere_auto.specs.Seen.{HasSeen, HasFound}
 use Rattle.ere_auto.specs.State.{state_of}
