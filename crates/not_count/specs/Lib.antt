@@ -1,4 +1,6 @@
 pub mod Asked
+pub mod Command
 pub mod Count
+pub mod Inverse
 pub mod Lines
 pub mod Parts

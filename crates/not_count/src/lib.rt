@@ -1,12 +1,15 @@
-//! Two small tools for scripts of tests: `count` compares the lines of its input with a number. After the tools of that
-//! name in LLVM's tree; messages and statuses are this project's own.
+//! Two small tools for scripts of tests: `count` compares the lines of its input with a number, `not` turns round whether a
+//! program succeeds. After the tools of these names in LLVM's tree; messages and statuses are this project's own.
 #![tactic(auto)]
 
 mod asked;
+mod command;
 mod count;
+mod inverse;
 mod lines;
 mod parts;
 #[cfg(test)]
 mod tests;
 
 pub use count::count_run;
+pub use inverse::not_run;

@@ -1,4 +1,4 @@
-use Rattle.std.proofs.Common.{sym, subst, ap, ◌∙◌}
+use Rattle.std.proofs.Common.{sym, subst}
 use Rattle.opt_words.specs.Step.{texts}
 use Rattle.tt_run.specs.Run.{Answered, stream}
 use Rattle.not_count.specs.Count.{faulty_word_text, refusal_text}

@@ -1,4 +1,4 @@
-use Rattle.std.proofs.Common.{◌≡◌, ◌≤◌, ◌+◌, ◌++◌, ◌∙◌, ℕ, List, take, length, arith, length-append}
+use Rattle.std.proofs.Common.{◌++◌, ◌∙◌, take, arith, length-append}
 use Rattle.std.proofs.lemmas.List.{length-take}
 use Rattle.std.proofs.KnownBytes.{Consumes-trans}
 use Rattle.not_count.proofs.LinesLemmas.{lines-append, lines_at_most}

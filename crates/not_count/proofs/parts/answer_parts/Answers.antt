@@ -1,4 +1,4 @@
-use Rattle.std.proofs.Common.{refl, arith, [], ◌≡◌, ◌+◌, ◌≤◌, ◌++◌, ◌∙◌, length, drop, get_or, ap, sym, subst, length-append, inl, inr, true, false}
+use Rattle.std.proofs.Common.{refl, arith, [], ◌≡◌, ◌+◌, ◌++◌, ◌∙◌, length, drop, get_or, ap, sym, subst, length-append, inl, inr, true, false}
 use Rattle.std.specs.Io.KnownBytes.{Appends}
 use Rattle.tt_outside.specs.Faults.{Rose}
 use Rattle.std.proofs.lemmas.List.{drop_all, append-nil}
