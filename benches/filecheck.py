@@ -164,6 +164,26 @@ def write_sparse(checks, text, count):
                 out.write(f"  %{k} = add nsw i32 %{k - 1}, {k % 97} ; the check is below\n")
 
 
+def write_prefixed(checks, text, prefix):
+    """A check file of 100,000 lines, each a directive of one prefix behind words that begin like one."""
+    with open(checks, "w") as out, open(text, "w") as lines:
+        for k in range(100000):
+            out.write(f"P PA {prefix}_ ; {prefix}: op {k}\n")
+            lines.write(f"\top\t{k}\n")
+
+
+def prefix_row(ours, at, rounds):
+    """The time of ours with 1,000 prefixes and with one, on check files that differ in that one prefix alone."""
+    many = ["PA" + chr(ord("A") + k // 100 % 10) + str(k) for k in range(1000)]
+    write_prefixed(at("many checks"), at("many lines"), many[-1])
+    words = [f"--check-prefixes={','.join(many[k:k + 100])}" for k in range(0, 1000, 100)]
+    pair = [[ours, *words, "--allow-unused-prefixes", at("many checks")],
+            [ours, f"--check-prefixes={many[-1]}", at("many checks")]]
+    best = best_of(pair, at("many lines"), 0, rounds)
+    print(f"\nA check file of 100,000 directives: {best[0] * 1000:.1f} ms with 1,000 prefixes, {best[1] * 1000:.1f} ms "
+          f"with one, {best[0] / best[1]:.2f} times the time.", flush=True)
+
+
 def other_programs():
     """LLVM's FileCheck, by its name or in the folder of the newest LLVM."""
     named = [shutil.which("FileCheck"), shutil.which("FileCheck-14")]
@@ -280,6 +300,8 @@ def main():
         row("a tiny file, best of 300", commands("checks"), at("tiny"), 0, 300)
         write_shape(at("tiny"), 64, SHAPES["plain lines"])
         row("a tiny file and five options, best of 300", commands("checks", *FIVE), at("tiny"), 0, 300)
+
+        prefix_row(ours, at, given.rounds)
 
         floor = floor_program(folder)
         titles = ["text, nanoseconds a byte", "ours"] + ["LLVM", "ours / LLVM"] * bool(others)
