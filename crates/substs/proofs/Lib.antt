@@ -1,0 +1,2 @@
+pub mod ExpansionLemmas
+pub mod ReplacementLemmas
