@@ -30,12 +30,17 @@ pub fn canon_owned(bytes: Bytes, strict: bool) -> Bytes
     ensures no_longer { length result ≤ length bytes }
 {
     let mut text = bytes.into_vec();
-    let done = canon_front(&mut text, strict);
+    let done = if strict {
+        canon_front(&mut text, true)
+    } else {
+        canon_front(&mut text, false)
+    };
     text.truncate(done);
     Bytes::from_vec(text)
 }
 
-/// Puts the canonical form of a text at its front, and answers how long it is.
+/// Puts the canonical form of a text at its front, and answers how long it is. There are two copies, one for each mode.
+#[inline(always)]
 fn canon_front(text: &mut [u8], strict: bool) -> usize
     ensures { take result text.new ≡ canon strict text.old }
 {

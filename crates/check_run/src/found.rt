@@ -1,11 +1,13 @@
 //! What one directive comes to, from a place of the input on.
 ghost use Rattle.std.specs.Prelude.{◌≡◌, ◌≤◌, ◌<◌, ◌^◌, ℕ, IfOk, IfSome, count_by, length};
+ghost use Rattle.tt_base.specs.Occurrence.{IsFirstIn, first_in};
 ghost use Rattle.tt_base.specs.Place.{is_newline};
 ghost use Rattle.check_run.specs.Found.{AreMatches, IsEmptyLine, LiesBehind, began_at, behind_newline, came, counted, empty_line, looked, matched, newlines, on_next_line, on_same_line};
 
 use crate::fault::FaultKind;
 use check_lines::Kind;
 use memchr::memchr_iter;
+use memchr::memmem::Finder;
 use tt_base::find_in;
 
 /// A match: it begins at offset `from` of the input, and ends before offset `to`.
@@ -156,6 +158,19 @@ fn began_at(done: u32, at: usize, first: usize) -> usize
     if done == 0 { at } else { first }
 }
 
+/// The first occurrence of a text from a place on, by a search for it that is built once for many.
+fn next_in(finder: &Finder, needle: &[u8], text: &[u8], from: usize) -> Option<usize>
+    requires built { finder.now ≡ needle.now }
+    requires within { from ≤ length text.now }
+    ensures first { IsFirstIn text.now needle.now from (length text.now) result }
+    ensures value { result ≡ first_in text.now needle.now from (length text.now) }
+{
+    match finder.find(&text[from..]) {
+        Some(at) => Some(from + at),
+        None => None,
+    }
+}
+
 /// So many matches, each behind the one before.
 fn counted(needle: &[u8], n: u32, text: &[u8], from: usize) -> Result<Matched, FaultKind>
     requires within { from ≤ length text.now }
@@ -164,10 +179,11 @@ fn counted(needle: &[u8], n: u32, text: &[u8], from: usize) -> Result<Matched, F
     ensures value { result ≡ counted needle.now n text.now from }
     ensures lies { LiesBehind text.now from result }
 {
+    let finder = Finder::new(needle);
     let mut first = from;
     let mut place = from;
     for done in 0..n {
-        match find_in(text, needle, place, text.len()) {
+        match next_in(&finder, needle, text, place) {
             Some(at) => {
                 first = began_at(done, at, first);
                 place = at + needle.len();
