@@ -184,10 +184,18 @@ def prefix_row(ours, at, rounds):
           f"with one, {best[0] / best[1]:.2f} times the time.", flush=True)
 
 
-def other_programs():
-    """LLVM's FileCheck, by its name or in the folder of the newest LLVM."""
-    named = [shutil.which("FileCheck"), shutil.which("FileCheck-14")]
-    return [path for path in named + sorted(glob.glob("/usr/lib/llvm-*/bin/FileCheck"), reverse=True) if path]
+def other_programs(name="FileCheck"):
+    """LLVM's program of a name, by its name or in the folder of the newest LLVM."""
+    named = [shutil.which(name), shutil.which(f"{name}-14")]
+    return [path for path in named + sorted(glob.glob(f"/usr/lib/llvm-*/bin/{name}"), reverse=True) if path]
+
+
+def built(name):
+    """The path of a program of ours, built where that is due."""
+    ran = subprocess.run([os.path.join(TOP, "run"), "--build", name], stdout=subprocess.PIPE, text=True)
+    if ran.returncode != 0:
+        sys.exit(ran.returncode)
+    return ran.stdout.strip()
 
 
 def run_once(command, text, status):
@@ -264,12 +272,7 @@ def main():
     wants.add_argument("--rounds", type=int, default=5, help="runs of a case, of which the best counts (5)")
     wants.add_argument("program", nargs="?", help="the program to time")
     given = wants.parse_args()
-    ours = given.program
-    if ours is None:
-        built = subprocess.run([os.path.join(TOP, "run"), "--build", "filecheck"], stdout=subprocess.PIPE, text=True)
-        if built.returncode != 0:
-            sys.exit(built.returncode)
-        ours = built.stdout.strip()
+    ours = given.program or built("filecheck")
     os.environ.pop("FILECHECK_OPTS", None)
     others = other_programs()[:1]
     if others:
@@ -312,4 +315,5 @@ def main():
             shape_row(title, commands("checks"), at("shape"), floor, given.rounds)
 
 
-main()
+if __name__ == "__main__":
+    main()
