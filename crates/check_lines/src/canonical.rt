@@ -31,28 +31,27 @@ pub fn canon_owned(bytes: Bytes, strict: bool) -> Bytes
 {
     let mut text = bytes.into_vec();
     let done = if strict {
-        canon_front(&mut text, true)
+        canon_front::<true>(&mut text)
     } else {
-        canon_front(&mut text, false)
+        canon_front::<false>(&mut text)
     };
     text.truncate(done);
     Bytes::from_vec(text)
 }
 
-/// Puts the canonical form of a text at its front, and answers how long it is. There are two copies, one for each mode.
-#[inline(always)]
-fn canon_front(text: &mut [u8], strict: bool) -> usize
-    ensures { take result text.new ≡ canon strict text.old }
+/// Puts the canonical form of a text at its front, and answers how long it is. It is compiled once for each mode.
+fn canon_front<const STRICT: bool>(text: &mut [u8]) -> usize
+    ensures { take result text.new ≡ canon STRICT text.old }
 {
     let mut done = 0;
     let mut at = 0;
     while text.len() - at > CHUNK {
-        let kept = kept_in(text, strict, at);
-        let chunk = shown_in(text, strict, at);
+        let kept = kept_in(text, STRICT, at);
+        let chunk = shown_in(text, STRICT, at);
         done = put(text, done, &chunk, &kept);
         at += CHUNK;
     }
-    put_rest(text, strict, done, at)
+    put_rest(text, STRICT, done, at)
 }
 
 /// Which bytes of a chunk something stands for, where a byte stands behind the chunk. There is no branch.
