@@ -1,17 +1,15 @@
 -- The canonical form in place.
--- Shown: what is put so far, before the form of what is left, is the form of the whole; chunk by chunk and byte by byte.
+-- Shown: what is put so far, before the form of what is left, is the form of the whole, by chunks and by bytes.
 -- The hard one is `chunk_put`, where a chunk is decided by its flags before one of its bytes moves.
 use Rattle.std.proofs.Common.{◌≡◌, ℕ, zero, suc, ◌+◌, ◌-◌, ◌<◌, ◌≤◌, Bool, true, false, List, [], ◌∷◌, ◌++◌, length, get_or, take, drop, refl, sym, ◌∙◌, ap, arith, map, append_assoc, drop-cons, add-one, length-drop, take_all, cond}
 use Rattle.std.proofs.lemmas.List.{drop_all, drop-drop, drop-set-lt, get_or-drop, take-set}
 use Rattle.std.proofs.lemmas.Grind.{take-set_at}
 use Rattle.std.proofs.Math.ListN.{set}
-use Rattle.std.proofs.Math.Seq.{paste, take-append_seam}
+use Rattle.std.proofs.Math.Seq.{paste}
 use Rattle.std.specs.Prelude.{replicate}
 use Rattle.std.proofs.lemmas.List.Edits.{drop-paste}
 use Rattle.std.proofs.lemmas.Slice.{put_mid-paste}
 use borrow.Rule.Slice.PartMut.{put_mid}
-use Rattle.std.proofs.Math.Bool.{beq}
-use lib.Pointwise.{pointwise}
 use mir.Val.{bool_byte}
 use Rattle.check_lines.specs.Canonical.{canon, is_kept, shown}
 use Rattle.check_lines.specs.Chunk.{flagged, kept_flags}
@@ -39,23 +37,6 @@ canon-drop strict text at within =
     ap (canon strict) (opened text at within)
     ∙ ap (λ n. cond (is_kept strict (get_or text at 0) n) (shown strict (get_or text at 0) ∷ later) later)
     (first_of text (at + 1))
-
-flags-drop : (strict : Bool) (text : List ℕ) (at : ℕ) → at < length text → kept_flags strict (drop at text)
-    ≡ is_kept strict (get_or text at 0) (get_or text (at + 1) 0) ∷ kept_flags strict (drop (at + 1) text)
-unfolding kept_flags
-flags-drop strict text at within =
-    ap (kept_flags strict) (opened text at within)
-    ∙ ap (λ n. is_kept strict (get_or text at 0) n ∷ kept_flags strict (drop (at + 1) text)) (first_of text (at + 1))
-
-flagged-drop : (flags : List Bool) (bytes : List ℕ) (k : ℕ) → k < length flags → k < length bytes
-    → flagged (drop k flags) (drop k bytes)
-    ≡ cond (get_or flags k false) (get_or bytes k 0 ∷ flagged (drop (k + 1) flags) (drop (k + 1) bytes))
-    (flagged (drop (k + 1) flags) (drop (k + 1) bytes))
-unfolding flagged
-flagged-drop flags bytes k within inside =
-    let first = drop-cons flags k false within ∙ ap (λ n. get_or flags k false ∷ drop n flags) (sym (add-one k)) in
-    ap (λ f. flagged f (drop k bytes)) first
-    ∙ ap (flagged (get_or flags k false ∷ drop (k + 1) flags)) (opened bytes k inside)
 
 -- ---- a chunk
 
@@ -109,31 +90,6 @@ put_next text to false byte later whole within so_far =
     ap (λ n. take n (set text to byte) ++ later) count
     ∙ ap (λ l. l ++ later) (take-set text to byte) ∙ so_far
 
--- a list is filled from its front
-pub filled_next : {A : Type 0} (xs : List A) (k : ℕ) (x : A) (rest whole left : List A) → k < length xs
-    → left ≡ x ∷ rest → take k xs ++ left ≡ whole → take (k + 1) (set xs k x) ++ rest ≡ whole
-filled_next xs k x rest whole left within is so_far =
-    ap (λ l. l ++ rest) (take-set_at xs k (k + 1) x refl within) ∙ append_assoc (take k xs) (x ∷ []) rest
-    ∙ ap (λ l. take k xs ++ l) (sym is) ∙ so_far
-
--- a list that is filled is the front of the whole
-pub filled : {A : Type 0} (xs rest whole : List A) (k n : ℕ) → length xs ≡ n → k ≡ n → take k xs ++ rest ≡ whole
-    → xs ≡ take n whole
-filled xs rest whole k n long ends so_far =
-    let all : take k xs ≡ xs = take_all k xs (omega (arith, long, ends)) in
-    sym (take-append_seam xs rest) ∙ ap (λ m. take m (xs ++ rest)) long
-    ∙ ap (take n) (ap (λ l. l ++ rest) (sym all) ∙ so_far)
-
--- a byte of a chunk is put by its flag
-pub flagged_next : (text : List ℕ) (to k : ℕ) (kept : List Bool) (chunk whole : List ℕ) → to < length text
-    → k < length kept → k < length chunk
-    → take to text ++ flagged (drop k kept) (drop k chunk) ≡ whole
-    → take (to + bool_byte (get_or kept k false)) (set text to (get_or chunk k 0))
-    ++ flagged (drop (k + 1) kept) (drop (k + 1) chunk) ≡ whole
-flagged_next text to k kept chunk whole within one two so_far =
-    put_next text to (get_or kept k false) (get_or chunk k 0) _ whole within
-    (ap (λ l. take to text ++ l) (sym (flagged-drop kept chunk k one two)) ∙ so_far)
-
 -- a byte of a text is put where something stands for it
 pub canon_next : (strict : Bool) (text : List ℕ) (to k : ℕ) (kept : Bool) (byte : ℕ) (whole : List ℕ) → k < length text
     → to ≤ k → kept ≡ is_kept strict (get_or text k 0) (get_or text (k + 1) 0) → byte ≡ shown strict (get_or text k 0)
@@ -154,21 +110,6 @@ canon_next strict text to k kept byte whole within below kept_is byte_is so_far 
 pub canon_end : (strict : Bool) (text : List ℕ) (at : ℕ) → length text ≤ at → canon strict (drop at text) ≡ []
 unfolding canon
 canon_end strict text at ends = ap (canon strict) (drop_all at text ends)
-
--- a byte is shown as the next one of the whole
-pub shown_of : (f : ℕ → ℕ) (text : List ℕ) (at k : ℕ) → at + k < length text
-    → map f (drop (at + k) text) ≡ f (get_or text (at + k) 0) ∷ map f (drop (at + (k + 1)) text)
-shown_of f text at k within =
-    let next : at + k + 1 ≡ at + (k + 1) = omega arith in
-    ap (map f) (opened text (at + k) within) ∙ ap (λ n. f (get_or text (at + k) 0) ∷ map f (drop n text)) next
-
-pub flag_of : (strict : Bool) (text : List ℕ) (at k : ℕ) → at + k < length text
-    → kept_flags strict (drop (at + k) text)
-    ≡ is_kept strict (get_or text (at + k) 0) (get_or text (at + k + 1) 0) ∷ kept_flags strict (drop (at + (k + 1)) text)
-flag_of strict text at k within =
-    let next : at + k + 1 ≡ at + (k + 1) = omega arith in
-    flags-drop strict text (at + k) within
-    ∙ ap (λ n. is_kept strict (get_or text (at + k) 0) (get_or text (at + k + 1) 0) ∷ kept_flags strict (drop n text)) next
 
 -- the front of what a function gives
 pub front_of : (f : ℕ → ℕ) (xs : List ℕ) (n : ℕ) → take n (map f xs) ≡ map f (take n xs)
@@ -193,22 +134,7 @@ put_behind text piece done n k from within long count past =
     ap (drop from) (put_mid-paste done k text piece piece n refl (sym count) long)
     ∙ paste_rest text piece done n from (omega arith) (omega arith) past
 
--- behind the flags nothing is left
-pub flagged_end : (flags : List Bool) (bytes : List ℕ) (k : ℕ) → length flags ≤ k → flagged (drop k flags) bytes ≡ []
-unfolding flagged
-flagged_end flags bytes k ends = ap (λ f. flagged f bytes) (drop_all k flags ends)
-
 -- a flag counts at most one
 pub flag_small : (flag : Bool) → bool_byte flag ≤ 1
 flag_small true = omega arith
 flag_small false = omega arith
-
--- flags that a test finds all set
-pub all_set : (flags others : List Bool) → pointwise beq flags others ≡ true → flags ≡ others
-all_set [] [] same = refl
-all_set [] (other ∷ others) same = cc
-all_set (flag ∷ flags) [] same = cc
-all_set (true ∷ flags) (true ∷ others) same = ap (λ l. true ∷ l) (all_set flags others same)
-all_set (false ∷ flags) (false ∷ others) same = ap (λ l. false ∷ l) (all_set flags others same)
-all_set (true ∷ flags) (false ∷ others) same = cc
-all_set (false ∷ flags) (true ∷ others) same = cc

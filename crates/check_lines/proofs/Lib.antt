@@ -1,5 +1,6 @@
 pub mod CanonLemmas
 pub mod ChecksLemmas
+pub mod ChunkLemmas
 pub mod CutLemmas
 pub mod DecisionLemmas
 pub mod LineLemmas

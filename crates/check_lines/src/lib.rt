@@ -4,6 +4,7 @@
 
 mod canonical;
 mod checks;
+mod chunk;
 mod class;
 mod decision;
 mod directive;
