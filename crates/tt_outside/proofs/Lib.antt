@@ -1,3 +1,4 @@
 pub mod CrewLemmas
+pub mod ListingLemmas
 pub mod MemoryLemmas
 pub mod TransferLemmas

@@ -2,6 +2,7 @@ pub mod Faults
 pub mod Fits
 pub mod Gave
 pub mod GivesFile
+pub mod Listing
 pub mod Memory
 pub mod Named
 pub mod Plan
@@ -9,3 +10,5 @@ pub mod PlanOf
 pub mod Planned
 pub mod Seats
 pub mod Transfer
+pub mod TreeMap
+pub mod TreeOf

@@ -1,32 +1,43 @@
-//! What a tool is handed from outside: where bytes come from, where they go, files, and a crew whose hands run the
-//! commands of tests. Each is a trait; beside it stands an object in memory that keeps it and tells all that it holds.
+//! What a tool is handed from outside: where bytes come from, where they go, files, a tree of directories, and a crew
+//! whose hands run the commands of tests. Each is a trait; beside it stands an object in memory that keeps it and tells
+//! all that it holds.
 #![tactic(auto)]
 
 mod crew;
 mod files;
+mod listing;
 mod mem_crew;
 mod mem_files;
 mod mem_sink;
 mod mem_source;
+mod mem_tree;
 mod plan;
 mod planned;
 mod request;
 mod seats;
 mod sink;
 mod source;
+mod test_data;
 #[cfg(test)]
 mod tests;
 mod transfer;
+mod tree;
+#[cfg(test)]
+mod tree_tests;
 
 pub use crew::{Crew, Left, Runner};
 pub use files::{Files, FilesFault};
+pub use listing::are_nested;
 pub use mem_crew::{MemCrew, MemHand};
 pub use mem_files::{MemFiles, Named};
 pub use mem_sink::MemSink;
 pub use mem_source::MemSource;
+pub use mem_tree::MemTree;
 pub use planned::Planned;
 pub use request::{Entry, Finish, Pair, Reply, Request, Stream, fits};
 pub use seats::{Seats, Work};
 pub use sink::Sink;
 pub use source::{Failed, Source};
+pub use test_data::Test;
 pub use transfer::{TakeFault, take_all, write_all};
+pub use tree::{Item, ItemKind, Node, Tree, TreeFault};
