@@ -1,5 +1,6 @@
-//! The trusted edge: the system's streams, files and programs as the sources, sinks, files and crew of `tt_outside`.
-//! What the system does is trusted; each error of it is a fault that is counted, and nothing is told of the bytes.
+//! The trusted edge: the system's streams, files, folders and programs as the sources, sinks, files, tree and crew of
+//! `tt_outside`. What the system does is trusted; each error of it is a fault that is counted, and nothing is told of
+//! the bytes.
 #![tactic(auto)]
 
 mod child;
@@ -8,9 +9,13 @@ mod files;
 mod reader;
 #[cfg(test)]
 mod tests;
+mod tree;
+#[cfg(test)]
+mod tree_tests;
 mod writer;
 
 pub use crew::{StdCrew, StdHand};
 pub use files::StdFiles;
 pub use reader::{ReaderSource, StdSource};
+pub use tree::StdTree;
 pub use writer::{StdErr, StdOut, WriterSink};
