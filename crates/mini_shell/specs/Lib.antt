@@ -1,0 +1,5 @@
+pub mod Class
+pub mod Fault
+pub mod Reading
+pub mod Token
+pub mod Word

@@ -1,0 +1,30 @@
+//! The reading of a line.
+ghost use Rattle.std.specs.Prelude.{◌≡◌};
+ghost use Rattle.mini_shell.specs.Reading.{Reads};
+
+use crate::fault::ShellFail;
+use crate::line::Line;
+use crate::reader::Reader;
+use crate::token::{Next, next_token};
+use std::alloc::Global;
+
+/// The line that a text is, or its first refusal from the left.
+pub fn parse_line(alloc: Global, text: &[u8]) -> Result<Line, ShellFail>
+    ensures reading { Reads text.now result }
+{
+    let mut reader = Reader::new(alloc);
+    let mut at: usize = 0;
+    loop {
+        match next_token(alloc, text, at) {
+            Ok(Next::Found(token, end)) => {
+                match reader.step(alloc, token) {
+                    Ok(next) => reader = next,
+                    Err(fail) => return Err(fail),
+                }
+                at = end;
+            }
+            Ok(Next::Over(end)) => return reader.ended(end),
+            Err(fail) => return Err(fail),
+        }
+    }
+}
