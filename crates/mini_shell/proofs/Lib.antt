@@ -1,2 +1,5 @@
 pub mod ClassLemmas
+pub mod LineLemmas
 pub mod ReadingLemmas
+pub mod SentenceLemmas
+pub mod UniqueLemmas

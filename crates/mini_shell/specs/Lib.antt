@@ -1,5 +1,6 @@
 pub mod Class
 pub mod Fault
+pub mod Grammar
 pub mod Reading
 pub mod Token
 pub mod Word

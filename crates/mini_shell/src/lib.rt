@@ -5,6 +5,7 @@
 
 mod class;
 mod fault;
+mod laws;
 mod line;
 mod parser;
 mod reader;
@@ -14,5 +15,6 @@ mod token;
 mod word;
 
 pub use fault::{ShellFail, ShellFault, ShellKind};
+pub use laws::{law_of_lines, law_of_readings};
 pub use line::{Command, Join, Line, Pipe, Redir, RedirForm};
 pub use parser::parse_line;

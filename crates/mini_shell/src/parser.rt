@@ -1,5 +1,6 @@
 //! The reading of a line.
 ghost use Rattle.std.specs.Prelude.{◌≡◌};
+ghost use Rattle.mini_shell.specs.Grammar.{Parses};
 ghost use Rattle.mini_shell.specs.Reading.{Reads};
 
 use crate::fault::ShellFail;
@@ -8,8 +9,17 @@ use crate::reader::Reader;
 use crate::token::{Next, next_token};
 use std::alloc::Global;
 
-/// The line that a text is, or its first refusal from the left.
+/// The line that a text is, or its first refusal from the left. Of a refused line nothing is kept.
+#[tactic(auto, using(crate::proofs::SentenceLemmas::read_parses))]
 pub fn parse_line(alloc: Global, text: &[u8]) -> Result<Line, ShellFail>
+    ensures line { Parses text.now result }
+    ensures first { Reads text.now result }
+{
+    read_line(alloc, text)
+}
+
+/// Takes words and operators as long as they go together.
+fn read_line(alloc: Global, text: &[u8]) -> Result<Line, ShellFail>
     ensures reading { Reads text.now result }
 {
     let mut reader = Reader::new(alloc);

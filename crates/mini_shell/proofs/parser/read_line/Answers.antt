@@ -1,5 +1,5 @@
 use Rattle.mini_shell.proofs.ReadingLemmas.{one_more, over, refused_here, refused_step}
-use Rattle.mini_shell.proofs.parser.parse_line.Goals as goal
+use Rattle.mini_shell.proofs.parser.read_line.Goals as goal
 
 pub returns-in-Err-step : goal.returns-in-Err-step
 returns-in-Err-step c =

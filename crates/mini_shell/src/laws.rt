@@ -1,0 +1,13 @@
+//! Laws of the definitions. A law is the contract of a function that does nothing.
+ghost use Rattle.mini_shell.specs.Grammar.{LinesAreRead};
+ghost use Rattle.mini_shell.specs.Reading.{ReadingIsOne};
+
+/// A text is read in one way.
+pub fn law_of_readings()
+    ensures { ReadingIsOne }
+{}
+
+/// A text is read as a line where it is that line, and it is at most one.
+pub fn law_of_lines()
+    ensures { LinesAreRead }
+{}
