@@ -1,4 +1,4 @@
-use Rattle.std.proofs.Common.{◌≡◌, ◌∙◌, ℕ, suc, ◌+◌, Bool, List, [], ◌∷◌, cond, true, false, drop, refl, ap, sym, arith}
+use Rattle.std.proofs.Common.{◌≡◌, ◌∙◌, ◌||◌, ℕ, suc, ◌+◌, Bool, List, [], ◌∷◌, cond, true, false, drop, refl, ap, sym, arith}
 use Rattle.std.proofs.lemmas.List.{drop-drop}
 use Rattle.mini_shell.specs.Class.{begins, front, has}
 use Rattle.mini_shell.specs.declared.class.Class.{Class}
@@ -19,3 +19,8 @@ pub begins_front_from : (class : Class) (text : List ℕ) (from : ℕ)
     → begins class (drop (from + front class (drop from text)) text) ≡ false
 begins_front_from class text from =
     ap (begins class) (sym (drop-drop (front class (drop from text)) from text)) ∙ begins_front class (drop from text)
+
+-- of two tests none holds
+pub none_of : (a b : Bool) → (a || b) ≡ false → (a ≡ false) × (b ≡ false)
+none_of true b is = cc
+none_of false b is = (refl, is)

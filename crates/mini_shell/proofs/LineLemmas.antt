@@ -1,11 +1,12 @@
 -- A line of the grammar is taken token by token, and what is taken is read. Each production leads the reader from one
 -- place to the next: behind a command's words, behind a pipe, at the end. The hard one is `takes_piped`, the commands
 -- of a pipe, with what is kept of a `cd` among them.
-use Rattle.std.proofs.Common.{◌≡◌, ◌∙◌, ℕ, Bool, true, false, cond, List, [], ◌∷◌, ◌++◌, inl, inr, ◌||◌, Option, Some, None, Result, Ok, Err, refl, sym, ap, append_assoc, append-nil}
+use Rattle.std.proofs.Common.{◌≡◌, ◌∙◌, ℕ, Bool, true, false, cond, List, [], ◌∷◌, ◌++◌, inl, inr, Option, Some, None, Result, Ok, Err, refl, sym, ap, append_assoc, append-nil}
 use Rattle.std.specs.Bool.{MatchBool}
 use Rattle.std.specs.List.{list_any}
 use Rattle.std.specs.Option.{option_or}
-use Rattle.mini_shell.specs.Grammar.{Arg, plain, moved, words_of, redirs_of, Begins, IsWord, IsArg, AreArgs, AreOnce, AreTokens, IsCommand, ArePiped, AreCommands, is_bang, begins_bang, IsInverted, calls_cd, AreJoined, ArePipes, IsLine}
+use Rattle.mini_shell.proofs.ClassLemmas.{none_of}
+use Rattle.mini_shell.specs.Grammar.{Arg, plain, moved, words_of, redirs_of, IsToken, IsWord, IsArg, AreArgs, AreOnce, AreTokens, IsCommand, ArePiped, AreCommands, is_bang, begins_bang, IsInverted, calls_cd, AreJoined, ArePipes, IsLine}
 use Rattle.mini_shell.specs.Reading.{IsReadFrom, IsReading, bad_cd, ended, is_alone, is_cd, is_stream, is_twice, made, no_command, no_pipe, none_of_it, step, told_at, with_command}
 use Rattle.mini_shell.specs.declared.fault.ShellFault.{ShellFault}
 use Rattle.mini_shell.specs.declared.line.Command.{Command}
@@ -67,8 +68,8 @@ module _ (pipes : List Pipe) (pipe : Pipe) (cd bad : Option ℕ) (end : ℕ) whe
   takes_redir form target words redirs tokens rest once is = by_test (is_stream form) refl is
     where
       by_test : (test : Bool) → is_stream form ≡ test
-          → MatchBool test ((target ≡ []) × Begins (Redirects form) tokens rest)
-          ((behind : List Token) × Begins (Redirects form) tokens behind × IsWord target behind rest)
+          → MatchBool test ((target ≡ []) × IsToken (Redirects form) tokens rest)
+          ((behind : List Token) × IsToken (Redirects form) tokens behind × IsWord target behind rest)
           → told_of (more pipes pipe words redirs cd bad) tokens end
           ≡ told_of (more pipes pipe words (redirs ++ record { form = form; target = target } ∷ []) cd bad) rest end
       by_test true stream (none, (at, shape)) = rw (shape, once, stream, none) refl
@@ -98,10 +99,6 @@ module _ (pipes : List Pipe) (pipe : Pipe) (cd bad : Option ℕ) (end : ℕ) whe
 -- a `cd` that is kept where a command is one
 abbrev pub kept_cd : List ℕ → ℕ → Option ℕ → Option ℕ
 kept_cd name at cd = cond (is_cd name) (option_or cd (Some at)) cd
-
-none_of : (a b : Bool) → (a || b) ≡ false → (a ≡ false) × (b ≡ false)
-none_of true b is = cc
-none_of false b is = (refl, is)
 
 module _ (pipes : List Pipe) (bad : Option ℕ) (end : ℕ) where
   pub takes_command : (pipe : Pipe) (cd : Option ℕ) (command : Command) (tokens rest : List Token)

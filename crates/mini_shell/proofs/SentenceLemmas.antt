@@ -7,7 +7,7 @@ use Rattle.std.specs.List.{list_any}
 use Rattle.std.specs.Option.{option_or}
 use Rattle.mini_shell.proofs.UniqueLemmas.{reading_is_one}
 use Rattle.mini_shell.proofs.LineLemmas.{first, kept_cd, line_read, more, on_step, opened, told_of}
-use Rattle.mini_shell.specs.Grammar.{Arg, plain, moved, words_of, redirs_of, Begins, IsWord, IsArg, AreArgs, AreOnce, AreTokens, ArePiped, IsInverted, calls_cd, IsPipe, AreJoined, ArePipes, IsLine, Parses}
+use Rattle.mini_shell.specs.Grammar.{Arg, plain, moved, words_of, redirs_of, IsToken, IsWord, IsArg, AreArgs, AreOnce, AreTokens, ArePiped, IsInverted, calls_cd, IsPipe, AreJoined, ArePipes, IsLine, Parses}
 use Rattle.mini_shell.specs.Fault.{refused}
 use Rattle.mini_shell.specs.Reading.{IsReadFrom, IsReading, Reads, bad_cd, is_alone, is_cd, is_left_out, is_stream, is_twice, made, no_pipe, none_of_it, refusal, step, told_at, waiting}
 use Rattle.mini_shell.specs.Token.{next_at}
@@ -379,10 +379,10 @@ said_target end at form (token ∷ tokens) tails pipes pipe words redirs cd bad 
         said_redir end form value _ tokens tails.0
         (subst (λ b. MatchBool b
         ((value ≡ [])
-        × Begins (Redirects form)
+        × IsToken (Redirects form)
         (record { at = at; kind = Redirects form } ∷ record { at = at2; kind = Word value bang } ∷ tokens) tokens)
         ((behind : List Token)
-        × Begins (Redirects form)
+        × IsToken (Redirects form)
         (record { at = at; kind = Redirects form } ∷ record { at = at2; kind = Word value bang } ∷ tokens) behind
         × IsWord value behind tokens)) (sym file)
         (record { at = at2; kind = Word value bang } ∷ tokens, (at, refl), (bang, (at2, refl))))
@@ -407,9 +407,9 @@ said_redirects end at form tokens said tails pipes pipe words redirs cd bad line
         let none : List ℕ = [] in
         said_redir end form [] _ tokens said
         (subst (λ b. MatchBool b
-        ((none ≡ []) × Begins (Redirects form) (record { at = at; kind = Redirects form } ∷ tokens) tokens)
+        ((none ≡ []) × IsToken (Redirects form) (record { at = at; kind = Redirects form } ∷ tokens) tokens)
         ((behind : List Token)
-        × Begins (Redirects form) (record { at = at; kind = Redirects form } ∷ tokens) behind
+        × IsToken (Redirects form) (record { at = at; kind = Redirects form } ∷ tokens) behind
         × IsWord none behind tokens)) (sym is) (refl, (at, refl)))
         pipes pipe words redirs cd bad line here told
     by_test false here false is told = said_target end at form tokens tails pipes pipe words redirs cd bad line here is told

@@ -44,19 +44,19 @@ redirs_of (plain value ∷ args) = redirs_of args
 redirs_of (moved form target ∷ args) = record { form = form; target = target } ∷ redirs_of args
 
 -- one token of a kind, and others behind it
-abbrev pub Begins : TokenKind → List Token → List Token → Type 0
-Begins kind tokens rest = (at : ℕ) × (tokens ≡ record { at = at; kind = kind } ∷ rest)
+abbrev pub IsToken : TokenKind → List Token → List Token → Type 0
+IsToken kind tokens rest = (at : ℕ) × (tokens ≡ record { at = at; kind = kind } ∷ rest)
 
 abbrev pub IsWord : List ℕ → List Token → List Token → Type 0
-IsWord value tokens rest = (is_bang : Bool) × Begins (Word value is_bang) tokens rest
+IsWord value tokens rest = (is_bang : Bool) × IsToken (Word value is_bang) tokens rest
 
 -- a word, or a redirection and the word of its file
 abbrev pub IsArg : Arg → List Token → List Token → Type 0
 IsArg (plain value) tokens rest = IsWord value tokens rest
 IsArg (moved form target) tokens rest =
     MatchBool (is_stream form)
-    ((target ≡ []) × Begins (Redirects form) tokens rest)
-    ((behind : List Token) × Begins (Redirects form) tokens behind × IsWord target behind rest)
+    ((target ≡ []) × IsToken (Redirects form) tokens rest)
+    ((behind : List Token) × IsToken (Redirects form) tokens behind × IsWord target behind rest)
 
 abbrev pub AreArgs : List Arg → List Token → List Token → Type 0
 AreArgs [] tokens rest = tokens ≡ rest
@@ -80,7 +80,7 @@ abbrev pub ArePiped : List Command → List Token → List Token → Type 0
 ArePiped [] tokens rest = tokens ≡ rest
 ArePiped (command ∷ commands) tokens rest =
     (middle : List Token) × (behind : List Token)
-    × Begins Pipes tokens middle × IsCommand command middle behind × ArePiped commands behind rest
+    × IsToken Pipes tokens middle × IsCommand command middle behind × ArePiped commands behind rest
 
 -- a command, and others behind a `|`
 abbrev pub AreCommands : List Command → List Token → List Token → Type 0
@@ -116,10 +116,10 @@ IsPipe pipe tokens rest =
 
 -- pipes, each behind what joins it to the one before, and at the end a `;` or nothing
 abbrev pub AreJoined : List Pipe → List Token → Type 0
-AreJoined [] tokens = (tokens ≡ []) ⊎ Begins (Joins Then) tokens []
+AreJoined [] tokens = (tokens ≡ []) ⊎ IsToken (Joins Then) tokens []
 AreJoined (pipe ∷ pipes) tokens =
     (middle : List Token) × (behind : List Token)
-    × Begins (Joins pipe.join) tokens middle × IsPipe pipe middle behind × AreJoined pipes behind
+    × IsToken (Joins pipe.join) tokens middle × IsPipe pipe middle behind × AreJoined pipes behind
 
 -- a pipe, and others that are joined to it
 abbrev pub ArePipes : List Pipe → List Token → Type 0

@@ -1,5 +1,6 @@
 //! Laws of the definitions. A law is the contract of a function that does nothing.
 ghost use Rattle.mini_shell.specs.Grammar.{LinesAreRead};
+ghost use Rattle.mini_shell.specs.Quoting.{WordsAreRead};
 ghost use Rattle.mini_shell.specs.Reading.{ReadingIsOne};
 
 /// A text is read in one way.
@@ -10,4 +11,9 @@ pub fn law_of_readings()
 /// A text is read as a line where it is that line, and it is at most one.
 pub fn law_of_lines()
     ensures { LinesAreRead }
+{}
+
+/// A word is read at the front of a text exactly where one is written there.
+pub fn law_of_words()
+    ensures { WordsAreRead }
 {}
