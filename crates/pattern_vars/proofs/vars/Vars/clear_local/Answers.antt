@@ -1,0 +1,10 @@
+use Rattle.std.proofs.Common.{subst, rules}
+use Rattle.num_base.specs.Names.{by_names}
+use Rattle.pattern_vars.specs.Vars.{IsCleared}
+use Rattle.pattern_vars.proofs.VarsLemmas.{entries_cleared, kept_cleared}
+use Rattle.pattern_vars.proofs.vars.Vars.clear_local.Goals as goal
+
+pub returns : goal.returns
+returns c =
+    subst (λ vars. IsCleared vars (by_names c.retain.new.self.entries)) c.self.view_is
+    (entries_cleared _ _ (kept_cleared _ _ (λ k v b w g told. search rules) _ _ c.retain.ensures.filtered))
