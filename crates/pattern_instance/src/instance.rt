@@ -1,0 +1,223 @@
+//! The instance of a pattern.
+ghost use Rattle.std.specs.Prelude.{◌≡◌, ◌+◌, ◌<◌, ◌≤◌, ◌^◌, ◌++◌, ◌∷◌, [], ℕ, IfOk, OnOk, List, Result, Ok, Err, map};
+ghost use Rattle.std.specs.List.{cons_option, sum_by};
+ghost use Rattle.ere_tree.specs.Tree.{cat, trees_of};
+ghost use Rattle.ere_tree.specs.View.{view};
+ghost use Rattle.pattern_parse.specs.Item.{Item};
+ghost use Rattle.pattern_parse.specs.PieceView.{item_view, items_view};
+ghost use Rattle.pattern_parse.specs.Search.{IsSearchable, greatest_of};
+ghost use Rattle.pattern_instance.specs.Instance.{before, behind, instance_of, made, spaces};
+ghost use Rattle.pattern_instance.specs.Known.{known_of};
+ghost use Rattle.pattern_instance.specs.Parts.{Parts, groups_behind, map_parts, with_part};
+ghost use Rattle.pattern_instance.specs.Views.{Added, in_front, instance_view, part_view, told_view, whole};
+ghost use Rattle.num_base.specs.declared.evaluation.EvalFault.{EvalFault};
+
+use crate::gift::Gift;
+use crate::groups::Groups;
+use crate::missing::missing_names;
+use crate::part::{Made, Part, part_of};
+use ere_tree::{ByteRun, Ere, EreList};
+use num_base::EvalFault;
+use pattern_parse::{Frame, Pattern, Piece};
+use pattern_vars::Vars;
+use std::alloc::Global;
+use tt_base::{Bytes, Items, NoMemory};
+
+/// What a pattern stands for where variables have their values.
+#[derive(Drop)]
+pub enum Instance {
+    /// The names that have no value, each once in order of first use.
+    Undefined(Items<Bytes>),
+    /// The first fault from the left.
+    Faulty(EvalFault),
+    /// The expression that is sought, and what a match gives, in order of the pieces.
+    Made { ere: Ere, gifts: Items<Gift> },
+}
+
+/// Any number of spaces.
+fn spaces(alloc: Global) -> Result<Ere, NoMemory>
+    ensures { IfOk result (λ ere. view ere ≡ spaces) }
+{
+    let Ok(space) = Vec::from_slice(alloc, b" ".as_slice()) else {
+        return Err(NoMemory);
+    };
+    let Ok(inner) = Box::new(alloc, Ere::Plain(ByteRun::from_vec(space))) else {
+        return Err(NoMemory);
+    };
+    Ok(Ere::Repeat {
+        inner,
+        least: 0,
+        most: None,
+    })
+}
+
+/// Adds one expression behind the others.
+fn push(trees: &mut Vec<Ere>, ere: Ere) -> Result<(), NoMemory>
+    ensures { OnOk result (map view trees.new.items ≡ map view trees.old.items ++ view ere ∷ []) }
+{
+    match trees.push(ere) {
+        Ok(()) => Ok(()),
+        Err(_) => Err(NoMemory),
+    }
+}
+
+/// What stands before the pieces.
+fn before(alloc: Global, frame: Frame) -> Result<Vec<Ere>, NoMemory>
+    ensures { IfOk result (λ trees. map view trees.items ≡ before frame) }
+{
+    let mut trees = Vec::new(alloc);
+    match frame {
+        Frame::Open => {}
+        Frame::Tight => push(&mut trees, Ere::LineStart)?,
+        Frame::Spaced => {
+            push(&mut trees, Ere::LineStart)?;
+            push(&mut trees, spaces(alloc)?)?;
+        }
+    }
+    Ok(trees)
+}
+
+/// Adds what stands behind the pieces.
+fn add_behind(alloc: Global, trees: &mut Vec<Ere>, frame: Frame) -> Result<(), NoMemory>
+    ensures { OnOk result (map view trees.new.items ≡ map view trees.old.items ++ behind frame) }
+{
+    match frame {
+        Frame::Open => Ok(()),
+        Frame::Tight => push(trees, Ere::LineEnd),
+        Frame::Spaced => {
+            push(trees, spaces(alloc)?)?;
+            push(trees, Ere::LineEnd)
+        }
+    }
+}
+
+/// Adds what a part gives, if it gives something.
+fn push_gift(gifts: &mut Items<Gift>, gift: Option<Gift>) -> Result<(), NoMemory>
+    ensures { OnOk result (gifts.new ≡ gifts.old ++ cons_option gift []) }
+{
+    match gift {
+        Some(gift) => gifts.push(gift),
+        None => Ok(()),
+    }
+}
+
+/// Adds a part with what it gives.
+fn add_part(made: &mut Made, part: Part) -> Result<(), NoMemory>
+    requires { made.old.count + part.groups < 2 ^ 31 }
+    ensures added { (rest : Result Parts EvalFault) → OnOk result (
+        in_front made.new rest ≡ in_front made.old (map_parts (with_part (part_view part)) rest)) }
+    ensures count { OnOk result (made.new.count ≡ made.old.count + part.groups) }
+    ensures groups { made.new.groups ≡ made.old.groups }
+{
+    let Part { ere, groups, gift } = part;
+    push(&mut made.trees, ere)?;
+    push_gift(&mut made.gifts, gift)?;
+    made.count += groups;
+    Ok(())
+}
+
+/// Names the group of a text that a piece behind so many groups defines.
+fn name_group(groups: &mut Groups, piece: &Piece, count: u32) -> Result<(), NoMemory>
+    requires { count < 2 ^ 31 }
+    ensures { OnOk result (groups.new ≡ groups_behind count groups.old (item_view piece.now)) }
+{
+    match piece {
+        Piece::Define { name, .. } => groups.put(name.as_slice(), count + 1),
+        Piece::Plain(_) => Ok(()),
+        Piece::Regex(_) => Ok(()),
+        Piece::Recall { .. } => Ok(()),
+        Piece::Num { .. } => Ok(()),
+    }
+}
+
+/// Adds the part of a piece, unless it has a fault.
+#[tactic(auto, using(crate::proofs::GroupLemmas::few_groups))]
+fn add_piece(
+    alloc: Global,
+    made: &mut Made,
+    piece: &Piece,
+    vars: &Vars,
+    line: u32,
+    fold: bool,
+) -> Result<Result<(), EvalFault>, NoMemory>
+    requires { made.old.count + (greatest_of (item_view piece.now) + 2) < 2 ^ 31 }
+    ensures added { (items : List Item) → IfOk result
+        (Added (known_of vars.now line fold) made.old made.new (item_view piece.now) items) }
+    ensures count { OnOk result (made.new.count ≤ made.old.count + (greatest_of (item_view piece.now) + 2)) }
+{
+    let count = made.count;
+    let part = match part_of(alloc, piece, count, &made.groups, vars, line, fold)? {
+        Ok(part) => part,
+        Err(fault) => return Ok(Err(fault)),
+    };
+    name_group(&mut made.groups, piece, count)?;
+    add_part(made, part)?;
+    Ok(Ok(()))
+}
+
+/// Adds the parts of all pieces, up to the first fault.
+fn add_pieces(
+    alloc: Global,
+    begun: Made,
+    pieces: &[Piece],
+    vars: &Vars,
+    line: u32,
+    fold: bool,
+) -> Result<Result<Made, EvalFault>, NoMemory>
+    requires { begun.count + sum_by (λ one. greatest_of one + 2) (items_view pieces.now) < 2 ^ 31 }
+    ensures { IfOk result (λ told. told_view told
+        ≡ whole (known_of vars.now line fold) begun (items_view pieces.now)) }
+{
+    let mut made = begun;
+    for piece in pieces {
+        if let Err(fault) = add_piece(alloc, &mut made, piece, vars, line, fold)? {
+            return Ok(Err(fault));
+        }
+    }
+    Ok(Ok(made))
+}
+
+/// The instance of a pattern that a directive of this line has.
+pub fn make_instance(
+    alloc: Global,
+    pattern: &Pattern,
+    vars: &Vars,
+    line: u32,
+) -> Result<Instance, NoMemory>
+    requires { IsSearchable (items_view pattern.now.pieces) }
+    ensures { IfOk result (λ instance. instance_view instance
+        ≡ instance_of (known_of vars.now line pattern.now.fold) pattern.now.frame (items_view pattern.now.pieces)) }
+{
+    let pieces = pattern.pieces.as_slice();
+    let names = missing_names(alloc, pieces, vars)?;
+    if !names.is_empty() {
+        return Ok(Instance::Undefined(names));
+    }
+    let begun = Made {
+        trees: before(alloc, pattern.frame)?,
+        gifts: Items::new(alloc),
+        count: 0,
+        groups: Groups::new(alloc),
+    };
+    match add_pieces(alloc, begun, pieces, vars, line, pattern.fold)? {
+        Ok(made) => finished(alloc, made, pattern.frame),
+        Err(fault) => Ok(Instance::Faulty(fault)),
+    }
+}
+
+/// The instance of parts, once all are made.
+fn finished(alloc: Global, parts: Made, frame: Frame) -> Result<Instance, NoMemory>
+    ensures { IfOk result (λ instance. instance_view instance
+        ≡ made (cat (trees_of (map view parts.trees.items ++ behind frame))) parts.gifts) }
+{
+    let Made {
+        mut trees,
+        gifts,
+        ..
+    } = parts;
+    add_behind(alloc, &mut trees, frame)?;
+    Ok(Instance::Made {
+        ere: Ere::Cat(EreList::from_vec(trees)),
+        gifts,
+    })
+}

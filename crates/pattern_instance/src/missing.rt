@@ -1,0 +1,126 @@
+//! The names that a pattern uses and that have no value.
+ghost use Rattle.std.specs.Prelude.{◌≡◌, ◌++◌, ◌∷◌, ℕ, Bool, IfOk, List, OnOk};
+ghost use Rattle.num_exprs.specs.Block.{Num};
+ghost use Rattle.num_exprs.specs.View.{num_view};
+ghost use Rattle.num_base.specs.Term.{term_of};
+ghost use Rattle.std.specs.Option.{option_map};
+ghost use Rattle.pattern_instance.specs.Known.{known_of};
+ghost use Rattle.pattern_instance.specs.Missing.{Names, each_once, lacking, lacking_in, missing, unknown};
+ghost use Rattle.pattern_instance.specs.Views.{still_told};
+ghost use Rattle.pattern_parse.specs.Item.{Item, recall};
+ghost use Rattle.pattern_parse.specs.PieceView.{item_view, items_view};
+ghost use Rattle.pattern_vars.specs.Vars.{number_of};
+
+use crate::groups::Groups;
+use num_base::Expr;
+use pattern_parse::Piece;
+use pattern_vars::Vars;
+use std::alloc::Global;
+use tt_base::{Bytes, Items, NoMemory};
+
+/// The names that were told so far, also as a set.
+#[derive(Drop)]
+pub(crate) struct Missing {
+    pub(crate) told: Groups,
+    pub(crate) names: Items<Bytes>,
+}
+
+/// Tells a name, unless it was told before.
+fn tell(alloc: Global, missing: &mut Missing, name: &[u8]) -> Result<(), NoMemory>
+    ensures { OnOk result ((rest : List (List ℕ)) →
+        still_told missing.new rest ≡ still_told missing.old (name.now ∷ rest)) }
+{
+    if missing.told.get(name).is_some() {
+        return Ok(());
+    }
+    let owned = Bytes::from_slice(alloc, name)?;
+    missing.names.push(owned)?;
+    missing.told.put(name, 0)
+}
+
+/// Tells the names of an expression that have no number.
+#[cycle(names)]
+fn tell_numbers(
+    alloc: Global,
+    missing: &mut Missing,
+    expr: &Expr,
+    vars: &Vars,
+) -> Result<(), NoMemory>
+    ensures { OnOk result ((rest : List (List ℕ)) →
+        still_told missing.new rest ≡ still_told missing.old (lacking (number_of vars.now) (term_of expr.now) rest)) }
+{
+    match expr {
+        Expr::Literal(_) => Ok(()),
+        Expr::Line => Ok(()),
+        Expr::Name(name) => match vars.number(name.as_slice()) {
+            Some(_) => Ok(()),
+            None => tell(alloc, missing, name.as_slice()),
+        },
+        Expr::Binary { left, right, .. } => {
+            tell_numbers(alloc, missing, left, vars)?;
+            tell_numbers(alloc, missing, right, vars)
+        }
+    }
+}
+
+/// Tells a text that has no value, where these are defined before it.
+fn tell_text(
+    alloc: Global,
+    missing: &mut Missing,
+    defined: &Groups,
+    name: &Bytes,
+    vars: &Vars,
+) -> Result<(), NoMemory>
+    ensures { (at : ℕ) (fold : Bool) (items : List Item) → OnOk result (
+        still_told missing.new (unknown (known_of vars.now at fold) defined.now items)
+        ≡ still_told missing.old (unknown (known_of vars.now at fold) defined.now (recall name.now ∷ items))) }
+{
+    if defined.get(name.as_slice()).is_some() || vars.text(name.as_slice()).is_some() {
+        return Ok(());
+    }
+    tell(alloc, missing, name.as_slice())
+}
+
+/// Tells the names of a piece that have no value, where these texts are defined before it.
+fn tell_piece(
+    alloc: Global,
+    missing: &mut Missing,
+    defined: &mut Groups,
+    piece: &Piece,
+    vars: &Vars,
+) -> Result<(), NoMemory>
+    ensures { (at : ℕ) (fold : Bool) (items : List Item) → OnOk result (
+        still_told missing.new (unknown (known_of vars.now at fold) defined.new items)
+        ≡ still_told missing.old (unknown (known_of vars.now at fold) defined.old (item_view piece.now ∷ items))) }
+{
+    match piece {
+        Piece::Plain(_) => Ok(()),
+        Piece::Regex(_) => Ok(()),
+        Piece::Define { name, .. } => defined.put(name.as_slice(), 0),
+        Piece::Recall { name } => tell_text(alloc, missing, defined, name, vars),
+        Piece::Num { block, .. } => match &block.expr {
+            Some(expr) => tell_numbers(alloc, missing, expr, vars),
+            None => Ok(()),
+        },
+    }
+}
+
+/// The names that pieces use and that have no value, each once in order of first use.
+pub(crate) fn missing_names(
+    alloc: Global,
+    pieces: &[Piece],
+    vars: &Vars,
+) -> Result<Items<Bytes>, NoMemory>
+    ensures { (at : ℕ) (fold : Bool) → IfOk result (λ names.
+        names ≡ missing (known_of vars.now at fold) (items_view pieces.now)) }
+{
+    let mut missing = Missing {
+        told: Groups::new(alloc),
+        names: Items::new(alloc),
+    };
+    let mut defined = Groups::new(alloc);
+    for piece in pieces {
+        tell_piece(alloc, &mut missing, &mut defined, piece, vars)?;
+    }
+    Ok(missing.names)
+}
