@@ -1,5 +1,5 @@
 //! Bytes by what they do where nothing quotes them.
-ghost use Rattle.std.specs.Prelude.{◌≡◌, ◌≤◌, ◌<◌, true, length};
+ghost use Rattle.std.specs.Prelude.{◌≡◌, ◌≤◌, length};
 ghost use Rattle.mini_shell.specs.Class.{begins, ends_word, front, has, is_blank, is_sign};
 
 /// A kind of bytes.

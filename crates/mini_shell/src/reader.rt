@@ -1,5 +1,5 @@
 //! From words and operators to a line.
-ghost use Rattle.std.specs.Prelude.{◌≡◌, IfOk, Some, None, true};
+ghost use Rattle.std.specs.Prelude.{◌≡◌, IfOk};
 ghost use Rattle.mini_shell.specs.Fault.{Says};
 ghost use Rattle.mini_shell.specs.Reading.{at_first, at_more, at_start, at_target, bad_cd, begun, closed, ended, is_alone, is_cd, is_left_out, is_stream, is_then, is_twice, joined, made, meet, moves_errors, moves_input, moves_output, no_command, no_pipe, none_of_it, piped, redirected, redirects, step, with_command, worded};
 

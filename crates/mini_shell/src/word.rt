@@ -1,10 +1,9 @@
 //! Words, and what their quotes hide.
-ghost use Rattle.std.specs.Prelude.{◌≡◌, ◌≤◌, ◌<◌, false, IfOk, length, drop};
+ghost use Rattle.std.specs.Prelude.{◌≡◌, ◌≤◌, ◌<◌, true, IfOk, length, drop};
 ghost use Rattle.mini_shell.specs.Class.{begins};
 ghost use Rattle.mini_shell.specs.Fault.{Says};
 ghost use Rattle.mini_shell.specs.Word.{ended, none_of_it, taken, turn_of, word_at};
 ghost use Rattle.mini_shell.specs.declared.class.Class.TheVariants.{Inner};
-ghost use Rattle.std.specs.Prelude.{true, Ok};
 
 use crate::class::{Class, ends_word, has};
 use crate::fault::{ShellFail, ShellKind, refuse};
