@@ -1,5 +1,6 @@
--- A word that is written is read, and one that is read is written: by induction over its parts, and over the text with
--- what quotes the next byte. The hard one is `written_from`, which goes through all five ways of quoting.
+-- Words, as they are written and as they are read.
+-- Shown: a word that is written is read, and one that is read is written; by induction over its parts, and over the text
+-- with what quotes the next byte. The hard one is `written_from`, which goes through all five ways of quoting.
 use Rattle.std.proofs.Common.{◌≡◌, ◌∙◌, ℕ, ◌+◌, ◌==◌, ◌||◌, ◌&&◌, not, Bool, true, false, cond, List, [], ◌∷◌, ◌++◌, length, Result, Ok, refl, sym, ap, subst, arith, append_assoc, append-nil, eqb-true}
 use Rattle.std.specs.List.{list_any}
 use Rattle.mini_shell.proofs.ClassLemmas.{none_of}

@@ -1,4 +1,6 @@
--- Numbers of groups: a group's number is at most the greatest number, and what a format spells has at most one group.
+-- Numbers of groups.
+-- Shown: a part has at most two groups more than its expression's greatest number; by cases on the piece.
+-- The hard one is `wild_has_one`: what a format spells has at most one group.
 use Rattle.std.proofs.Common.{◌≡◌, ℕ, ℤ, zero, suc, ◌+◌, ◌≤◌, Bool, true, false, cond, Option, Some, None, List, [], ◌∷◌, ◌++◌, Result, Ok, Err, refl, ap, arith}
 use Rattle.ere_tree.specs.Grammar.{branch_of}
 use Rattle.ere_tree.specs.Shape.{greatest_group, greatest_group_of, greatest_number, greatest_number_of}
