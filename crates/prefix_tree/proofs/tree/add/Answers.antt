@@ -1,3 +1,6 @@
+-- A prefix is added to the tree.
+-- Shown: each prefix leads where it led, and the new one to its end; the loop has gone down as far as it was read.
+-- The hard one is `loop-length-preserved`, where a byte leads on by a turn that was there or is made.
 use Rattle.std.proofs.Common.{◌≡◌, ℕ, ◌+◌, ◌∷◌, ◌++◌, [], Some, get_or, length, take, take_all, refl, sym, subst, ◌∙◌, ap, inl, inr, ⊎_elim, arith}
 use Rattle.std.proofs.lemmas.List.{get_or_default, length-take-le, take_more}
 use Rattle.prefix_tree.specs.Tree.{Leads}
