@@ -1,3 +1,4 @@
 pub mod CountLemmas
 pub mod EmptyLemmas
+pub mod NearLemmas
 pub mod ScanLemmas

@@ -1,13 +1,14 @@
 //! What one directive comes to, from a place of the input on.
-ghost use Rattle.std.specs.Prelude.{◌≡◌, ◌≤◌, ◌<◌, ◌^◌, ℕ, IfOk, IfSome, count_by, length};
+ghost use Rattle.std.specs.Prelude.{◌≡◌, ◌≤◌, ◌<◌, ◌^◌, ℕ, IfOk, IfSome, Some, count_by, length};
+ghost use Rattle.memchr.specs.Find.{FindsNeedle};
 ghost use Rattle.tt_base.specs.Occurrence.{IsFirstIn, first_in};
 ghost use Rattle.tt_base.specs.Place.{is_newline};
 ghost use Rattle.check_run.specs.Found.{AreMatches, IsEmptyLine, LiesBehind, began_at, behind_newline, came, counted, empty_line, looked, matched, newlines, on_next_line, on_same_line};
 
 use crate::fault::FaultKind;
 use check_lines::Kind;
-use memchr::memchr_iter;
 use memchr::memmem::Finder;
+use memchr::{memchr, memchr_iter};
 use tt_base::find_in;
 
 /// A match: it begins at offset `from` of the input, and ends before offset `to`.
@@ -165,8 +166,38 @@ fn next_in(finder: &Finder, needle: &[u8], text: &[u8], from: usize) -> Option<u
     ensures first { IsFirstIn text.now needle.now from (length text.now) result }
     ensures value { result ≡ first_in text.now needle.now from (length text.now) }
 {
-    match finder.find(&text[from..]) {
+    match first_of(finder, needle, &text[from..]) {
         Some(at) => Some(from + at),
+        None => None,
+    }
+}
+
+/// The first occurrence of a text, which in a COUNT is mostly near.
+fn first_of(finder: &Finder, needle: &[u8], text: &[u8]) -> Option<usize>
+    requires built { finder.now ≡ needle.now }
+    ensures { FindsNeedle text.now needle.now 0 result }
+{
+    match near(needle, text) {
+        Some(at) => Some(at),
+        None => finder.find(text),
+    }
+}
+
+/// The first occurrence, if it is at the first place that has its first byte.
+fn near(needle: &[u8], text: &[u8]) -> Option<usize>
+    ensures { IfSome result (λ at. FindsNeedle text.now needle.now 0 (Some at)) }
+{
+    if needle.is_empty() {
+        return None;
+    }
+    match memchr(needle[0], text) {
+        Some(at) => {
+            if text[at..].starts_with(needle) {
+                Some(at)
+            } else {
+                None
+            }
+        }
         None => None,
     }
 }

@@ -1,6 +1,5 @@
--- What formats have at a name.
--- Shown: it is what the map has that the code's entries make, with places that nobody sees; by what num_base says of
--- entries under names. The hard one is `place_under`: a new place changes no look-up.
+-- What formats have at a name: the map that the code's entries make, with places that nobody sees. Shown at each name, by
+-- what num_base says of entries under names. The hard one is `place_under`: a new place changes no look-up.
 use Rattle.std.proofs.lemmas.List.{drop_all}
 use Rattle.std.proofs.Common.{◌≡◌, ℕ, ◌+◌, ◌<◌, ◌≤◌, add-one, drop, drop-cons, get_or, length, Bool, true, false, true≢false, cond, is_some, Option, Some, None, List, [], ◌∷◌, refl, sym, ap, ◌∙◌, subst}
 use Rattle.std.specs.Prelude.{Vec}
