@@ -1,0 +1,7 @@
+use Rattle.std.proofs.Common.{drop}
+use Rattle.ere_tree.specs.View.{view}
+use Rattle.bool_exprs.specs.Expr.{MatchesWhole, OneOf}
+use Rattle.bool_exprs.proofs.holding.matches_one.Given as goal
+
+abbrev pub invariant-loop-feature : goal.invariant-loop-feature
+invariant-loop-feature l = OneOf (MatchesWhole (view l.ere)) l.features → OneOf (MatchesWhole (view l.ere)) (drop l.feature-index l.features)

@@ -1,0 +1,5 @@
+pub mod Expr
+pub mod Piece
+pub mod Token
+pub mod Place
+pub mod View
