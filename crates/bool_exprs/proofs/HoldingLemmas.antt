@@ -1,5 +1,5 @@
 -- One of a list of features, and the whole of a word.
-use Rattle.std.proofs.Common.{◌≡◌, ◌↔◌, ◌⊎◌, ℕ, ◌+◌, ◌<◌, ◌≤◌, suc, zero, List, [], ◌∷◌, length, drop, get_or, inl, inr, sym, ap, ◌∙◌, subst, arith, add-one, drop-cons, refl}
+use Rattle.std.proofs.Common.{◌≡◌, ◌↔◌, ℕ, ◌+◌, ◌<◌, ◌≤◌, suc, zero, List, [], ◌∷◌, length, drop, get_or, inl, inr, sym, ap, ◌∙◌, subst, arith, add-one, drop-cons, refl}
 use Rattle.std.specs.List.{Contains}
 use Rattle.ere_tree.specs.Tree.{Tree}
 use Rattle.ere_tree.specs.Derivation.{Spans}

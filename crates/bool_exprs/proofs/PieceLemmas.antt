@@ -1,7 +1,7 @@
 -- What was read of a name, and what the rest of the text adds to it, is what the whole text says.
 use Rattle.std.proofs.Common.{◌≡◌, ℕ, ◌+◌, ◌-◌, ◌<◌, ◌≤◌, suc, zero, List, [], ◌∷◌, ◌++◌, length, drop, Option, Some, None, refl, sym, ap, ◌∙◌, arith, append_assoc, append-nil}
 use Rattle.std.specs.Option.{option_map}
-use Rattle.bool_exprs.specs.Piece.{Piece, Front, none, refused, piece, front, pieces_from, behind_piece, and_pieces}
+use Rattle.bool_exprs.specs.Piece.{Piece, none, refused, piece, front, pieces_from, behind_piece}
 
 -- what was found of a name behind pieces of so many bytes
 abbrev pub before : List Piece → ℕ → Option (List Piece × ℕ) → Option (List Piece × ℕ)

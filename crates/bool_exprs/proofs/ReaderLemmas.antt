@@ -1,10 +1,9 @@
 -- What was read of a list, and what the rest of the text adds to it, is what the whole text says.
-use Rattle.std.proofs.Common.{◌≡◌, ℕ, ◌-◌, ◌<◌, ◌≤◌, suc, zero, Bool, true, false, true≢false, List, [], ◌∷◌, length, drop, Option, Some, None, refl, sym, ap, ◌∙◌, arith}
+use Rattle.std.proofs.Common.{◌≡◌, ℕ, ◌-◌, ◌<◌, ◌≤◌, suc, zero, Bool, true, false, true≢false, List, [], ◌∷◌, length, drop, Some, None, refl, sym, ap, ◌∙◌, arith}
 use Rattle.std.specs.Option.{option_and_then}
 use Rattle.ere_tree.specs.Class.{is_blank}
 use Rattle.ere_tree.specs.Front.{begins_with}
-use Rattle.bool_exprs.specs.Expr.{Expr}
-use Rattle.bool_exprs.specs.Token.{Token, Tokens, ends, stops, next, token, tokens_from}
+use Rattle.bool_exprs.specs.Token.{Token, ends, stops, next, token, tokens_from}
 use Rattle.bool_exprs.specs.Place.{State, after, finished, list_from, reading_from}
 
 skipped : (xfail : Bool) (skip : ℕ) (text : List ℕ) → skip ≤ length text

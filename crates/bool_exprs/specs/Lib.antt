@@ -3,3 +3,4 @@ pub mod Piece
 pub mod Token
 pub mod Place
 pub mod View
+pub mod Productions

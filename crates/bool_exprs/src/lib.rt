@@ -5,6 +5,7 @@
 mod expr;
 mod front;
 mod holding;
+mod laws;
 mod name;
 mod piece;
 mod place;
@@ -15,4 +16,5 @@ mod token;
 
 pub use expr::BoolExpr;
 pub use holding::{has_refs, holds};
+pub use laws::law_of_lists;
 pub use reader::{MAX_WEIGHT, read_list};

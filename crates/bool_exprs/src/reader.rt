@@ -1,6 +1,7 @@
 //! Reading a list of expressions.
-ghost use Rattle.std.specs.Prelude.{◌≡◌, ◌<◌, ◌≤◌, [], IfOk, IfSome, length};
+ghost use Rattle.std.specs.Prelude.{◌≡◌, All, false, ◌<◌, ◌≤◌, [], IfOk, IfSome, length};
 ghost use Rattle.std.specs.Option.{option_map};
+ghost use Rattle.bool_exprs.specs.Expr.{expr_of, refers};
 ghost use Rattle.bool_exprs.specs.Place.{IsTurn, after, beginning, exprs_in};
 ghost use Rattle.bool_exprs.specs.View.{exprs_of, reader_view, token_view, turn_view};
 
@@ -84,13 +85,8 @@ impl Reader {
     }
 }
 
-/// Reads expressions that commas part, unless an item is none. In an XFAIL list an item may be a `*`, which always
-/// holds.
-pub fn read_list(
-    alloc: Global,
-    xfail: bool,
-    text: &[u8],
-) -> Result<Option<Items<BoolExpr>>, NoMemory>
+/// The expressions of a list, unless an item is none.
+fn read_items(alloc: Global, xfail: bool, text: &[u8]) -> Result<Option<Items<BoolExpr>>, NoMemory>
     ensures exact { IfOk result (λ found. option_map exprs_of found ≡ exprs_in xfail text.now) }
 {
     let mut reader = Reader::beginning(alloc, Items::new(alloc));
@@ -105,4 +101,20 @@ pub fn read_list(
         }
     }
     finished(alloc, reader.list, reader.place)
+}
+
+/// Reads expressions that commas part, unless an item is none. In an XFAIL list an item may be a `*`, which always
+/// holds. None of them has references.
+pub fn read_list(
+    alloc: Global,
+    xfail: bool,
+    text: &[u8],
+) -> Result<Option<Items<BoolExpr>>, NoMemory>
+    ensures exact { IfOk result (λ found. option_map exprs_of found ≡ exprs_in xfail text.now) }
+    ensures no_refs { IfOk result (λ found. IfSome found (All (λ e. refers (expr_of e) ≡ false))) }
+{
+    match read_items(alloc, xfail, text) {
+        Ok(found) => Ok(found),
+        Err(NoMemory) => Err(NoMemory),
+    }
 }

@@ -1,4 +1,4 @@
-use Rattle.std.proofs.Common.{◌≡◌, ◌↔◌, ℕ, List, IsTrue, true, false, sym, refl, subst, true≢false}
+use Rattle.std.proofs.Common.{◌↔◌, IsTrue, true, false, sym, refl, subst, true≢false}
 use Rattle.ere_tree.specs.Tree.{Tree}
 use Rattle.ere_tree.specs.View.{view}
 use Rattle.bool_exprs.specs.Expr.{MatchesWhole}

@@ -1,4 +1,4 @@
-use Rattle.std.proofs.Common.{◌≡◌, ◌↔◌, ℕ, List, IsTrue, length, subst}
+use Rattle.std.proofs.Common.{◌↔◌, ℕ, List, IsTrue, length, subst}
 use Rattle.std.specs.List.{Contains}
 use Rattle.ere_tree.specs.View.{view}
 use Rattle.bool_exprs.specs.Expr.{MatchesWhole}

@@ -1,6 +1,6 @@
-use Rattle.std.proofs.Common.{◌≡◌, ℕ, ◌<◌, ◌≤◌, length, sym, ap, ◌∙◌, arith}
+use Rattle.std.proofs.Common.{◌≡◌, ℕ, ◌<◌, ◌≤◌, length, sym, ap, ◌∙◌}
 use Rattle.std.specs.Option.{option_map}
-use Rattle.bool_exprs.specs.Place.{State, after}
+use Rattle.bool_exprs.specs.Place.{after}
 use Rattle.bool_exprs.specs.Token.{Token}
 use Rattle.bool_exprs.specs.View.{found_view, reader_view, token_view}
 use Rattle.bool_exprs.proofs.ReaderLemmas.{list_blank, list_next, list_stop, list_denied}

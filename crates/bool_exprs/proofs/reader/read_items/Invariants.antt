@@ -1,7 +1,7 @@
 use Rattle.std.proofs.Common.{length, ◌-◌, ◌≡◌, ◌≤◌, drop}
 use Rattle.bool_exprs.specs.Place.{exprs_in, list_from}
 use Rattle.bool_exprs.specs.View.{reader_view}
-use Rattle.bool_exprs.proofs.reader.read_list.Given as goal
+use Rattle.bool_exprs.proofs.reader.read_items.Given as goal
 
 abbrev pub invariant-loop-done : goal.invariant-loop-done
 invariant-loop-done l = record {
