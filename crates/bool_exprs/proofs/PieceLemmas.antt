@@ -1,4 +1,6 @@
 -- What was read of a name, and what the rest of the text adds to it, is what the whole text says.
+-- One piece at a time: each piece that a front has is the whole's next one, and counts of bytes add up.
+-- The hard one is `joined_in`: a further piece at the end of those read is the first one of the rest.
 use Rattle.std.proofs.Common.{◌≡◌, ℕ, ◌+◌, ◌-◌, ◌<◌, ◌≤◌, suc, zero, List, [], ◌∷◌, ◌++◌, length, drop, Option, Some, None, refl, sym, ap, ◌∙◌, arith, append_assoc, append-nil}
 use Rattle.std.specs.Option.{option_map}
 use Rattle.bool_exprs.specs.Piece.{Piece, none, refused, piece, front, pieces_from, behind_piece}

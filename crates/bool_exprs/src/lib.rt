@@ -10,8 +10,6 @@ mod name;
 mod piece;
 mod place;
 mod reader;
-#[cfg(test)]
-mod tests;
 mod token;
 
 pub use expr::BoolExpr;

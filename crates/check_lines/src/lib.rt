@@ -11,8 +11,6 @@ mod directive;
 mod fault;
 mod line;
 mod suffix;
-#[cfg(test)]
-mod tests;
 
 pub use canonical::{canon, canon_owned};
 pub use checks::read_checks;

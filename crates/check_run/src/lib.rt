@@ -6,8 +6,6 @@ mod fault;
 mod found;
 mod program;
 mod scan;
-#[cfg(test)]
-mod tests;
 
 pub use fault::{Fault, FaultKind, Verdict};
 pub use program::{Check, Program, compile};

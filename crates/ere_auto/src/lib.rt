@@ -12,8 +12,6 @@ mod slot;
 mod step;
 mod steps;
 mod taking;
-#[cfg(test)]
-mod tests;
 mod thread;
 mod threads;
 

@@ -5,8 +5,7 @@
 mod members;
 mod parts;
 mod rest;
-#[cfg(test)]
-mod tests;
 mod walk;
 
+pub use rest::spans;
 pub use walk::captures;

@@ -62,7 +62,7 @@ pub(crate) fn greatest_end(
 }
 
 /// Whether the expression spans the part.
-pub(crate) fn spans(
+pub fn spans(
     alloc: Global,
     ere: &Ere,
     text: &[u8],

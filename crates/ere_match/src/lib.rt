@@ -3,13 +3,9 @@
 //! span the captures. With references all derivations are listed.
 #![tactic(auto)]
 
-#[cfg(test)]
-mod find_tests;
 mod literal;
 mod search;
 mod span;
-#[cfg(test)]
-mod tests;
 
 pub use literal::earliest;
 pub use search::{Search, find};

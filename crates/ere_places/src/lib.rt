@@ -6,8 +6,6 @@ mod leaf;
 mod list;
 mod reach;
 mod seen;
-#[cfg(test)]
-mod tests;
 mod window;
 
 pub use reach::{image, image_of_repeat};

@@ -4,8 +4,6 @@
 
 mod settings;
 mod slow;
-#[cfg(test)]
-mod slow_tests;
 mod way;
 
 pub use settings::{Setting, Settings};

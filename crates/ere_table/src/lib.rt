@@ -5,8 +5,6 @@
 mod node;
 mod put;
 mod table;
-#[cfg(test)]
-mod tests;
 
 pub use node::Node;
 pub use table::Table;

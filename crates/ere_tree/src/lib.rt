@@ -16,11 +16,7 @@ mod hit;
 mod laws;
 mod level;
 mod parser;
-#[cfg(test)]
-mod parser_tests;
 mod shape;
-#[cfg(test)]
-mod tests;
 mod token;
 
 pub use bound::MAX_BOUND;

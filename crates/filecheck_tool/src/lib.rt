@@ -10,8 +10,6 @@ mod program;
 mod refusal;
 mod run;
 mod spot;
-#[cfg(test)]
-mod tests;
 mod verdict;
 mod words;
 

@@ -9,8 +9,6 @@ mod laws;
 mod line;
 mod parser;
 mod reader;
-#[cfg(test)]
-mod tests;
 mod token;
 mod word;
 

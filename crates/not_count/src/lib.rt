@@ -8,8 +8,6 @@ mod count;
 mod inverse;
 mod lines;
 mod parts;
-#[cfg(test)]
-mod tests;
 
 pub use count::count_run;
 pub use inverse::not_run;

@@ -8,8 +8,6 @@ mod expr;
 mod format;
 mod laws;
 mod numbers;
-#[cfg(test)]
-mod tests;
 mod value;
 
 pub use evaluation::{EvalFault, eval};

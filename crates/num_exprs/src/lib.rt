@@ -11,8 +11,6 @@ mod names;
 mod place;
 mod reader;
 mod row;
-#[cfg(test)]
-mod tests;
 mod token;
 
 pub use block::{BlockReading, Named, NumBlock, parse_block, read_block};

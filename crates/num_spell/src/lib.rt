@@ -6,8 +6,6 @@ mod digits;
 mod front;
 mod printing;
 mod reading;
-#[cfg(test)]
-mod tests;
 mod wild_expression;
 
 pub use front::{begins, behind};

@@ -12,8 +12,6 @@ mod row;
 mod settings;
 mod step;
 mod table;
-#[cfg(test)]
-mod tests;
 mod word;
 
 pub use fault::WordFault;

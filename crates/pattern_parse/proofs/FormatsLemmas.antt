@@ -1,5 +1,6 @@
--- What formats have at a name: the map that the code's entries make, with places that nobody sees. Shown at each name, by
--- what num_base says of entries under names. The hard one is `place_under`: a new place changes no look-up.
+-- What formats have at a name is what the map of the code's entries has there, whose empty places nobody sees.
+-- Both are followed name by name, with what num_base says of entries under names.
+-- The hard one is `place_under`: a new place changes no look-up.
 use Rattle.std.proofs.lemmas.List.{drop_all}
 use Rattle.std.proofs.Common.{◌≡◌, ℕ, ◌+◌, ◌<◌, ◌≤◌, add-one, drop, drop-cons, get_or, length, Bool, true, false, true≢false, cond, is_some, Option, Some, None, List, [], ◌∷◌, refl, sym, ap, ◌∙◌, subst}
 use Rattle.std.specs.Prelude.{Vec}

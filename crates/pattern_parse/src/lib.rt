@@ -11,8 +11,6 @@ mod laws;
 mod parser;
 mod pattern;
 mod said;
-#[cfg(test)]
-mod tests;
 
 pub use fault::{PatFail, PatFault, PatKind};
 pub use formats::Formats;

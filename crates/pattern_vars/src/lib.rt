@@ -4,8 +4,6 @@
 #![tactic(auto)]
 
 mod binding;
-#[cfg(test)]
-mod tests;
 mod vars;
 
 pub use binding::{Binding, Bindings};

@@ -3,8 +3,6 @@
 
 mod heads;
 mod standing;
-#[cfg(test)]
-mod tests;
 mod tree;
 mod turns;
 

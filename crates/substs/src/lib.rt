@@ -6,8 +6,6 @@ mod expansion;
 mod fail;
 mod forms;
 mod replace;
-#[cfg(test)]
-mod tests;
 
 pub use expansion::{Texts, expand};
 pub use fail::ExpandFail;

@@ -5,9 +5,6 @@ ghost use Rattle.std.specs.IoError.{error_kind};
 ghost use Rattle.tt_main.specs.NoWords.{NoWords};
 ghost use Rattle.tt_run.specs.Run.{stream};
 
-#[cfg(test)]
-mod tests;
-
 use std::env::{self, Env};
 use std::io::{self, ErrorKind};
 use tt_outside::Sink;

@@ -18,12 +18,8 @@ mod seats;
 mod sink;
 mod source;
 mod test_data;
-#[cfg(test)]
-mod tests;
 mod transfer;
 mod tree;
-#[cfg(test)]
-mod tree_tests;
 
 pub use crew::{Crew, Left, Runner};
 pub use files::{Files, FilesFault};

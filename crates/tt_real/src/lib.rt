@@ -7,11 +7,7 @@ mod child;
 mod crew;
 mod files;
 mod reader;
-#[cfg(test)]
-mod tests;
 mod tree;
-#[cfg(test)]
-mod tree_tests;
 mod writer;
 
 pub use crew::{StdCrew, StdHand};

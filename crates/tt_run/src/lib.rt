@@ -4,8 +4,6 @@
 
 mod answer;
 mod reading;
-#[cfg(test)]
-mod tests;
 
 pub use answer::{Answer, answer_on, tell, write_answer};
 pub use reading::{Reading, read_named, read_source};

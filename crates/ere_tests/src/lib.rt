@@ -1,0 +1,22 @@
+//! Tests of regular expressions: trees, worked examples of what matches where, and the fast programs beside the slow
+//! one.
+#![tactic(auto)]
+
+#[cfg(test)]
+mod automaton;
+#[cfg(test)]
+mod captures;
+#[cfg(test)]
+mod finding;
+#[cfg(test)]
+mod hits;
+#[cfg(test)]
+mod parsing;
+#[cfg(test)]
+mod places;
+#[cfg(test)]
+mod slow;
+#[cfg(test)]
+mod table;
+#[cfg(test)]
+mod tree;

@@ -1,0 +1,282 @@
+//! Texts with their trees or their faults, and hostile texts.
+use ere_tree::{ByteSet, Ere, EreFail, EreFault, EreList, parse};
+use std::alloc::Global;
+use std::process::Abort;
+use std::test::Fail;
+
+/// The bytes of the set, or how many there are of more than 13.
+fn show_set(alloc: Global, set: &ByteSet, out: &mut String) -> Result<(), Fail> {
+    let mut bytes = String::new(alloc);
+    let mut count: u32 = 0;
+    for byte in 0..=255 {
+        if set.has(byte) && count < 256 {
+            bytes.push(char::from(byte))?;
+            count += 1;
+        }
+    }
+    if count <= 13 {
+        out.push_str(format!(in alloc; "[{bytes}]")?.as_str())?;
+    } else {
+        out.push_str(format!(in alloc; "[{count}]")?.as_str())?;
+    }
+    Ok(())
+}
+
+#[cycle(show)]
+fn show(alloc: Global, ere: &Ere, out: &mut String) -> Result<(), Fail> {
+    match ere {
+        Ere::Empty => out.push_str("empty")?,
+        Ere::Plain(run) => {
+            for byte in run.as_slice() {
+                out.push(char::from(*byte))?;
+            }
+        }
+        Ere::Set(set) => show_set(alloc, set, out)?,
+        Ere::LineStart => out.push('^')?,
+        Ere::LineEnd => out.push('$')?,
+        Ere::Cat(parts) => show_all(alloc, "cat", parts, out)?,
+        Ere::Alt(branches) => show_all(alloc, "alt", branches, out)?,
+        Ere::Repeat { inner, least, most } => {
+            out.push_str(format!(in alloc; "{least}-{most:?}(")?.as_str())?;
+            show(alloc, inner, out)?;
+            out.push(')')?;
+        }
+        Ere::Group { number, inner } => {
+            out.push_str(format!(in alloc; "#{number}(")?.as_str())?;
+            show(alloc, inner, out)?;
+            out.push(')')?;
+        }
+        Ere::Ref { number, fold } => {
+            out.push_str(format!(in alloc; "ref {number} {fold}")?.as_str())?;
+        }
+    }
+    Ok(())
+}
+
+#[cycle(show)]
+fn show_all(alloc: Global, name: &str, list: &EreList, out: &mut String) -> Result<(), Fail> {
+    out.push_str(name)?;
+    out.push('(')?;
+    for one in list.as_slice() {
+        out.push(' ')?;
+        show(alloc, one, out)?;
+    }
+    out.push_str(" )")?;
+    Ok(())
+}
+
+/// The tree of a text, or its fault.
+fn told(alloc: Global, text: &[u8], fold: bool) -> Result<String, Fail> {
+    let mut out = String::new(alloc);
+    match parse(alloc, text, fold) {
+        Ok(ere) => show(alloc, &ere, &mut out)?,
+        Err(EreFail::Bad(EreFault { at, kind })) => {
+            out.push_str(format!(in alloc; "{kind:?} {at}")?.as_str())?;
+        }
+        Err(EreFail::NoMemory) => out.push_str("no memory")?,
+    }
+    Ok(out)
+}
+
+/// A text and its tree in each line.
+const READ: &str = " => empty
+() => #1(empty)
+a{x => a{x
+{ => {
+{a}]} => {a}]}
+ab => ab
+ab* => cat( a 0-None(b) )
+a*b+c? => cat( 0-None(a) 1-None(b) 0-Some(1)(c) )
+a{2}b{2,}c{0,255} => cat( 2-Some(2)(a) 2-None(b) 0-Some(255)(c) )
+a{007} => 7-Some(7)(a)
+a|b => alt( a b )
+a|b|c => alt( a b c )
+(a|b)c => cat( #1(alt( a b )) c )
+(a)(b(c))(d) => cat( #1(a) #2(cat( b #3(c) )) #4(d) )
+(a)* => 0-None(#1(a))
+()* => 0-None(#1(empty))
+(a)\\1 => cat( #1(a) ref 1 false )
+(a)\\1{2}b => cat( #1(a) 2-Some(2)(ref 1 false) b )
+^a$ => cat( ^ a $ )
+a\\.b\\*\\0 => a.b*0
+\\\\* => 0-None(\\)
+.a => cat( [255] a )
+[^a] => [254]
+[]a-] => [-]a]
+[^]a] => [253]
+[a-c-e] => [-abce]
+[a-c--0] => [-./0abc]
+[--/] => [-./]
+[[:digit:]-] => [-0123456789]
+[[:digit:]x] => [0123456789x]
+[[:xdigit:][:punct:]] => [54]
+[a[:] => [:[a]
+[a\\] => [\\a]
+[X-[] => [XYZ[]
+[[:al]b => cat( [:[al] b )
+(a{248}){250}(b{248}){149}c{247} => cat( 250-Some(250)(#1(248-Some(248)(a))) 149-Some(149)(#2(248-Some(248)(b))) 247-Some(247)(c) )";
+
+/// A text and its fault in each line.
+const REFUSED: &str = "a{2,1} => BadBound 1
+(|a) => EmptyAlternative 1
+a** => RepeatOfNothing 2
+[[.a.]] => UnsupportedBracket 1
+\\1(a) => BadReference 0
+a) => StrayClose 1
+[^[:digit:]-z] => BadRange 2
+a|) => StrayClose 2
+a| => EmptyAlternative 2
+a||b => EmptyAlternative 2
+| => EmptyAlternative 0
+(a|) => EmptyAlternative 3
+(a| => UnclosedGroup 0
+( => UnclosedGroup 0
+(a(b)(c => UnclosedGroup 5
+(a** => RepeatOfNothing 3
+{2} => RepeatOfNothing 0
+^* => RepeatOfNothing 1
+(*a) => RepeatOfNothing 1
+a|*b => RepeatOfNothing 2
+a{1}{2} => RepeatOfNothing 4
+a{256} => BadBound 1
+a{4294967297} => BadBound 1
+a{2 => BadBound 1
+a{2,x} => BadBound 1
+a{2,3x => BadBound 1
+{256} => BadBound 0
+a){2,1} => StrayClose 1
+(a\\1) => BadReference 2
+(a)\\2 => BadReference 3
+a\\ => TrailingBackslash 1
+a[b => UnclosedBracket 1
+[] => UnclosedBracket 0
+[^] => UnclosedBracket 0
+[[:digit:] => UnclosedBracket 0
+[a- => UnclosedBracket 0
+[z-a] => BadRange 1
+[a-[:digit:]] => BadRange 1
+[a--] => BadRange 1
+[b[:word:]] => UnknownClass 2
+[a-[:w:]] => BadRange 1
+[[:w:]-z] => BadRange 1
+[[::]] => UnknownClass 1
+[a-[=a=]] => UnsupportedBracket 3
+(a{248}){250}(b{248}){149}c{247}d => TooLarge 0
+((a{255}){255}){255} => TooLarge 0
+((a{255}){255}){255}( => UnclosedGroup 20";
+
+fn check_lines(rt: &impl Abort, alloc: Global, lines: &str, fold: bool) -> Result<(), Fail> {
+    for line in lines.lines() {
+        let (text, wanted) = line.split_once(" => ").ok_or("a line without an arrow")?;
+        assert_eq!(rt;
+            told(alloc, text.as_bytes(), fold)?.as_str(),
+            wanted,
+            "of {text:?}"
+        );
+    }
+    Ok(())
+}
+
+/// A text and its tree where letters match in either case in each line.
+const READ_IN_EITHER_CASE: &str = "a => [Aa]
+1a2 => cat( 1 [Aa] 2 )
+12 => 12
+\\a* => 0-None([Aa])
+[a-c]1 => cat( [ABCabc] 1 )
+[[:lower:]-] => [53]
+[^a] => [253]
+.z => cat( [255] [Zz] )
+(b)\\1 => cat( #1([Bb]) ref 1 true )
+@[@[`{]{ => cat( @ [@[`{] { )
+a{2,1} => BadBound 1";
+
+#[test]
+fn texts_are_read_as_their_trees(rt: HostRuntime) -> Result<(), Fail> {
+    check_lines(&rt, rt.alloc(), READ, false)
+}
+
+#[test]
+fn letters_are_read_in_either_case(rt: HostRuntime) -> Result<(), Fail> {
+    check_lines(&rt, rt.alloc(), READ_IN_EITHER_CASE, true)
+}
+
+/// The tree of a text, changed so that letters match in either case.
+fn folded(alloc: Global, text: &str) -> Result<String, Fail> {
+    let ere = parse(alloc, text.as_bytes(), false)
+        .ok()
+        .ok_or("an expression")?;
+    let mut out = String::new(alloc);
+    show(alloc, &ere.folded(alloc)?, &mut out)?;
+    Ok(out)
+}
+
+#[test]
+fn an_expression_is_changed_to_either_case(rt: HostRuntime) -> Result<(), Fail> {
+    let cases = [
+        ("a", "[Aa]"),
+        ("ab-1", "cat( [Aa] [Bb] -1 )"),
+        ("12", "12"),
+        (
+            "^[a-c]|(Z)*$",
+            "alt( cat( ^ [ABCabc] ) cat( 0-None(#1([Zz])) $ ) )",
+        ),
+        ("[^a]", "[255]"),
+        ("(a)\\1", "cat( #1([Aa]) ref 1 true )"),
+        ("()", "#1(empty)"),
+    ];
+    for (text, wanted) in cases {
+        assert_eq!(rt; folded(rt.alloc(), text)?.as_str(), wanted, "of {text:?}");
+    }
+    Ok(())
+}
+
+/// So many copies of a piece of text.
+fn repeated(alloc: Global, piece: &str, count: usize) -> Result<String, Fail> {
+    let mut text = String::new(alloc);
+    for _ in 0..count {
+        text.push_str(piece)?;
+    }
+    Ok(text)
+}
+
+#[test]
+fn long_expressions_are_read(rt: HostRuntime) -> Result<(), Fail> {
+    let alloc = rt.alloc();
+    let groups = parse(alloc, repeated(alloc, "(a)", 1_000)?.as_bytes(), false);
+    assert_eq!(rt; groups.ok().ok_or("groups")?.groups(), 1_000);
+    let parts = parse(alloc, repeated(alloc, "a*", 2_000)?.as_bytes(), true);
+    assert_eq!(rt; parts.ok().ok_or("parts")?.size(), 4_000);
+    let mut text = repeated(alloc, "ab|", 2_000)?;
+    text.push('c')?;
+    let branches = parse(alloc, text.as_bytes(), false);
+    assert_eq!(rt; branches.ok().ok_or("branches")?.size(), 4_002);
+    Ok(())
+}
+
+#[test]
+fn the_first_fault_is_told_with_its_place(rt: HostRuntime) -> Result<(), Fail> {
+    check_lines(&rt, rt.alloc(), REFUSED, false)
+}
+
+#[test]
+fn hostile_texts_are_answered(rt: HostRuntime) -> Result<(), Fail> {
+    let alloc = rt.alloc();
+    let opens = vec![in alloc; b'('; 100_000]?;
+    assert_eq!(rt; told(alloc, &opens, false)?.as_str(), "TooDeep 250");
+    let mut nested = vec![in alloc; b'('; 250]?;
+    nested.push(b'a')?;
+    nested.extend_from_slice(&vec![in alloc; b')'; 250]?)?;
+    assert!(rt; parse(alloc, &nested, false).is_ok());
+    let brackets = vec![in alloc; b'['; 65_536]?;
+    assert_eq!(rt;
+        told(alloc, &brackets, false)?.as_str(),
+        "UnclosedBracket 0"
+    );
+    for first in 0..=255 {
+        for second in 0..=255 {
+            let _one = parse(alloc, &[first], false);
+            let _pair = parse(alloc, &[first, second], false);
+        }
+    }
+    Ok(())
+}

@@ -1,0 +1,7 @@
+//! Tests of the trusted edge over the system's own streams, files, folders and programs.
+#![tactic(auto)]
+
+#[cfg(test)]
+mod folders;
+#[cfg(test)]
+mod streams;
