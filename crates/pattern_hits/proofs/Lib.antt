@@ -1,0 +1,3 @@
+pub mod CapsLemmas
+pub mod PlainLemmas
+pub mod ReadLemmas
