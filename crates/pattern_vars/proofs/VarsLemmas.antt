@@ -12,12 +12,12 @@ use Rattle.std.specs.Map.Calls.{RetainsPairs}
 use Rattle.std.specs.Option.{IfSome, option_map}
 use Rattle.std.specs.declared.cmp.Ordering.{Ordering}
 use Rattle.std.specs.declared.cmp.Ordering.TheVariants.{Less, Equal, Greater}
-use Rattle.std.specs.FinMap.{FinMap, get, insert, get-insert}
+use Rattle.std.specs.FinMap.{FinMap, entries, find, get, insert, get-entries, get-from_entries, get-insert, same_map}
 use Rattle.std.proofs.lemmas.Map.Lookups.{exact_bytes}
 use Rattle.std.proofs.lemmas.Cmp.{nat_list_cmp_total}
 use Rattle.num_base.specs.Names.{name_cmp, by_names}
 use Rattle.num_base.proofs.NamesLemmas.{value_under, set_under}
-use Rattle.pattern_vars.specs.Vars.{IsCleared, bound, cleared, has_place, have_places, held_with, name_of, value_at}
+use Rattle.pattern_vars.specs.Vars.{HavePlaces, IsCleared, bound, bound_all, cleared, forgotten, has_place, have_places, held_with, name_of, value_at}
 use Rattle.pattern_vars.specs.declared.binding.Binding.{Binding}
 use Rattle.pattern_vars.specs.declared.vars.Held.{Held}
 
@@ -66,6 +66,26 @@ places_stay vars b (other ∷ bs) has =
     let both = both_true (has_place vars other) (have_places vars bs) has in
     rw (place_stays vars b other both.0) (places_stay vars b bs both.1)
 
+name_stays : (vars : FinMap name_cmp Held) (b : Binding) (name : List ℕ) → is_some (get vars name) ≡ true
+    → is_some (get (bound vars b) name) ≡ true
+name_stays vars b name has =
+    ap is_some (get-insert nat_list_cmp_total vars (name_of b) (held_with (get vars (name_of b)) b) name)
+    ∙ each (is_eq (name_cmp name (name_of b)))
+  where
+    each : (same : Bool)
+        → is_some (cond same (Some (held_with (get vars (name_of b)) b)) (get vars name)) ≡ true
+    each true = refl
+    each false = has
+
+name_stays_bound : (vars : FinMap name_cmp Held) (bs : List Binding) (name : List ℕ) → is_some (get vars name) ≡ true
+    → is_some (get (bound_all vars bs) name) ≡ true
+name_stays_bound vars [] name has = has
+name_stays_bound vars (b ∷ bs) name has = name_stays_bound (bound vars b) bs name (name_stays vars b name has)
+
+pub have_places_bound : (vars : FinMap name_cmp Held) (bs : List Binding) (names : List (List ℕ)) → HavePlaces vars names
+    → HavePlaces (bound_all vars bs) names
+have_places_bound vars bs names has = λ k d low. name_stays_bound vars bs _ (has k d low)
+
 -- the start of a block
 is_equal : (r : Ordering) → is_eq r ≡ true → r ≡ Equal
 is_equal Less e = absurd (true≢false (sym e))
@@ -104,3 +124,33 @@ kept_cleared T f tells (e ∷ es) kept (b, w, g, rest, told, more, same) =
     let behind : rest ≡ map cleared_entry es =
     kept_cleared T f tells es rest (subst (λ h. RetainsPairs T h es rest) (facts.2) more) in
     same ∙ ap (λ v. cond v ((e.0, w) ∷ rest) rest) facts.0 ∙ (λ n. (e.0, facts.1 n) ∷ behind n)
+
+-- the value of what is left
+find_cleared : (es : List (List ℕ × Held)) (q : List ℕ)
+    → find name_cmp q (map (λ e. (e.0, cleared e.0 e.1)) es) ≡ option_map (cleared q) (find name_cmp q es)
+find_cleared [] q = refl
+find_cleared (e ∷ es) q = each (is_eq (name_cmp q e.0)) refl (find_cleared es q)
+  where
+    each : (same : Bool) → is_eq (name_cmp q e.0) ≡ same
+        → find name_cmp q (map (λ e. (e.0, cleared e.0 e.1)) es) ≡ option_map (cleared q) (find name_cmp q es)
+        → cond same (Some (cleared e.0 e.1)) (find name_cmp q (map (λ e. (e.0, cleared e.0 e.1)) es))
+        ≡ option_map (cleared q) (cond same (Some e.1) (find name_cmp q es))
+    each true is rest = ap (λ name. Some (cleared name e.1)) (sym (exact_bytes q e.0 (is_equal _ is)))
+    each false is rest = rest
+
+get-forgotten : (vars : FinMap name_cmp Held) (q : List ℕ) → get (forgotten vars) q ≡ option_map (cleared q) (get vars q)
+unfolding forgotten
+get-forgotten vars q =
+    get-from_entries nat_list_cmp_total _ q ∙ find_cleared (entries vars) q ∙ ap (option_map (cleared q)) (sym (get-entries vars q))
+
+pub cleared_is : (old new : FinMap name_cmp Held) → IsCleared old new → new ≡ forgotten old
+cleared_is old new is = same_map nat_list_cmp_total exact_bytes new (forgotten old) (λ q. is q ∙ sym (get-forgotten old q))
+
+is_some-mapped : (f : Held → Held) (o : Option Held) → is_some (option_map f o) ≡ is_some o
+is_some-mapped f None = refl
+is_some-mapped f (Some one) = refl
+
+pub have_places_forgotten : (vars : FinMap name_cmp Held) (names : List (List ℕ)) → HavePlaces vars names
+    → HavePlaces (forgotten vars) names
+have_places_forgotten vars names has = λ k d low.
+    ap is_some (get-forgotten vars _) ∙ is_some-mapped _ (get vars _) ∙ has k d low

@@ -1,11 +1,11 @@
 -- Variables: what is held under a name, and how matches and blocks change it. After LLVM Command Guide, FileCheck,
 -- 'FileCheck String Substitution Blocks', 'FileCheck Numeric Substitution Blocks' and `--enable-var-scope`. Own rule: a
 -- text and a number of one name are apart from each other.
-use Rattle.std.specs.Prelude.{◌≡◌, ℕ, ℤ, Bool, false, ◌==◌, is_some, List, [], ◌∷◌, Vec, Option, Some, None, if◌then◌else◌}
+use Rattle.std.specs.Prelude.{◌≡◌, ℕ, ℤ, Bool, true, false, ◌==◌, is_some, All, List, [], ◌∷◌, map, Vec, Option, Some, None, if◌then◌else◌}
 use Rattle.std.specs.BTreeMap.{is_at}
 use Rattle.std.specs.Cmp.Lexicographic.{slice_cmp}
 use Rattle.std.specs.Coded.{Coded, code_by, coded×, coded_list, coded_option, coded_ℕ, coded_ℤ}
-use Rattle.std.specs.FinMap.{FinMap, get, insert}
+use Rattle.std.specs.FinMap.{FinMap, entries, from_entries, get, insert}
 use Rattle.std.specs.List.{list_all}
 use Rattle.std.specs.Map.{lookup}
 use Rattle.std.specs.Option.{option_map}
@@ -57,6 +57,10 @@ has_place vars binding = is_some (get vars (name_of binding))
 abbrev pub have_places : FinMap name_cmp Held → List Binding → Bool
 have_places vars bindings = list_all (has_place vars) bindings
 
+-- each of some names has a place
+abbrev pub HavePlaces : FinMap name_cmp Held → List (List ℕ) → Type 0
+HavePlaces vars names = All (λ name. is_some (get vars name) ≡ true) names
+
 -- what is held with a binding: the other of text and number stays
 abbrev pub held_with : Option Held → Binding → Held
 held_with None (Text name text) = record { text = Some text; number = None }
@@ -84,6 +88,10 @@ cleared name one = if is_lasting name then one else nothing_held
 -- Behind the start of a block each name has what is left under it; no place comes or goes.
 abbrev pub IsCleared : FinMap name_cmp Held → FinMap name_cmp Held → Type 0
 IsCleared old new = (name : List ℕ) → get new name ≡ option_map (cleared name) (get old name)
+
+-- the same as a value
+unfoldable pub forgotten : FinMap name_cmp Held → FinMap name_cmp Held
+forgotten vars = from_entries (map (λ e. (e.0, cleared e.0 e.1)) (entries vars))
 
 -- what the code's entries have at a name
 abbrev pub value_at : List (Vec ℕ Global × Held) → List ℕ → Option Held

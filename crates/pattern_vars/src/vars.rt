@@ -7,7 +7,7 @@ ghost use Rattle.std.specs.Option.{option_map};
 ghost use Rattle.std.specs.Ordering.{nat_cmp};
 ghost use Rattle.std.specs.FinMap as map;
 ghost use Rattle.num_base.specs.Names.{by_names};
-ghost use Rattle.pattern_vars.specs.Vars.{IsCleared, bound, bound_all, has_place, have_places, is_lasting, nothing_held, number_of, text_of, value_at, with_places};
+ghost use Rattle.pattern_vars.specs.Vars.{IsCleared, bound, bound_all, forgotten, has_place, have_places, is_lasting, nothing_held, number_of, text_of, value_at, with_places};
 
 use crate::binding::{Binding, Bindings};
 use std::alloc::Global;
@@ -186,7 +186,8 @@ impl Vars {
     /// Forgets what is held under each name that doesn't begin with `$`, as at the start of a block with
     /// `--enable-var-scope`. The places stay. It takes no memory.
     pub fn clear_local(&mut self)
-        ensures { IsCleared self.old self.new }
+        ensures each { IsCleared self.old self.new }
+        ensures value { self.new ≡ forgotten self.old }
     {
         self.held.retain(|name, one| {
             if !is_lasting(name.as_slice()) {
