@@ -1,7 +1,7 @@
 -- The names that a pattern uses and that have no value. After LLVM Command Guide, FileCheck, 'FileCheck String Substitution
 -- Blocks' and 'FileCheck Numeric Substitution Blocks'. Own rule: each is told once, in order of first use; a text that is
 -- defined before has one.
-use Rattle.std.specs.Prelude.{ℕ, ℤ, Bool, ◌||◌, is_some, if◌then◌else◌, Option, Some, None, List, [], ◌∷◌, ◌++◌}
+use Rattle.std.specs.Prelude.{ℕ, ℤ, Bool, ◌||◌, is_some, if◌then◌else◌, Option, Some, None, List, [], ◌∷◌}
 use Rattle.std.specs.FinMap.{FinMap, empty, get, insert}
 use Rattle.num_base.specs.Names.{name_cmp}
 use Rattle.num_base.specs.Term.{Term, literal, line, name, binary}

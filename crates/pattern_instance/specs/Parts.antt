@@ -15,7 +15,6 @@ use Rattle.num_base.specs.Term.{Term}
 use Rattle.num_base.specs.declared.evaluation.EvalFault.{EvalFault}
 use Rattle.num_base.specs.declared.evaluation.EvalFault.TheVariants.{Range}
 use Rattle.num_base.specs.declared.format.Format.{Format}
-use Rattle.num_exprs.specs.Block.{Num}
 use Rattle.num_spell.specs.Spelling.{prints}
 use Rattle.num_spell.specs.Wild.{wild}
 use Rattle.pattern_parse.specs.Item.{Item, plain, regex, define, recall, number}

@@ -1,7 +1,6 @@
 -- The definitions' values that the code's values stand for.
-use Rattle.std.specs.Prelude.{◌≡◌, ℕ, ◌+◌, ℤ, ◌++◌, List, [], ◌∷◌, map, Option, Some, None, Result, Ok, Err}
-use Rattle.std.specs.FinMap.{FinMap, get, insert, empty}
-use Rattle.ere_tree.specs.Tree.{Tree}
+use Rattle.std.specs.Prelude.{◌≡◌, ℕ, ℤ, ◌++◌, List, ◌∷◌, map, Option, Some, None, Result, Ok, Err}
+use Rattle.std.specs.FinMap.{FinMap, insert}
 use Rattle.ere_tree.specs.View.{view}
 use Rattle.num_base.specs.Names.{name_cmp}
 use Rattle.num_base.specs.Term.{Term, literal, line, name, binary}
@@ -13,13 +12,13 @@ use Rattle.pattern_instance.specs.Missing.{each_once}
 use Rattle.pattern_instance.specs.Parts.{Part, Parts, parts_from}
 use Rattle.pattern_instance.specs.declared.instance.Instance as instances
 use Rattle.pattern_instance.specs.declared.instance.Instance.TheVariants as instance
-use Rattle.pattern_instance.specs.declared.missing.Missing as names
+use Rattle.pattern_instance.specs.declared.name_list.NameList as names
 use Rattle.pattern_instance.specs.declared.part.Part as parts
 use Rattle.pattern_instance.specs.declared.part.Made as begun
 
 -- the names that were told, with those that are told of others behind them
-abbrev pub still_told : names.Missing → List (List ℕ) → List (List ℕ)
-still_told missing rest = missing.names ++ each_once missing.told rest
+abbrev pub still_told : names.NameList → List (List ℕ) → List (List ℕ)
+still_told list rest = list.names ++ each_once list.told rest
 
 -- numbers with those of an expression that have a value
 abbrev pub gathered : (List ℕ → Option ℤ) → Term → FinMap name_cmp ℤ → FinMap name_cmp ℤ

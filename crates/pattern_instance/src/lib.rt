@@ -8,7 +8,9 @@ mod gift;
 mod groups;
 mod instance;
 mod missing;
+mod name_list;
 mod part;
 
 pub use gift::Gift;
 pub use instance::{Instance, make_instance};
+pub use name_list::NameList;

@@ -12,37 +12,18 @@ ghost use Rattle.pattern_parse.specs.PieceView.{item_view, items_view};
 ghost use Rattle.pattern_vars.specs.Vars.{number_of};
 
 use crate::groups::Groups;
+use crate::name_list::NameList;
 use num_base::Expr;
 use pattern_parse::Piece;
 use pattern_vars::Vars;
 use std::alloc::Global;
 use tt_base::{Bytes, Items, NoMemory};
 
-/// The names that were told so far, also as a set.
-#[derive(Drop)]
-pub(crate) struct Missing {
-    pub(crate) told: Groups,
-    pub(crate) names: Items<Bytes>,
-}
-
-/// Tells a name, unless it was told before.
-fn tell(alloc: Global, missing: &mut Missing, name: &[u8]) -> Result<(), NoMemory>
-    ensures { OnOk result ((rest : List (List ℕ)) →
-        still_told missing.new rest ≡ still_told missing.old (name.now ∷ rest)) }
-{
-    if missing.told.get(name).is_some() {
-        return Ok(());
-    }
-    let owned = Bytes::from_slice(alloc, name)?;
-    missing.names.push(owned)?;
-    missing.told.put(name, 0)
-}
-
 /// Tells the names of an expression that have no number.
 #[cycle(names)]
 fn tell_numbers(
     alloc: Global,
-    missing: &mut Missing,
+    missing: &mut NameList,
     expr: &Expr,
     vars: &Vars,
 ) -> Result<(), NoMemory>
@@ -54,7 +35,7 @@ fn tell_numbers(
         Expr::Line => Ok(()),
         Expr::Name(name) => match vars.number(name.as_slice()) {
             Some(_) => Ok(()),
-            None => tell(alloc, missing, name.as_slice()),
+            None => missing.add(alloc, name.as_slice()),
         },
         Expr::Binary { left, right, .. } => {
             tell_numbers(alloc, missing, left, vars)?;
@@ -66,7 +47,7 @@ fn tell_numbers(
 /// Tells a text that has no value, where these are defined before it.
 fn tell_text(
     alloc: Global,
-    missing: &mut Missing,
+    missing: &mut NameList,
     defined: &Groups,
     name: &Bytes,
     vars: &Vars,
@@ -78,13 +59,13 @@ fn tell_text(
     if defined.get(name.as_slice()).is_some() || vars.text(name.as_slice()).is_some() {
         return Ok(());
     }
-    tell(alloc, missing, name.as_slice())
+    missing.add(alloc, name.as_slice())
 }
 
 /// Tells the names of a piece that have no value, where these texts are defined before it.
 fn tell_piece(
     alloc: Global,
-    missing: &mut Missing,
+    missing: &mut NameList,
     defined: &mut Groups,
     piece: &Piece,
     vars: &Vars,
@@ -114,13 +95,10 @@ pub(crate) fn missing_names(
     ensures { (at : ℕ) (fold : Bool) → IfOk result (λ names.
         names ≡ missing (known_of vars.now at fold) (items_view pieces.now)) }
 {
-    let mut missing = Missing {
-        told: Groups::new(alloc),
-        names: Items::new(alloc),
-    };
+    let mut missing = NameList::new(alloc);
     let mut defined = Groups::new(alloc);
     for piece in pieces {
         tell_piece(alloc, &mut missing, &mut defined, piece, vars)?;
     }
-    Ok(missing.names)
+    Ok(missing.into_items())
 }

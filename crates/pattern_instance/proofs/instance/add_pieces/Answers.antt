@@ -1,4 +1,4 @@
-use Rattle.std.proofs.Common.{◌∷◌, subst}
+use Rattle.std.proofs.Common.{subst}
 use Rattle.pattern_parse.specs.PieceView.{item_view, items_view}
 use Rattle.pattern_instance.specs.Known.{known_of}
 use Rattle.pattern_instance.specs.Views.{Added, whole}
