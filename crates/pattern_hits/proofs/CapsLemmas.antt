@@ -5,14 +5,14 @@ use Rattle.std.specs.List.{range_with_len}
 use Rattle.std.specs.Option.{option_map}
 use Rattle.std.proofs.lemmas.List.{length-drop}
 use Rattle.std.proofs.lemmas.Option.{slice_get-map}
-use Rattle.ere_tree.specs.Captures.{Captures, cap_of, caps_of}
+use Rattle.ere_tree.specs.Captures.{Captures, cap_of}
 use Rattle.ere_tree.specs.Hit.{TellsHit, FindsHit}
 use Rattle.ere_tree.specs.Shape.{greatest_group}
 use Rattle.ere_tree.specs.Tree.{Tree}
 use Rattle.ere_tree.specs.declared.hit.Cap.{Cap}
 use Rattle.ere_tree.specs.declared.hit.Hit.{Hit}
 use Rattle.ere_tree.proofs.CapturesLemmas.{LieIn, empty_lies_in}
-use Rattle.ere_tree.proofs.DerivationLemmas.{captures_lie_in, is_part}
+use Rattle.ere_tree.proofs.DerivationLemmas.{captures_lie_in}
 use Rattle.pattern_hits.specs.Bound.{cap_at, held}
 use Rattle.tt_base.specs.declared.memory.NoMemory.{NoMemory}
 use Rattle.pattern_hits.specs.Caps.{LieInText, IsSoundIn}

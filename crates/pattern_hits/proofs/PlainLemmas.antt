@@ -1,7 +1,7 @@
 -- The hit of an expression that is plain text is the first place at which that text stands. Shown by what a derivation of
 -- texts one behind the other spans (`spans_text`), by the derivation at a place where they stand (`stands`), and since two
 -- derivations from one start end alike, so that none is preferred (`alike`). The hard one is `stands`.
-use Rattle.std.proofs.Common.{◌≡◌, ℕ, ◌+◌, ◌-◌, ◌≤◌, ◌<◌, Option, Some, None, List, [], ◌∷◌, ◌++◌, length, map, take, drop, refl, sym, ap, ◌∙◌, subst, true≢false, arith, get_or, drop-cons, add-one, append_assoc, append-nil, max, true, false}
+use Rattle.std.proofs.Common.{◌≡◌, ℕ, ◌+◌, ◌-◌, ◌≤◌, ◌<◌, List, [], ◌∷◌, ◌++◌, length, map, take, drop, refl, sym, ap, ◌∙◌, subst, true≢false, arith, get_or, drop-cons, add-one, append_assoc, append-nil, max, true}
 use Rattle.std.specs.FinMap.{empty}
 use Rattle.std.specs.Ordering.{nat_cmp, ordering_then, is_eq}
 use Rattle.std.specs.declared.cmp.Ordering.{Ordering}
@@ -9,11 +9,11 @@ use Rattle.std.specs.declared.cmp.Ordering.TheVariants.{Less, Equal, Greater}
 use Rattle.std.specs.Cmp.{eq_by_cmp_equiv}
 use Rattle.std.proofs.lemmas.Cmp.{nat_cmp_total}
 use Rattle.std.proofs.Math.Seq.{take-add, take-append_seam, drop-append_seam}
-use Rattle.std.proofs.lemmas.List.{drop_all, drop-drop, drop-take, length-append}
+use Rattle.std.proofs.lemmas.List.{drop_all, drop-drop, length-append}
 use Rattle.ere_tree.specs.Captures.{Captures, caps_of}
 use Rattle.ere_tree.specs.Derivation.{Way, Ways, leaf, parts, done, next, IsPart, part, Derives, DerivesAll}
-use Rattle.ere_tree.specs.Hit.{IsHit, HasNoHit, TellsHit, FindsHit}
-use Rattle.ere_tree.specs.Preference.{IsPreferred, preference, within, in_order}
+use Rattle.ere_tree.specs.Hit.{IsHit, HasNoHit, TellsHit}
+use Rattle.ere_tree.specs.Preference.{IsPreferred, within, in_order}
 use Rattle.ere_tree.specs.Shape.{greatest_group, greatest_group_of}
 use Rattle.ere_tree.specs.Tree.{Tree, Trees, plain, cat, none, then, trees_of}
 use Rattle.ere_tree.specs.View.{view}

@@ -1,6 +1,6 @@
 -- The number that is read of a text is the one that it spells, where that is a value: one clause says that what is read is
 -- spelled, the other that a value that is spelled is read.
-use Rattle.std.proofs.Common.{◌≡◌, ℕ, ℤ, pos, negsuc, ◌<◌, ◌^◌, Bool, true, false, Option, Some, None, IfSome, IsTrue, List, if◌then◌else◌, refl, sym, ap, ◌∙◌, FitsSigned, arith}
+use Rattle.std.proofs.Common.{◌≡◌, ℕ, ℤ, pos, negsuc, Bool, true, false, Option, Some, None, IfSome, IsTrue, List, if◌then◌else◌, refl, sym, ap, ◌∙◌, FitsSigned, arith}
 use Rattle.std.proofs.lemmas.Bool.Decides.{nat_tests}
 use Rattle.std.specs.Int.{w128}
 use Rattle.num_base.specs.Value.{is_value}

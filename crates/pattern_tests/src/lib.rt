@@ -1,4 +1,5 @@
-//! Tests of the bodies of directives: numbers, their spellings, numeric blocks, patterns and variables.
+//! Tests of the bodies of directives: numbers, their spellings, numeric blocks, patterns, variables,
+//! and where patterns are found.
 #![tactic(auto)]
 
 #[cfg(test)]
@@ -7,6 +8,8 @@ mod blocks;
 mod bodies;
 #[cfg(test)]
 mod numbers;
+#[cfg(test)]
+mod seeking;
 #[cfg(test)]
 mod spelling;
 #[cfg(test)]

@@ -1,0 +1,12 @@
+//! Where a pattern is found in a text, and what the match gives the names that it defines. After LLVM Command Guide,
+//! FileCheck. Groups of directives, and whole checks, stand above this crate.
+#![tactic(auto)]
+
+mod means;
+mod ready;
+mod seeking;
+mod sought;
+
+pub use ready::{Ready, prepare};
+pub use seeking::seek;
+pub use sought::Sought;
