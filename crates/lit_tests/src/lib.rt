@@ -11,3 +11,5 @@ mod replacements;
 mod shell;
 #[cfg(test)]
 mod status;
+#[cfg(test)]
+mod suites;

@@ -1,0 +1,3 @@
+pub mod Parts
+pub mod Suites
+pub mod Values
