@@ -1,3 +1,4 @@
 pub mod KeyLemmas
 pub mod ReadLemmas
 pub mod SuiteLemmas
+pub mod WholeLemmas

@@ -1,3 +1,4 @@
 pub mod Parts
 pub mod Suites
 pub mod Values
+pub mod Whole

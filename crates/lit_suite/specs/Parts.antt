@@ -17,7 +17,7 @@ is_name part = not (bytes_eq part [] || (bytes_eq part (codes ".") || bytes_eq p
 abbrev pub is_inner_path : List ℕ → Bool
 is_inner_path path = list_all is_name (slice_split (λ byte. byte == 47) path)
 
--- a key that the test doesn't take
+-- the first key that the test doesn't take; the members of a table stand in byte order of their keys
 abbrev pub first_other : (List ℕ → Bool) → Members → Option (List ℕ)
 first_other takes no_members = None
 first_other takes (member key value more) = if takes key then first_other takes more else Some key
