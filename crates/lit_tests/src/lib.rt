@@ -1,15 +1,9 @@
-//! Tests of the parts of `lit`, of the words of a command line, and of `not` and `count`.
+//! Tests of the parts of `lit`: suites, replacements, and the lines of its shell.
 #![tactic(auto)]
 
-#[cfg(test)]
-mod features;
-#[cfg(test)]
-mod options;
 #[cfg(test)]
 mod replacements;
 #[cfg(test)]
 mod shell;
-#[cfg(test)]
-mod status;
 #[cfg(test)]
 mod suites;

@@ -5,7 +5,7 @@ use std::test::Fail;
 use tt_base::Bytes;
 
 /// `1` where an expression holds, else `0`; `r` where it has references.
-fn held(alloc: Global, expr: &BoolExpr, features: &[Bytes]) -> Result<u8, Fail> {
+pub(crate) fn held(alloc: Global, expr: &BoolExpr, features: &[Bytes]) -> Result<u8, Fail> {
     if has_refs(expr) {
         return Ok(b'r');
     }

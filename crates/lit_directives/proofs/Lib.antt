@@ -1,0 +1,5 @@
+pub mod JoinLemmas
+pub mod KeywordLemmas
+pub mod LineLemmas
+pub mod ListLemmas
+pub mod ScriptLemmas

@@ -1,0 +1,21 @@
+use Rattle.std.proofs.Common.{◌≡◌, ◌-◌, length, arith, rules, sym, ◌∙◌}
+use Rattle.std.proofs.lemmas.List.Sums.{suffix_len_is}
+use Rattle.std.specs.List.{suffix_len}
+use Rattle.ere_tree.specs.Class.{is_blank}
+use Rattle.lit_directives.proofs.front.blanks_behind.Goals as goal
+
+pub returns-then-not-is_blank-clause-value : goal.returns-then-not-is_blank-clause-value
+returns-then-not-is_blank-clause-value c =
+    let text = c.args.text.now in
+    let measured : suffix_len is_blank text ≡ length text - c.loop-at.at =
+    suffix_len_is is_blank text c.loop-at.at 0 (omega arith) c.loop-at.invariant
+    (λ _. sym c.is_blank.ensures ∙ search rules) in
+    omega arith
+
+pub returns-clause-value : goal.returns-clause-value
+returns-clause-value c =
+    let text = c.args.text.now in
+    let measured : suffix_len is_blank text ≡ length text - 0 =
+    suffix_len_is is_blank text 0 0 (omega arith)
+    (λ k low high. c.loop-at.invariant k (omega arith) high) (λ impossible. absurd (omega arith)) in
+    omega arith
