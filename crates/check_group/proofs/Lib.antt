@@ -1,0 +1,9 @@
+pub mod AloneLemmas
+pub mod ContinuesLemmas
+pub mod CountLemmas
+pub mod EmptyLemmas
+pub mod GroupLemmas
+pub mod LawLemmas
+pub mod LineLemmas
+pub mod PlacedLemmas
+pub mod TriedLemmas

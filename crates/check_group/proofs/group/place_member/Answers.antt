@@ -1,0 +1,61 @@
+use Rattle.std.proofs.Common.{◌≤◌, ◌-◌, IfOk, length, refl, sym, ◌∙◌, ap, subst, arith, All, take}
+use Rattle.std.proofs.Math.Nat.{le_refl}
+use Rattle.std.proofs.lemmas.List.Elements.{All-drop}
+use Rattle.check_group.specs.Group.{EndsBy, lowest}
+use Rattle.check_group.specs.Matches.{Fits, looked}
+use Rattle.check_group.proofs.TriedLemmas.{ends_later, tried_free, tried_on}
+use Rattle.check_group.proofs.group.place_member.Goals as goal
+
+pub loop-kind-init : goal.loop-kind-init
+loop-kind-init g c = record {
+  behind = le_refl c.args.place;
+  within = c.requires.here;
+  at = omega arith;
+  passed = λ k d low. absurd (omega (arith, low));
+  chain = (length c.args.text.now - c.args.place, omega (arith, c.requires.here), refl);
+}
+
+pub returns-in-None-clause-value : goal.returns-in-None-clause-value
+returns-in-None-clause-value g c =
+    let a = c.args in
+    let chain = c.loop-kind.invariant.chain in
+    tried_free (looked a.text.now a.vars.now a.check.now 0) a.ranges.now c.loop-kind.from chain.0 c.passed-at.result c.in-Ok.m
+    (sym c.in-Ok.is ∙ c.in_ok-kind.ensures.value) c.passed-at.ensures.before
+    (c.in-None.ensures.value ∙ ap (lowest c.in-Ok.m.span) c.split_at.ensures.back)
+    ∙ chain.2
+
+pub loop-kind-smaller : goal.loop-kind-smaller
+loop-kind-smaller g c =
+    let a = c.args in
+    let m = c.in-Ok.m in
+    let range = c.in-Some.range in
+    let fits : Fits a.vars.now c.loop-kind.from (length a.text.now) m =
+    subst (λ met. IfOk met (Fits a.vars.now c.loop-kind.from (length a.text.now))) c.in-Ok.is c.in_ok-kind.ensures.fits in
+    let ends : range.to ≤ length a.text.now =
+    c.in-Some.ensures.within (length a.text.now)
+    (subst (All (EndsBy (length a.text.now))) (sym c.split_at.ensures.back) (All-drop (EndsBy (length a.text.now)) c.passed-at.result a.ranges.now c.requires.ranges)) in
+    omega (arith, fits.low, c.in-Some.ensures.behind, ends)
+
+pub loop-kind-preserved : goal.loop-kind-preserved
+loop-kind-preserved g c =
+    let a = c.args in
+    let back = c.split_at.ensures.back in
+    let m = c.in-Ok.m in
+    let range = c.in-Some.range in
+    let chain = c.loop-kind.invariant.chain in
+    let fits : Fits a.vars.now c.loop-kind.from (length a.text.now) m =
+    subst (λ met. IfOk met (Fits a.vars.now c.loop-kind.from (length a.text.now))) c.in-Ok.is c.in_ok-kind.ensures.fits in
+    let ends : range.to ≤ length a.text.now =
+    c.in-Some.ensures.within (length a.text.now)
+    (subst (All (EndsBy (length a.text.now))) (sym back) (All-drop (EndsBy (length a.text.now)) c.passed-at.result a.ranges.now c.requires.ranges)) in
+    let on = tried_on (looked a.text.now a.vars.now a.check.now 0) a.ranges.now c.loop-kind.from chain.0 c.passed-at.result
+    (length a.text.now) m range (sym c.in-Ok.is ∙ c.in_ok-kind.ensures.value) c.passed-at.ensures.before
+    (c.in-Some.ensures.value ∙ ap (lowest m.span) back) (omega (arith, fits.low, c.in-Some.ensures.behind)) ends chain.1 in
+    record {
+      behind = omega (arith, c.loop-kind.invariant.behind, fits.low, c.in-Some.ensures.behind);
+      within = ends;
+      at = c.passed-at.ensures.within;
+      passed = ends_later m.span.from range.to (take c.passed-at.result a.ranges.now) (omega (arith, c.in-Some.ensures.behind))
+          c.passed-at.ensures.before;
+      chain = (on.0, on.1, on.2 ∙ chain.2);
+    }

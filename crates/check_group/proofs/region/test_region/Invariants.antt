@@ -1,0 +1,7 @@
+use Rattle.std.proofs.Common.{◌≡◌, ◌++◌, drop}
+use Rattle.check_group.specs.Region.{region}
+use Rattle.check_group.proofs.region.test_region.Given as goal
+
+abbrev pub invariant-loop-check : goal.invariant-loop-check
+invariant-loop-check g l =
+    l.faults ++ region l.text l.from l.vars (drop l.check-index l.nots) ≡ l.fn.faults ++ region l.text l.from l.vars l.nots

@@ -1,0 +1,60 @@
+//! The search of a positive directive.
+ghost use Rattle.std.specs.Prelude.{◌≡◌, ◌≤◌, IfOk, length};
+ghost use Rattle.check_group.specs.Changes.{IsReady};
+ghost use Rattle.check_group.specs.Matches.{Fits, answered, looked};
+
+use crate::directive::Check;
+use crate::fault::FaultKind;
+use ere_auto::Steps;
+use pattern_scan::{Sought, seek};
+use pattern_vars::{Bindings, Vars};
+use std::alloc::Global;
+use std::sync::ledger::Ledger;
+use tt_base::{NoMemory, Span};
+
+/// A match, and what it gives the names that its pattern defines.
+#[derive(Drop, Debug)]
+pub struct Met {
+    pub span: Span,
+    pub fresh: Bindings,
+}
+
+/// Where a positive directive or a group begins and ends.
+#[derive(Clone, Copy, Debug, PartialEq, Eq)]
+pub struct Matched {
+    pub from: usize,
+    pub to: usize,
+}
+
+/// A search's answer as a match or a fault; `absent` is the fault where nothing is found.
+fn answered(answer: Sought, absent: FaultKind) -> Result<Met, FaultKind>
+    ensures { result ≡ answered answer absent }
+{
+    match answer {
+        Sought::Found { span, fresh } => Ok(Met { span, fresh }),
+        Sought::Absent => Err(absent),
+        Sought::UndefinedNames(names) => Err(FaultKind::Undefined(names)),
+        Sought::Range => Err(FaultKind::Range),
+        Sought::ZeroDivisor => Err(FaultKind::ZeroDivisor),
+        Sought::Unreadable(span) => Err(FaultKind::Unreadable { found: span.from }),
+    }
+}
+
+/// A directive sought in the slice from an offset to the text's end, behind `done` matches of the same directive.
+pub fn look<L: Ledger>(
+    alloc: Global,
+    check: &Check,
+    vars: &Vars,
+    text: &[u8],
+    done: u32,
+    from: usize,
+    steps: &mut Steps<L>,
+) -> Result<Result<Met, FaultKind>, NoMemory>
+    requires inside { from ≤ length text.now }
+    requires ready { IsReady vars.now check.now }
+    ensures value { IfOk result (λ met. met ≡ looked text.now vars.now check.now done from) }
+    ensures fits { IfOk result (λ met. IfOk met (Fits vars.now from (length text.now))) }
+{
+    let answer = seek(alloc, &check.pattern, vars, text, from, check.line, steps)?;
+    Ok(answered(answer, FaultKind::NotFound { from, done }))
+}

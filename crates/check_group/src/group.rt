@@ -1,0 +1,102 @@
+//! Groups of DAGs.
+ghost use Rattle.std.specs.Prelude.{◌≡◌, ◌≤◌, All, IfOk, OnErr, length};
+ghost use Rattle.check_group.specs.Changes.{IsPartWay, IsReady};
+ghost use Rattle.check_group.specs.Continues.{Comes, LiesIn};
+ghost use Rattle.check_group.specs.Group.{EndsBy, group_at, placed, reach};
+ghost use Rattle.check_group.specs.Matches.{Fits};
+
+use crate::answer::{Matched, Met, look};
+use crate::directive::Check;
+use crate::fault::{Fault, FaultKind};
+use crate::ranges::{lowest_overlapped, passed, place_among};
+use ere_auto::Steps;
+use pattern_vars::Vars;
+use std::alloc::Global;
+use std::sync::ledger::Ledger;
+use tt_base::{NoMemory, Span};
+
+#[tactic(auto, using(crate::proofs::TriedLemmas::tried_failed, crate::proofs::TriedLemmas::ends_later))]
+/// A member of a group, placed against the ranges before it, which stand in order.
+fn place_member<L: Ledger>(
+    alloc: Global,
+    check: &Check,
+    vars: &Vars,
+    text: &[u8],
+    ranges: &[Span],
+    place: usize,
+    steps: &mut Steps<L>,
+) -> Result<Result<Met, FaultKind>, NoMemory>
+    requires here { place ≤ length text.now }
+    requires ready { IsReady vars.now check.now }
+    requires ranges { All (EndsBy (length text.now)) ranges.now }
+    ensures value { IfOk result (λ met. met ≡ placed text.now vars.now ranges.now check.now place) }
+    ensures fits { IfOk result (λ met. IfOk met (Fits vars.now place (length text.now))) }
+{
+    let mut from = place;
+    let mut at = 0;
+    loop {
+        match look(alloc, check, vars, text, 0, from, steps)? {
+            Err(kind) => return Ok(Err(kind)),
+            Ok(m) => {
+                // The tries' starts rise, so no later try overlaps what ends at or before this match's start.
+                at = passed(ranges, at, m.span.from);
+                match lowest_overlapped(m.span, ranges.split_at(at).1) {
+                    None => return Ok(Ok(m)),
+                    Some(range) => from = range.to,
+                }
+            }
+        }
+    }
+}
+
+/// What a group spans with one more match.
+fn reach(reached: Matched, m: Span) -> Matched
+    ensures { result ≡ reach reached m }
+{
+    Matched {
+        from: reached.from.min(m.from),
+        to: reached.to.max(m.to),
+    }
+}
+
+/// A group of DAGs at a place. The text ends where the block does. Each member binds as it matches, and these bindings stay
+/// where a later one fails.
+pub fn place_group<L: Ledger>(
+    alloc: Global,
+    checks: &[Check],
+    text: &[u8],
+    place: usize,
+    vars: &mut Vars,
+    steps: &mut Steps<L>,
+) -> Result<Result<Matched, Fault>, NoMemory>
+    requires here { place ≤ length text.now }
+    requires ready { All (IsReady vars.old) checks.now }
+    ensures value { IfOk result (λ outcome.
+        Comes (group_at text.now place vars.old checks.now) vars.old outcome vars.new) }
+    ensures lies { IfOk result (λ outcome. IfOk outcome (LiesIn place (length text.now))) }
+    ensures part_way { OnErr result
+        (IsPartWay (group_at text.now place vars.old checks.now).changes vars.old vars.new) }
+{
+    let mut ranges: Vec<Span> = Vec::new(alloc);
+    let mut reached = Matched {
+        from: text.len(),
+        to: place,
+    };
+    for check in checks {
+        match place_member(alloc, check, vars, text, ranges.as_slice(), place, steps)? {
+            Ok(m) => {
+                // The room for the range is taken before anything is bound.
+                place_among(&mut ranges, m.span)?;
+                reached = reach(reached, m.span);
+                vars.bind(m.fresh);
+            }
+            Err(kind) => {
+                return Ok(Err(Fault {
+                    directive: check.number,
+                    kind,
+                }));
+            }
+        }
+    }
+    Ok(Ok(reached))
+}

@@ -1,0 +1,21 @@
+//! What one directive comes to at a place of an input, what a group of DAGs does, and what NOTs tell of a region. After LLVM
+//! Command Guide, FileCheck. Patterns are sought below, in `pattern_scan`; blocks of directives stand above this crate.
+#![tactic(auto)]
+
+mod alone;
+mod answer;
+mod directive;
+mod fault;
+mod group;
+mod laws;
+mod lines;
+mod ranges;
+mod region;
+
+pub use alone::match_alone;
+pub use answer::{Matched, Met, look};
+pub use directive::Check;
+pub use fault::{Fault, FaultKind};
+pub use group::place_group;
+pub use laws::{members_apart, tries_are_a_chain};
+pub use region::test_region;
