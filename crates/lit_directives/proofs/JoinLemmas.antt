@@ -67,21 +67,28 @@ module _ (line : ℕ) (rest : List ℕ) (all : List Part) (runs there : List Run
   unfolding AreRuns
   run_goes pending [] is further = absurd further
   run_goes None (run ∷ more) is (here, later, behind, cut, joins, same, are) =
-      let text = trimmed rest in
-      (
-        (line, rest) ∷ here, later, ap (λ l. (line, rest) ∷ l) cut,
-        (ap (λ (r : RunLine). r.line) same,
-        subst (Joins (text ∷ kept here)) (sym (ap (λ (r : RunLine). r.text) same)) (joins_more text (kept here) behind is joins)),
+      let text = trimmed rest in (
+        (line, rest) ∷ here,
+        later,
+        ap (λ l. (line, rest) ∷ l) cut,
+        (
+          ap (λ (r : RunLine). r.line) same,
+          subst (Joins (text ∷ kept here)) (sym (ap (λ (r : RunLine). r.text) same)) (joins_more text (kept here) behind is joins),
+        ),
         are,
       )
   run_goes (Some pending) (run ∷ more) is (here, later, behind, cut, joins, same, are) =
       let text = front_kept rest in
       let cut_text = take (length text - 1) text in
       let run_is : run ≡ with_text pending.0 (cut_text ++ behind) = same
-      ∙ ap (λ (l : List ℕ). record { line = pending.0.line; text = l }) (append_assoc pending.0.text cut_text behind) in
-      (
-        (line, rest) ∷ here, later, cut_text ++ behind, ap (λ l. (line, rest) ∷ l) cut,
-        joins_more text (kept here) behind is joins, run_is, are,
+      ∙ ap (λ (l : List ℕ). record { line = pending.0.line; text = l }) (append_assoc pending.0.text cut_text behind) in (
+        (line, rest) ∷ here,
+        later,
+        cut_text ++ behind,
+        ap (λ l. (line, rest) ∷ l) cut,
+        joins_more text (kept here) behind is joins,
+        run_is,
+        are,
       )
 
 -- a RUN directive before others
@@ -91,7 +98,9 @@ run_more : (goes : Bool) (s : State) (line : ℕ) (rest : List ℕ) (all : List 
     → More s.pending s.runs ((line, rest) ∷ all) there
 run_more false s line rest all there is next = run_ends line rest all s.runs there s.pending is next
 run_more true s line rest all there is next = record {
-  new = next.new; added = next.added; further = run_goes line rest all s.runs there s.pending next.new is next.further;
+  new = next.new;
+  added = next.added;
+  further = run_goes line rest all s.runs there s.pending next.new is next.further;
 }
 
 abbrev Runs : State → List Directive → State → Type 0
@@ -128,7 +137,8 @@ runs_from [] s t is ended =
     let same : s ≡ t = cc in
     let none : s.pending ≡ None = ap (λ (s : State). s.pending) same ∙ ended in
     record {
-      new = []; added = sym (append-nil s.runs ∙ ap (λ (s : State). s.runs) same);
+      new = [];
+      added = sym (append-nil s.runs ∙ ap (λ (s : State). s.runs) same);
       further = subst (λ p. Further p [] []) (sym none) refl;
     }
 runs_from (one ∷ ds) s t is ended =
