@@ -1,9 +1,7 @@
-//! Tests of patterns: bodies of directives, variables, and where patterns are found.
+//! Tests of patterns: bodies of directives, and variables.
 #![tactic(auto)]
 
 #[cfg(test)]
 mod bodies;
-#[cfg(test)]
-mod seeking;
 #[cfg(test)]
 mod variables;

@@ -1,10 +1,23 @@
 //! Cases of `read_script` with ample memory.
+ghost use Rattle.std.specs.Prelude.{IfOk};
+ghost use Rattle.lit_directives.specs.Lists.{HasNoRefs};
+
 use crate::features::held;
 use bool_exprs::BoolExpr;
 use lit_directives::{Script, ScriptFail, ScriptFault, read_script};
 use std::alloc::Global;
 use std::test::Fail;
 use tt_base::{Bytes, Items};
+
+/// The script of a text of at most 2^30 bytes; of a longer one there is none.
+fn read_short(alloc: Global, text: &[u8]) -> Result<Script, ScriptFail>
+    ensures { IfOk result HasNoRefs }
+{
+    if text.len() > 1 << 30 {
+        return Err(ScriptFail::NoMemory);
+    }
+    read_script(alloc, text)
+}
 
 /// The RUN lines of a script, each with its number and a `|` behind it.
 fn runs_of(alloc: Global, script: &Script) -> Result<Vec<u8>, Fail> {
@@ -104,7 +117,7 @@ fn show_list(
 /// What the three lists of a script show, and its retries.
 fn lists_of(alloc: Global, text: &str, features: &[Bytes]) -> Result<Vec<u8>, Fail> {
     let mut shown = Vec::new(alloc);
-    match read_script(alloc, text.as_bytes()) {
+    match read_short(alloc, text.as_bytes()) {
         Ok(script) => {
             show_list(alloc, &mut shown, &script.required, features)?;
             show_list(alloc, &mut shown, &script.unsupported, features)?;
@@ -157,7 +170,7 @@ fn refused(
         text.append(part)?;
     }
     text.append(last)?;
-    match read_script(alloc, text.as_slice()) {
+    match read_short(alloc, text.as_slice()) {
         Ok(_) => Ok(None),
         Err(ScriptFail::Bad(fault)) => Ok(Some(fault)),
         Err(ScriptFail::NoMemory) => Err(ScriptFail::NoMemory),

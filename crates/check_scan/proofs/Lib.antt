@@ -1,0 +1,7 @@
+pub mod BlockLemmas
+pub mod BlocksLemmas
+pub mod ClosingLemmas
+pub mod LawLemmas
+pub mod PartLemmas
+pub mod RunsLemmas
+pub mod VerdictLemmas
