@@ -1,12 +1,11 @@
 -- A directive that matches once.
-use Rattle.std.proofs.Common.{◌≡◌, ℕ, List, [], ◌∷◌, Ok, Err, sym, refl, ◌∙◌, ap, subst}
+use Rattle.std.proofs.Common.{◌≡◌, ℕ, List, Ok, Err, sym, refl, ◌∙◌, ap, subst}
 use Rattle.pattern_vars.specs.Vars.{bound_all}
 use Rattle.pattern_parse.specs.declared.pattern.Kind.{Kind}
 use Rattle.pattern_parse.specs.declared.pattern.Kind.TheVariants.{Plain, Next, Same, Empty, Count, Not, Dag, Label}
 use Rattle.check_group.specs.Alone.{came, matched, met}
 use Rattle.check_group.specs.Changes.{Variables}
 use Rattle.check_group.specs.Continues.{Comes}
-use Rattle.check_group.specs.Matches.{Came}
 use Rattle.check_group.specs.declared.answer.Met.{Met}
 use Rattle.check_group.specs.declared.directive.Check.{Check}
 use Rattle.check_group.specs.declared.fault.FaultKind.{FaultKind}

@@ -1,11 +1,10 @@
 -- The matches of a COUNT, one by one, by what is done and what is left.
-use Rattle.std.proofs.Common.{◌≡◌, ℕ, suc, ◌+◌, ◌-◌, ◌<◌, ◌≤◌, List, [], Ok, Err, length, sym, ◌∙◌, ap, arith}
+use Rattle.std.proofs.Common.{◌≡◌, ℕ, suc, ◌+◌, ◌-◌, ◌<◌, ◌≤◌, List, Ok, Err, sym, ◌∙◌, ap, arith}
 use Rattle.pattern_vars.specs.Vars.{bound_all}
 use Rattle.check_group.specs.Alone.{began_at, counted}
 use Rattle.check_group.specs.Changes.{Variables}
 use Rattle.check_group.specs.Continues.{Comes, Continues}
 use Rattle.check_group.specs.Matches.{Came, behind, fails, if_met, looked}
-use Rattle.check_group.specs.declared.answer.Matched.{Matched}
 use Rattle.check_group.specs.declared.answer.Met.{Met}
 use Rattle.check_group.specs.declared.directive.Check.{Check}
 use Rattle.check_group.specs.declared.fault.FaultKind.{FaultKind}

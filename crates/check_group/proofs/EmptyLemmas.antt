@@ -1,12 +1,9 @@
 -- The least newline behind which a line is empty is that of two newlines, or else the last byte.
 -- Such a newline is one or the other (`either`), so the least of the pairs, where there is one, is the least of all.
 -- The hard one is `empty_where`, that at a pair of newlines the line between them is empty.
-use Rattle.std.proofs.Common.{◌≡◌, ◌⊎◌, ℕ, suc, ◌+◌, ◌-◌, ◌<◌, ◌≤◌, Bool, true, false, ◌&&◌, eqb, List, [], ◌∷◌, Option, None, Some, length, get_or, take, drop, refl, sym, ◌∙◌, ap, inl, inr, arith, drop-cons, add-one, ⊎_elim}
-use Rattle.std.proofs.lemmas.Bool.{cases_lt}
-use Rattle.std.proofs.lemmas.Bool.Decides.{nat_tests}
-use Rattle.std.specs.Prelude.{nat_lt}
+use Rattle.std.proofs.Common.{◌≡◌, ◌⊎◌, ℕ, suc, ◌+◌, ◌-◌, ◌<◌, ◌≤◌, List, [], ◌∷◌, None, Some, length, get_or, take, drop, sym, ◌∙◌, ap, inl, inr, arith, drop-cons, add-one, ⊎_elim}
 use Rattle.tt_base.specs.Occurrence.{IsFirstIn, StandsAt}
-use Rattle.check_group.specs.Lines.{EndsBeforeEmpty, IsEmptyLine, ends_line, or_last}
+use Rattle.check_group.specs.Lines.{EndsBeforeEmpty, IsEmptyLine}
 
 opened : (text : List ℕ) (at : ℕ) → at + 2 ≤ length text
     → drop at text ≡ get_or text at 0 ∷ get_or text (at + 1) 0 ∷ drop (at + 2) text

@@ -1,7 +1,7 @@
 -- The laws of groups.
 -- Shown: tries are a chain, and a chain's last overlaps nothing.
 -- Idea: induction on the tries that are left, and on the chain. The hard one is `chained`.
-use Rattle.std.proofs.Common.{◌≡◌, ℕ, zero, suc, ◌+◌, ◌<◌, ◌≤◌, Bool, true, false, cond, List, [], ◌∷◌, Option, Some, None, Result, Ok, Err, IfOk, refl, sym, ◌∙◌, ap, arith}
+use Rattle.std.proofs.Common.{◌≡◌, ℕ, zero, suc, ◌+◌, ◌<◌, ◌≤◌, Bool, true, false, cond, List, [], ◌∷◌, Option, Some, None, Result, Ok, Err, IfOk, refl, sym, arith}
 use Rattle.std.specs.List.{AllByRecursion}
 use Rattle.tt_base.specs.declared.place.Span.{Span}
 use Rattle.check_group.specs.declared.answer.Met.{Met}

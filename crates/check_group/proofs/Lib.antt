@@ -4,6 +4,7 @@ pub mod CountLemmas
 pub mod EmptyLemmas
 pub mod GroupLemmas
 pub mod LawLemmas
+pub mod LiesLemmas
 pub mod LineLemmas
 pub mod PlacedLemmas
 pub mod TriedLemmas

@@ -1,5 +1,5 @@
 -- A match that stands on the line that is asked for is the one that was found.
-use Rattle.std.proofs.Common.{◌≡◌, ℕ, Bool, true, false, cond, List, Result, Ok, Err, IfOk, ◌==◌}
+use Rattle.std.proofs.Common.{ℕ, Bool, true, false, cond, List, Result, Ok, Err, IfOk, ◌==◌}
 use Rattle.check_group.specs.Lines.{newlines, on_next_line, on_same_line}
 use Rattle.check_group.specs.declared.answer.Met.{Met}
 use Rattle.check_group.specs.declared.fault.FaultKind.{FaultKind}

@@ -12,7 +12,7 @@ ends_cond : (to : ℕ) (m range : Span) (ranges rest : List Span) (test : Bool) 
 ends_cond to m range ranges rest true low first others behind = (first, behind)
 ends_cond to m range ranges rest false low first others behind = (low, (first, others))
 
-ends_each : (to : ℕ) (m : Span) (ranges : List Span) → m.to ≤ to → AllByRecursion (EndsBy to) ranges → AllByRecursion (EndsBy to) (placed_among m ranges)
+pub ends_each : (to : ℕ) (m : Span) (ranges : List Span) → m.to ≤ to → AllByRecursion (EndsBy to) ranges → AllByRecursion (EndsBy to) (placed_among m ranges)
 unfolding placed_among
 ends_each to m [] low each = (low, tt)
 ends_each to m (range ∷ ranges) low each =

@@ -1,7 +1,7 @@
 -- What one positive directive that is no DAG does at a place; the text ends where the block does.
 -- After LLVM Command Guide, FileCheck: CHECK, CHECK-NEXT, CHECK-SAME, CHECK-EMPTY, CHECK-COUNT and CHECK-LABEL. Own rules: a
 -- match on the wrong line binds nothing, and a COUNT's matches bind one by one.
-use Rattle.std.specs.Prelude.{◌≡◌, ◌≤◌, ℕ, zero, suc, ◌+◌, ◌==◌, if◌then◌else◌, List, [], ◌∷◌, length, Result, Ok, Err}
+use Rattle.std.specs.Prelude.{ℕ, zero, suc, ◌+◌, ◌==◌, if◌then◌else◌, List, [], ◌∷◌, Result, Ok, Err}
 use Rattle.pattern_parse.specs.declared.pattern.Kind.{Kind}
 use Rattle.pattern_parse.specs.declared.pattern.Kind.TheVariants.{Plain, Next, Same, Empty, Not, Dag, Label, Count}
 use Rattle.pattern_vars.specs.Vars.{bound_all}

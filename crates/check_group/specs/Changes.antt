@@ -1,6 +1,6 @@
 -- How the variables change in the course of a check. After LLVM Command Guide, FileCheck, 'FileCheck String Substitution
 -- Blocks' and `--enable-var-scope`. Own rule: bindings that were made stay, at a fault and at want of memory.
-use Rattle.std.specs.Prelude.{◌≡◌, true, List, [], ◌∷◌, ◌++◌}
+use Rattle.std.specs.Prelude.{◌≡◌, List, [], ◌∷◌, ◌++◌}
 use Rattle.std.specs.FinMap.{FinMap}
 use Rattle.num_base.specs.Names.{name_cmp}
 use Rattle.pattern_vars.specs.Vars.{HavePlaces, bound_all, forgotten}

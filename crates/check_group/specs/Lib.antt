@@ -3,6 +3,7 @@ pub mod Changes
 pub mod Continues
 pub mod Group
 pub mod Laws
+pub mod Lies
 pub mod Lines
 pub mod Matches
 pub mod Region

@@ -1,10 +1,8 @@
 -- What one line of a check file holds.
 -- After LLVM Command Guide, FileCheck: a directive's text is the rest of its line, without blanks at both ends.
--- Own rules: which forms are refused, and in which order on one line; a body of another form than plain text of at most
--- 65,536 bytes isn't built yet.
-use Rattle.std.specs.Prelude.{◌≡◌, ◌<◌, ◌≤◌, ⊤, ℕ, ◌+◌, ◌-◌, ◌==◌, ◌^◌, nat_le, Bool, true, false, ◌&&◌, ◌||◌, not, if◌then◌else◌, List, take, drop, length, codes, Option, None, Some, is_some, Result, Ok, Err}
+-- Own rules: which lines are refused, and why first.
+use Rattle.std.specs.Prelude.{◌≡◌, ◌<◌, ◌≤◌, ⊤, ℕ, ◌+◌, ◌-◌, ◌==◌, ◌^◌, Bool, true, false, ◌&&◌, ◌||◌, not, if◌then◌else◌, List, take, drop, length, Option, None, Some, Result, Ok, Err}
 use Rattle.std.specs.List.{prefix_len, suffix_len}
-use Rattle.tt_base.specs.Occurrence.{first_from}
 use Rattle.tt_base.specs.Place.{span_of}
 use Rattle.tt_base.specs.declared.place.Place.{Place}
 use Rattle.check_lines.specs.Class.{has}
@@ -14,11 +12,11 @@ use Rattle.check_lines.specs.declared.decision.Decision.{Decision}
 use Rattle.check_lines.specs.declared.decision.Mark.{Mark}
 use Rattle.check_lines.specs.declared.decision.Mark.TheVariants.{Comment, Check}
 use Rattle.check_lines.specs.declared.directive.Directive.{Directive}
-use Rattle.check_lines.specs.declared.directive.Kind.{Kind}
-use Rattle.check_lines.specs.declared.directive.Kind.TheVariants.{Plain, Next, Same, Empty, Not, Dag, Label, Count}
+use Rattle.pattern_parse.specs.declared.pattern.Kind.{Kind}
+use Rattle.pattern_parse.specs.declared.pattern.Kind.TheVariants.{Plain, Next, Same, Empty, Not, Dag, Label, Count}
 use Rattle.check_lines.specs.declared.fault.CheckFault.{CheckFault}
 use Rattle.check_lines.specs.declared.fault.CheckKind.{CheckKind}
-use Rattle.check_lines.specs.declared.fault.CheckKind.TheVariants.{EmptyPattern, NonEmptyForEmpty, NoEarlierCheck, NotBuilt}
+use Rattle.check_lines.specs.declared.fault.CheckKind.TheVariants.{EmptyPattern, NonEmptyForEmpty, NoEarlierCheck}
 use Rattle.check_lines.specs.declared.suffix.Spelling.TheVariants.{Good, Bad}
 use Rattle.check_lines.specs.declared.suffix.Spelled.{Spelled}
 
@@ -36,16 +34,6 @@ body_start keep line behind =
 -- how long the rest of a line is, without the blanks at its end unless they are kept
 abbrev pub body_length : Bool → List ℕ → ℕ
 body_length keep rest = if keep then length rest else length rest - suffix_len (has Blank) rest
-
--- whether a text has another in it
-abbrev pub has_part : List ℕ → List ℕ → Bool
-has_part text part = is_some (first_from part 0 text)
-
--- whether a body is of a form that is built
-abbrev pub is_built : Bool → List ℕ → Bool
-is_built literal body =
-    nat_le (length body) (2 ^ 16)
-    && (literal || (not (has_part body (codes "{{")) && not (has_part body (codes "[["))))
 
 -- ---- the kinds
 
@@ -70,17 +58,6 @@ asks_earlier Not = false
 asks_earlier Dag = false
 asks_earlier Label = false
 asks_earlier (Count n) = false
-
--- whether a kind isn't built yet
-abbrev pub is_later : Kind → Bool
-is_later Not = true
-is_later Dag = true
-is_later Label = true
-is_later Plain = false
-is_later Next = false
-is_later Same = false
-is_later Empty = false
-is_later (Count n) = false
 
 -- whether a kind counts as an earlier match: each but NOT and DAG
 abbrev pub is_earlier : Kind → Bool
@@ -119,8 +96,6 @@ mistake earlier suffix body head behind from =
     if not (takes_none suffix.kind) && length body == 0 then Some (behind, EmptyPattern)
     else if takes_none suffix.kind && not (length body == 0) then Some (from, NonEmptyForEmpty)
     else if asks_earlier suffix.kind && not earlier then Some (head, NoEarlierCheck)
-    else if is_later suffix.kind then Some (head, NotBuilt)
-    else if not (is_built suffix.literal body) then Some (from, NotBuilt)
     else None
 
 abbrev pub unless_mistaken : ℕ → ℕ → Option (ℕ × CheckKind) → Directive → Result (Option Directive) CheckFault

@@ -7,8 +7,8 @@ use Rattle.std.specs.Str.{bytes_eq}
 use Rattle.tt_base.specs.Occurrence.{begins_with}
 use Rattle.check_lines.specs.Class.{has}
 use Rattle.check_lines.specs.declared.class.Class.TheVariants.{Blank, Digit, Modifier}
-use Rattle.check_lines.specs.declared.directive.Kind.{Kind}
-use Rattle.check_lines.specs.declared.directive.Kind.TheVariants.{Plain, Next, Same, Empty, Not, Dag, Label, Count}
+use Rattle.pattern_parse.specs.declared.pattern.Kind.{Kind}
+use Rattle.pattern_parse.specs.declared.pattern.Kind.TheVariants.{Plain, Next, Same, Empty, Not, Dag, Label, Count}
 use Rattle.check_lines.specs.declared.fault.CheckKind.TheVariants.{BadCount, NotCombination, BadModifier}
 use Rattle.check_lines.specs.declared.suffix.Spelling.{Spelling}
 use Rattle.check_lines.specs.declared.suffix.Spelling.TheVariants.{Good, Bad}

@@ -6,9 +6,10 @@ ghost use Rattle.check_lines.specs.Checks.{AddsLine, AreDirectives, FailIsFirst,
 ghost use Rattle.check_lines.specs.Line.{LiesAmong, LiesOnLine, is_earlier, read_line};
 
 use crate::decision::Prefixes;
-use crate::directive::{Directive, Kind};
+use crate::directive::Directive;
 use crate::fault::{CheckFail, CheckFault, CheckKind};
 use crate::line::{LineAt, Rules, read_line};
+use pattern_parse::Kind;
 use prefix_tree::PrefixTree;
 use std::alloc::Global;
 use tt_base::{Bytes, Items, NoMemory, Place, line_of};

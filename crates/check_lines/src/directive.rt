@@ -1,26 +1,6 @@
 //! What a line of a check file asks for.
+use pattern_parse::Kind;
 use tt_base::Span;
-
-/// How a directive is matched.
-#[derive(Clone, Copy, Debug, PartialEq, Eq)]
-pub enum Kind {
-    /// `CHECK:`: somewhere behind the match before.
-    Plain,
-    /// `CHECK-NEXT:`: on the line after the match before.
-    Next,
-    /// `CHECK-SAME:`: on the line of the match before.
-    Same,
-    /// `CHECK-EMPTY:`: the line after the match before is empty.
-    Empty,
-    /// `CHECK-NOT:`: nowhere between two matches.
-    Not,
-    /// `CHECK-DAG:`: in any order with those beside it.
-    Dag,
-    /// `CHECK-LABEL:`: where a block of the input ends.
-    Label,
-    /// `CHECK-COUNT-3:`: so often, one match behind the other.
-    Count(u32),
-}
 
 /// A directive of a check file. Lines and columns count from 1, in the canonical text.
 #[derive(Clone, Copy, Debug, PartialEq, Eq)]

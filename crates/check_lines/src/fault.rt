@@ -16,8 +16,6 @@ pub enum CheckKind {
     NonEmptyForEmpty,
     /// `CHECK-NEXT: a` before any other directive, at the prefix.
     NoEarlierCheck,
-    /// A form that isn't built yet: `CHECK-NOT: a` at the prefix, `CHECK: {{a}}` at the body.
-    NotBuilt,
     /// No line holds a directive.
     NoChecks,
     /// No directive has the check prefix of this number, from 0.

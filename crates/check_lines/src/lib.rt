@@ -14,5 +14,6 @@ mod suffix;
 
 pub use canonical::{canon, canon_owned};
 pub use checks::read_checks;
-pub use directive::{Directive, Kind};
+pub use directive::Directive;
 pub use fault::{CheckFail, CheckFault, CheckKind};
+pub use pattern_parse::Kind;

@@ -1,16 +1,14 @@
 //! What one line of a check file holds.
 ghost use Rattle.std.specs.Prelude.{◌≡◌, ◌+◌, ◌<◌, ◌≤◌, ◌^◌, ℕ, Err, IfSome, Ok, Some, length};
-ghost use Rattle.check_lines.specs.Line.{LiesAmong, LiesOnLine, asks_earlier, body_length, body_start, checked, directive, fault_at, has_part, is_built, is_later, mistake, read_line, takes_none, unless_mistaken};
+ghost use Rattle.check_lines.specs.Line.{LiesAmong, LiesOnLine, asks_earlier, body_length, body_start, checked, directive, fault_at, mistake, read_line, takes_none, unless_mistaken};
 
 use crate::class::{Class, back_length, front_length};
 use crate::decision::{Mark, Prefixes, decide};
-use crate::directive::{Directive, Kind};
+use crate::directive::Directive;
 use crate::fault::{CheckFault, CheckKind};
 use crate::suffix::{Spelled, Spelling};
-use tt_base::{Place, Span, find_in};
-
-/// The greatest length of a body, in bytes.
-pub const MAX_BODY: usize = 65_536;
+use pattern_parse::Kind;
+use tt_base::{Place, Span};
 
 /// How lines are read.
 #[derive(Drop)]
@@ -162,10 +160,6 @@ fn mistake(earlier: bool, body: &[u8], head: Head, from: usize) -> Option<(usize
         Some((from, CheckKind::NonEmptyForEmpty))
     } else if asks_earlier(kind) && !earlier {
         Some((head.at, CheckKind::NoEarlierCheck))
-    } else if is_later(kind) {
-        Some((head.at, CheckKind::NotBuilt))
-    } else if !is_built(head.suffix.literal, body) {
-        Some((from, CheckKind::NotBuilt))
     } else {
         None
     }
@@ -189,16 +183,6 @@ fn asks_earlier(kind: Kind) -> bool
     match kind {
         Kind::Next | Kind::Same | Kind::Empty => true,
         Kind::Plain | Kind::Not | Kind::Dag | Kind::Label | Kind::Count(_) => false,
-    }
-}
-
-/// Whether a kind isn't built yet.
-fn is_later(kind: Kind) -> bool
-    ensures { result ≡ is_later kind }
-{
-    match kind {
-        Kind::Not | Kind::Dag | Kind::Label => true,
-        Kind::Plain | Kind::Next | Kind::Same | Kind::Empty | Kind::Count(_) => false,
     }
 }
 
@@ -227,17 +211,4 @@ fn body_length(keep: bool, rest: &[u8]) -> usize
     } else {
         rest.len() - back_length(Class::Blank, rest)
     }
-}
-
-/// Whether a body is of a form that is built.
-fn is_built(literal: bool, body: &[u8]) -> bool
-    ensures { result ≡ is_built literal body.now }
-{
-    body.len() <= MAX_BODY && (literal || (!has_part(body, b"{{") && !has_part(body, b"[[")))
-}
-
-fn has_part(text: &[u8], part: &[u8]) -> bool
-    ensures { result ≡ has_part text.now part.now }
-{
-    find_in(text, part, 0, text.len()).is_some()
 }

@@ -3,8 +3,8 @@ ghost use Rattle.std.specs.Prelude.{◌≡◌, ◌+◌, ◌-◌, ◌≤◌, ◌^
 ghost use Rattle.check_lines.specs.Suffix.{LiesWithin, amount, closed, closed_or_combined, combined, counted, counted_by, is_not, is_other, modifier, name_length, named, named_suffix, number_of, suffix, trimmed};
 
 use crate::class::{Class, back_length, front_length};
-use crate::directive::Kind;
 use crate::fault::CheckKind;
+use pattern_parse::Kind;
 
 /// A suffix with its colon: `-NEXT:` or `-COUNT-3{LITERAL}:`.
 #[derive(Clone, Copy, Debug, PartialEq, Eq)]

@@ -1,13 +1,12 @@
 -- One turn of a block's loop.
 -- Shown: a NOT joins those that are pending, a positive part closes them, and at the end nothing or the region that is left is
 -- told. Idea: each is a step of the block, whatever follows it. The hard one is `block_not`.
-use Rattle.std.proofs.Common.{◌≡◌, ℕ, zero, suc, ◌+◌, ◌≤◌, Bool, List, [], ◌∷◌, ◌++◌, All, Option, Some, None, Result, Ok, Err, OnOk, length, take, drop, refl, sym, ◌∙◌, ap, add-one, subst, arith}
+use Rattle.std.proofs.Common.{◌≡◌, ℕ, zero, suc, ◌+◌, ◌≤◌, Bool, List, [], ◌∷◌, ◌++◌, All, Some, None, Result, Ok, Err, OnOk, length, take, drop, sym, ◌∙◌, ap, add-one, subst, arith}
 use Rattle.std.proofs.lemmas.List.{drop_all}
 use Rattle.check_group.specs.Changes.{IsPartWay, IsReady, Variables, changed}
 use Rattle.check_group.specs.declared.fault.Fault.{Fault}
 use Rattle.check_group.proofs.ContinuesLemmas.{changed_none}
 use Rattle.check_group.specs.declared.directive.Check.{Check}
-use Rattle.pattern_parse.specs.declared.pattern.Kind.TheVariants.{Not}
 use Rattle.check_scan.specs.Block.{End, block, closed}
 use Rattle.check_scan.specs.Parts.{IsNot, came_of, ending, part_before, part_of, parts_before, parts_of, positive}
 use Rattle.check_scan.specs.Runs.{Ends, Runs, Turns, TurnsPartWay}

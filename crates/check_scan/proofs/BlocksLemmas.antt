@@ -1,6 +1,6 @@
 -- Where the first block ends.
 -- Shown: up to its label, or nowhere. Idea: induction on the directives before it. The hard one is `first-label`.
-use Rattle.std.proofs.Common.{◌≡◌, ℕ, zero, suc, ◌+◌, ◌<◌, ◌≤◌, List, [], ◌∷◌, Some, None, length, get_or, take, take_all, drop, refl, sym, ◌∙◌, ap, add-one, subst, arith}
+use Rattle.std.proofs.Common.{◌≡◌, ℕ, zero, suc, ◌<◌, ◌≤◌, List, [], ◌∷◌, Some, None, length, get_or, take, take_all, drop, refl, sym, ◌∙◌, ap, add-one, subst, arith}
 use Rattle.std.specs.List.{AllByRecursion}
 use Rattle.pattern_parse.specs.declared.pattern.Kind.{Kind}
 use Rattle.pattern_parse.specs.declared.pattern.Kind.TheVariants.{Plain, Next, Same, Empty, Count, Not, Dag, Label}

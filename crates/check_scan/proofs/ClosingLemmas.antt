@@ -13,8 +13,8 @@ use Rattle.check_group.specs.declared.fault.Fault.{Fault}
 use Rattle.check_group.proofs.ContinuesLemmas.{changed_none, none_changed}
 use Rattle.pattern_scan.specs.Seek.{sought}
 use Rattle.check_scan.specs.Block.{End, block, closed, closed_by, unless}
-use Rattle.check_scan.specs.Parts.{ending, finish}
-use Rattle.check_scan.specs.Runs.{Ends, Runs, Turns, TurnsPartWay}
+use Rattle.check_scan.specs.Parts.{ending}
+use Rattle.check_scan.specs.Runs.{Runs, Turns, TurnsPartWay}
 use Rattle.check_scan.proofs.RunsLemmas.{part_way_front, runs_after, runs_ends, runs_part_way, runs_trans}
 
 -- ---- regions

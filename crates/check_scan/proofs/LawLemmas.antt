@@ -1,5 +1,5 @@
 -- The laws of parts and blocks: each holds each directive once, in order. By induction on the directives.
-use Rattle.std.proofs.Common.{◌≡◌, Bool, true, false, List, [], ◌∷◌, refl, ◌∙◌, ap}
+use Rattle.std.proofs.Common.{◌≡◌, true, false, List, [], ◌∷◌, refl, ◌∙◌, ap}
 use Rattle.std.specs.List.{flat_map}
 use Rattle.pattern_parse.specs.declared.pattern.Kind.{Kind}
 use Rattle.pattern_parse.specs.declared.pattern.Kind.TheVariants.{Plain, Next, Same, Empty, Count, Not, Dag, Label}

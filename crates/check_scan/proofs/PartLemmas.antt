@@ -1,13 +1,13 @@
 -- The part in front of directives.
 -- Shown: a maximal run of DAGs is one part, and so is another directive that isn't a NOT. Idea: induction on the run. The
 -- hard one is `parts_run`.
-use Rattle.std.proofs.Common.{◌≡◌, ℕ, zero, suc, ◌<◌, ◌≤◌, Bool, true, false, List, [], ◌∷◌, ◌++◌, length, get_or, take, drop, refl, sym, ◌∙◌, ap, drop-cons, subst, arith}
+use Rattle.std.proofs.Common.{◌≡◌, ℕ, suc, ◌<◌, ◌≤◌, Bool, true, false, List, [], ◌∷◌, ◌++◌, length, get_or, take, drop, refl, sym, ◌∙◌, ap, drop-cons, subst, arith}
 use Rattle.std.proofs.lemmas.List.{drop_all}
 use Rattle.std.specs.List.{AllByRecursion}
 use Rattle.pattern_parse.specs.declared.pattern.Kind.{Kind}
 use Rattle.pattern_parse.specs.declared.pattern.Kind.TheVariants.{Plain, Next, Same, Empty, Count, Not, Dag, Label}
 use Rattle.check_group.specs.declared.directive.Check.{Check}
-use Rattle.check_scan.specs.Parts.{BeginsOtherwise, BeginsPositive, IsDag, IsNot, Part, alone, dags, ending, finish, joined, negative, part_before, part_by, part_of, parts_before, parts_of, positive}
+use Rattle.check_scan.specs.Parts.{BeginsOtherwise, BeginsPositive, IsDag, IsNot, Part, alone, dags, finish, joined, negative, part_before, part_by, part_of, parts_before, parts_of, positive}
 
 -- ---- runs of DAGs
 

@@ -1,11 +1,8 @@
 -- Loops over parts and over blocks, by what is done and what is left.
 -- Shown: steps behind steps are steps, an end behind steps is an end, and so is a way part of which was gone. Idea: changes
 -- behind changes are one list, and so are faults. The hard one is `runs_trans`.
-use Rattle.std.proofs.Common.{◌≡◌, List, [], ◌∷◌, ◌++◌, All, refl, sym, ◌∙◌, ap, append_assoc, subst, get_or}
+use Rattle.std.proofs.Common.{◌≡◌, List, [], ◌++◌, All, refl, sym, ◌∙◌, ap, append_assoc, subst, get_or}
 use Rattle.check_group.specs.Changes.{Change, IsPartWay, IsReady, Variables, changed}
-use Rattle.check_group.specs.Continues.{Comes}
-use Rattle.check_group.specs.Matches.{Came}
-use Rattle.check_group.specs.declared.answer.Matched.{Matched}
 use Rattle.check_group.specs.declared.directive.Check.{Check}
 use Rattle.check_group.specs.declared.fault.Fault.{Fault}
 use Rattle.check_group.proofs.ContinuesLemmas.{changed_append, changed_none, ready_still}

@@ -1,7 +1,7 @@
 -- Blocks one behind the other.
 -- Shown: a block's start and its end, a label that ends it or isn't found, and what follows. Idea: each is a step or an end,
 -- whatever follows it.
-use Rattle.std.proofs.Common.{All, IfOk, OnErr, ◌≡◌, ℕ, ◌+◌, Bool, true, false, List, [], ◌∷◌, ◌++◌, Result, Ok, Err, Some, None, take, drop, get_or, refl, sym, ◌∙◌, ap, append_assoc, subst}
+use Rattle.std.proofs.Common.{All, IfOk, OnErr, ◌≡◌, ℕ, ◌+◌, Bool, true, false, List, [], ◌∷◌, ◌++◌, Result, Ok, Err, Some, None, take, drop, get_or, sym, ◌∙◌, ap, append_assoc, subst}
 use Rattle.pattern_vars.specs.Vars.{forgotten}
 use Rattle.check_group.specs.Changes.{IsPartWay, IsReady, Variables, changed}
 use Rattle.check_group.specs.Matches.{looked}

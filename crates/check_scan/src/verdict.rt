@@ -1,6 +1,7 @@
 //! The verdict of directives on an input.
-ghost use Rattle.std.specs.Prelude.{◌≡◌, ◌≤◌, [], All, IfOk, OnErr, length};
+ghost use Rattle.std.specs.Prelude.{◌≡◌, ◌≤◌, ◌++◌, [], All, Contains, IfOk, OnErr, length};
 ghost use Rattle.check_group.specs.Changes.{IsPartWay, IsReady};
+ghost use Rattle.check_group.specs.Lies.{FaultLies, numbers_of};
 ghost use Rattle.check_scan.specs.Runs.{Ends};
 ghost use Rattle.check_scan.specs.Verdict.{scan};
 
@@ -18,10 +19,8 @@ pub struct Verdict {
     pub faults: Items<Fault>,
 }
 
-/// What directives find amiss in a text. `always` are the implicit NOTs, and with `var_scope` each block but the first
-/// begins by forgetting the variables whose names don't begin with `$`. The variables are left as the matches bound them;
-/// where memory runs out, as those did that were made up to there.
-pub fn scan<L: Ledger>(
+/// The blocks of a check file, one behind the other.
+fn run_blocks<L: Ledger>(
     alloc: Global,
     checks: &[Check],
     always: &[Check],
@@ -77,4 +76,28 @@ pub fn scan<L: Ledger>(
         Ok(()) => Ok(Verdict { faults }),
         Err(NoMemory) => Err(NoMemory),
     }
+}
+
+/// What directives find amiss in a text. `always` are the implicit NOTs, and with `var_scope` each block but the first
+/// begins by forgetting the variables whose names don't begin with `$`. The variables are left as the matches bound them;
+/// where memory runs out, as those did that were made up to there.
+pub fn scan<L: Ledger>(
+    alloc: Global,
+    checks: &[Check],
+    always: &[Check],
+    var_scope: bool,
+    text: &[u8],
+    vars: &mut Vars,
+    steps: &mut Steps<L>,
+) -> Result<Verdict, NoMemory>
+    requires always_ready { All (IsReady vars.old) always.now }
+    requires ready { All (IsReady vars.old) checks.now }
+    ensures verdict { IfOk result (λ verdict.
+        Ends (scan checks.now always.now var_scope text.now vars.old) vars.old vars.new [] verdict.faults) }
+    ensures lie { IfOk result (λ verdict.
+        All (FaultLies (Contains (numbers_of (checks.now ++ always.now))) (length text.now)) verdict.faults) }
+    ensures part_way { OnErr result
+        (IsPartWay (scan checks.now always.now var_scope text.now vars.old).changes vars.old vars.new) }
+{
+    run_blocks(alloc, checks, always, var_scope, text, vars, steps)
 }

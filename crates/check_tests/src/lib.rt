@@ -1,9 +1,7 @@
-//! Tests of check files and of what they find in an input.
+//! Tests of check files.
 #![tactic(auto)]
 
 #[cfg(test)]
 mod lines;
 #[cfg(test)]
 mod prefixes;
-#[cfg(test)]
-mod verdicts;

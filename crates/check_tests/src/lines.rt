@@ -130,6 +130,10 @@ fn a_suffix_gives_the_kind(rt: HostRuntime) -> Result<(), Fail> {
         ("CHECK-SAME: a", Kind::Same, false),
         ("CHECK-EMPTY:", Kind::Empty, false),
         ("CHECK-EMPTY:  ", Kind::Empty, false),
+        ("CHECK-NOT: a", Kind::Not, false),
+        ("CHECK-DAG: {{a", Kind::Dag, false),
+        ("CHECK-LABEL: [[X]]", Kind::Label, false),
+        ("CHECK-NOT{LITERAL}: a", Kind::Not, true),
         ("CHECK-COUNT-1: a", Kind::Count(1), false),
         ("CHECK-COUNT-03: a", Kind::Count(3), false),
         ("CHECK-COUNT-100000: a", Kind::Count(100_000), false),
@@ -185,10 +189,6 @@ fn the_first_refused_line_refuses_the_file(rt: HostRuntime) {
         ),
         ("CHECK-NEXT: a", 1, 1, CheckKind::NoEarlierCheck),
         ("CHECK-EMPTY:", 1, 1, CheckKind::NoEarlierCheck),
-        ("CHECK-NOT: a", 1, 1, CheckKind::NotBuilt),
-        ("CHECK: {{a", 1, 8, CheckKind::NotBuilt),
-        ("CHECK: a [[X]]", 1, 8, CheckKind::NotBuilt),
-        ("CHECK: a\nb CHECK: {{b\n", 2, 10, CheckKind::NotBuilt),
     ];
     for (text, line, col, kind) in cases {
         match read(alloc, text.as_bytes()) {
@@ -306,27 +306,5 @@ fn a_line_of_a_mebibyte_is_read(rt: HostRuntime) -> Result<(), Fail> {
     assert!(rt; text.len() == (1 << 20) + 9);
     let directives = read(alloc, text.as_slice())?;
     assert_eq!(rt; lines_of(&directives), (1, 1, 1));
-    Ok(())
-}
-
-#[test]
-fn a_body_has_up_to_65536_bytes(rt: HostRuntime) -> Result<(), Fail> {
-    let alloc = rt.alloc();
-    let mut text = Bytes::from_slice(alloc, b"CHECK: ")?;
-    for _ in 0..65_536 {
-        text.append(b"a")?;
-    }
-    assert!(rt; text.len() == 65_543);
-    let directives = read(alloc, text.as_slice())?;
-    assert_eq!(rt; directives.len(), 1);
-    text.append(b"a")?;
-    assert!(rt; text.len() == 65_544);
-    match read(alloc, text.as_slice()) {
-        Err(CheckFail::Bad(fault)) => assert_eq!(rt;
-            (fault.place, fault.kind),
-            (Place { line: 1, col: 8 }, CheckKind::NotBuilt)
-        ),
-        _ => assert!(rt; false, "a body of 65,537 bytes was read"),
-    }
     Ok(())
 }

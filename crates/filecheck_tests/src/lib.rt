@@ -2,4 +2,14 @@
 #![tactic(auto)]
 
 #[cfg(test)]
+mod blocks;
+#[cfg(test)]
+mod hostile;
+#[cfg(test)]
+mod numbers;
+#[cfg(test)]
+mod options;
+#[cfg(test)]
+mod rows;
+#[cfg(test)]
 mod runs;

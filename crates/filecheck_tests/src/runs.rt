@@ -13,11 +13,11 @@ const AMPLE: usize = 1 << 14;
 
 /// The objects of a run. The check file is named `t.txt`; `in.txt` has a line, and `empty.txt` nothing.
 #[derive(Drop)]
-struct Objects {
+pub(crate) struct Objects {
     files: MemFiles,
     input: MemSource,
-    out: MemSink,
-    err: MemSink,
+    pub(crate) out: MemSink,
+    pub(crate) err: MemSink,
 }
 
 fn named(alloc: Global, name: &str, text: &str) -> Result<Named, NoMemory> {
@@ -29,7 +29,7 @@ fn named(alloc: Global, name: &str, text: &str) -> Result<Named, NoMemory> {
 
 impl Objects {
     /// Objects that don't fail.
-    fn new(alloc: Global, checks: &str, input: &str) -> Result<Objects, NoMemory> {
+    pub(crate) fn new(alloc: Global, checks: &str, input: &str) -> Result<Objects, NoMemory> {
         Objects::failing(alloc, checks, input, NEVER, NEVER)
     }
 
@@ -54,7 +54,7 @@ impl Objects {
     }
 
     /// Runs FileCheck on these words, which stand between bars.
-    fn run(&mut self, alloc: Global, line: &str) -> Result<u8, AllocError> {
+    pub(crate) fn run(&mut self, alloc: Global, line: &str) -> Result<u8, AllocError> {
         let mut words = Vec::new(alloc);
         for word in line.split('|') {
             words.push(String::from_str(alloc, word)?)?;
@@ -75,7 +75,7 @@ impl Objects {
 }
 
 /// What is told of a run on these words, a check file and an input, behind its status. Nothing is written to `out`.
-fn told(alloc: Global, line: &str, checks: &str, input: &str) -> Result<Bytes, Fail> {
+pub(crate) fn told(alloc: Global, line: &str, checks: &str, input: &str) -> Result<Bytes, Fail> {
     let mut objects = Objects::new(alloc, checks, input)?;
     let status = objects.run(alloc, line)?;
     let mut told = Bytes::from_slice(alloc, &[b'0' + status.min(9), b' '])?;
@@ -288,8 +288,26 @@ fn each_fault_of_a_line_is_told_with_its_place(rt: HostRuntime) -> Result<(), Fa
         ("CHECK{FOO}: a", "1:1: error: bad modifier\n", "^"),
         ("CHECK:", "1:7: error: empty pattern\n", "      ^"),
         ("CHECK-NEXT: x", "1:1: error: no earlier check\n", "^"),
-        ("; CHECK-NOT: b", "1:3: error: form not built yet\n", "  ^"),
-        ("CHECK: {{a", "1:8: error: form not built yet\n", "       ^"),
+        (
+            "CHECK-NOT: {{a",
+            "1:12: error: no '}}' for this regex\n",
+            "           ^",
+        ),
+        (
+            "CHECK: a{{b**}}",
+            "1:13: error: bad regex: RepeatOfNothing\n",
+            "            ^",
+        ),
+        (
+            "CHECK-LABEL: [[X]]",
+            "1:14: error: variable in a label\n",
+            "             ^",
+        ),
+        (
+            "CHECK: [[#%y,N:]]",
+            "1:12: error: bad format\n",
+            "           ^",
+        ),
     ];
     for (checks, place, mark) in cases {
         let told = told(alloc, "t.txt", checks, "a")?;
@@ -313,11 +331,15 @@ fn the_first_refusal_is_told_alone(rt: HostRuntime) -> Result<(), Fail> {
         ("nofile.txt|--check-prefix=A", "'nofile.txt' not found"),
         ("--nope|t.txt", "unknown option '--nope'"),
         ("no.txt|-x|--nope", "unknown option '-x'"),
-        ("-DX=1|t.txt", "unknown option '-DX=1'"),
         (
-            "--dump-input=never|t.txt",
-            "unknown option '--dump-input=never'",
+            "--dump-input=always|t.txt",
+            "option '--dump-input=always' takes no such value",
         ),
+        ("--generate=3|t.txt", "these options don't fit together"),
+        ("--implicit-check-not= |t.txt", "bad pattern ' '"),
+        ("-D1=a|t.txt", "bad definition '1=a'"),
+        ("-D|X|t.txt", "bad definition 'X'"),
+        ("-DX=a|--check-prefix=A|t.txt", "no checks in 't.txt'"),
         ("--check-prefix", "option '--check-prefix' needs a value"),
         (
             "-allow-empty=1|t.txt",

@@ -1,7 +1,7 @@
 -- Status 3 comes of a fault that was counted.
 -- Shown: a run that stops with status 3 had a file or an input that failed, or a stream that did. By cases on what reading
 -- gave and on the groups of the table: no row of it counts here. The hard one is `fault_of_run`, which joins them.
-use Rattle.std.proofs.Common.{◌≡◌, ◌⊎◌, ℕ, false, List, [], ◌∷◌, Result, Ok, Err, sym, ◌∙◌, ap, subst, inl, inr, arith, ◌+◌, ◌-◌, ◌^◌, ◌≤◌, min}
+use Rattle.std.proofs.Common.{◌≡◌, ◌⊎◌, ℕ, Bool, true, false, ◌==◌, if◌then◌else◌, List, [], ◌∷◌, Option, Some, None, Result, Ok, Err, sym, ◌∙◌, ap, subst, inl, inr, arith, length}
 use Rattle.std.specs.Prelude.{⊤}
 use Rattle.tt_outside.specs.Faults.{Rose}
 use Rattle.tt_run.specs.Run.{FileRead, Files, Source, Stream, Written}
@@ -9,22 +9,28 @@ use Rattle.tt_run.specs.declared.answer.Answer.{Answer}
 use Rattle.tt_run.specs.declared.reading.Reading.{Reading}
 use Rattle.tt_run.specs.declared.reading.Reading.TheVariants.{Whole, Missing, TooLarge, Failed}
 use Rattle.check_lines.specs.Canonical.{canon}
+use Rattle.define_words.specs.Defined.{defined_by}
+use Rattle.filecheck_words.specs.declared.checking.Input.{Input}
+use Rattle.filecheck_words.specs.declared.checking.Input.TheVariants.{Standard, Named}
+use Rattle.filecheck_words.specs.declared.fault.WordsFault.{WordsFault}
+use Rattle.filecheck_words.specs.declared.job.Job.{Job}
+use Rattle.generator.specs.Generated.{checks_text, input_text}
 use Rattle.filecheck_tool.specs.Answer.{answer_to}
-use Rattle.filecheck_tool.specs.Program.{program_in, program_read}
-use Rattle.filecheck_tool.specs.Prefixes.{held_prefixes}
-use Rattle.filecheck_tool.specs.Refusal.{◌>>=◌, accepted}
-use Rattle.filecheck_tool.specs.Run.{InputRead, OutcomeFrom, ProgramFrom}
+use Rattle.filecheck_tool.specs.CheckFile.{check_file_in}
+use Rattle.check_program.specs.declared.program.Program.{Program as Patterns}
+use Rattle.filecheck_tool.specs.Program.{ArePatterns, IsCompiledTo, fresh_of, program_of}
+use Rattle.filecheck_tool.specs.Refusal.{◌>>=◌, LeadsTo, accepted}
+use Rattle.filecheck_tool.specs.Run.{InputRead, OutcomeFrom, ProgramFrom, ReadOrMade}
+use Rattle.filecheck_tool.specs.Start.{start_of}
 use Rattle.filecheck_tool.specs.Verdict.{filled, input_name, verdict, verdict_read}
-use Rattle.filecheck_tool.specs.Words.{asked_by, asked_of, given_by, input_of, one_file}
-use Rattle.opt_words.specs.Reading.{first, last, times}
+use Rattle.filecheck_tool.specs.declared.check_file.CheckFile.{CheckFile}
 use Rattle.filecheck_tool.specs.declared.program.Program.{Program}
 use Rattle.filecheck_tool.specs.declared.refusal.Refusal.{Refusal}
 use Rattle.filecheck_tool.specs.declared.refusal.Stop.{Stop}
 use Rattle.filecheck_tool.specs.declared.refusal.Stop.TheVariants.{Refused, NotReadable}
-use Rattle.filecheck_tool.specs.declared.finding.Finding.{Finding}
-use Rattle.filecheck_tool.specs.declared.words.Asked.{Asked}
-use Rattle.filecheck_tool.specs.declared.words.Input.{Input}
-use Rattle.filecheck_tool.specs.declared.words.Input.TheVariants.{Standard, Named}
+use Rattle.filecheck_tool.specs.declared.report.Report.{Report}
+use Rattle.filecheck_tool.specs.declared.report.Report.TheVariants.{Found, Made}
+use Rattle.filecheck_tool.specs.declared.start.Start.{Start}
 
 -- a step stopped at a fault of reading
 abbrev pub IsFault : {X : Type 0} → Result X Stop → Type 0
@@ -32,21 +38,31 @@ IsFault (Ok x) = ⊥
 IsFault (Err (Refused refusal)) = ⊥
 IsFault (Err (NotReadable name)) = ⊤
 
--- a step that reads nothing stops at none, and what stands behind it may
-no_fault : {X : Type 0} (step : Result X Refusal) → IsFault (accepted step) → ⊥
-no_fault (Ok x) is = is
-no_fault (Err refusal) is = is
+-- behind a step that reads nothing, what it leads to may stop at a fault
+leads_calm : {X Y : Type 0} (step : Result X Refusal) (Next : X → Result Y Stop → Type 0) (end : Result Y Stop)
+    → ((x : X) → Next x end → IsFault end → ⊥) → LeadsTo (accepted step) Next end → IsFault end → ⊥
+leads_calm (Ok x) Next end calm leads is = calm x leads is
+leads_calm (Err refusal) Next end calm leads is = subst IsFault leads is
 
 no_fault_then : {X Y : Type 0} (step : Result X Refusal) (next : X → Result Y Stop) → ((x : X) → IsFault (next x) → ⊥)
     → IsFault (accepted step >>= next) → ⊥
 no_fault_then (Ok x) next calm is = calm x is
 no_fault_then (Err refusal) next calm is = is
 
--- so do the words
-pub words_calm : (words : List (List ℕ)) → IsFault (asked_by words) → ⊥
-words_calm words =
-    no_fault_then (given_by words) _ (λ all. no_fault_then (one_file words (times 7 all) (first 7 all)) _
-    (λ name. no_fault_then (input_of words (last 3 all)) _ (λ input. no_fault_then (held_prefixes words all) _ (λ prefixes is. is))))
+-- patterns and definitions are none
+patterns_calm : (file : CheckFile) (patterns : Result Patterns Stop) (end : Result Program Stop)
+    → ArePatterns file (defined_by file.asked.defines).known patterns
+    → LeadsTo patterns (λ p. LeadsTo (accepted (fresh_of (defined_by file.asked.defines).fresh))
+    (λ fresh end. end ≡ Ok (program_of file p fresh))) end
+    → IsFault end → ⊥
+patterns_calm file (Ok p) end are leads is =
+    leads_calm (fresh_of (defined_by file.asked.defines).fresh) (λ fresh end. end ≡ Ok (program_of file p fresh)) end
+    (λ fresh same is. subst IsFault same is) leads is
+patterns_calm file (Err (Refused refusal)) end are same is = subst IsFault same is
+patterns_calm file (Err (NotReadable name)) end are same is = are
+
+compiled_calm : (file : CheckFile) (end : Result Program Stop) → IsCompiledTo file end → IsFault end → ⊥
+compiled_calm file end (patterns, are, leads) is = patterns_calm file patterns end are leads is
 
 -- ---- counts of files that are read twice
 
@@ -69,49 +85,72 @@ file_later files limit name Missing is = inl is.1
 file_later files limit name TooLarge (size, gives, past, same) = inl same
 file_later files limit name Failed is = inr is.0
 
-program_later : (files : Files) (limit : ℕ) (asked : Result Asked Stop) (program : Result Program Stop)
-    → ProgramFrom files limit asked program → IsLater files.before files.now
-program_later files limit (Err stop) program from = inl from.0
-program_later files limit (Ok asked) program (file, read, same) = file_later files limit asked.name file read
+made_later : (files : Files) (limit : ℕ) (start : Start) (made : Option ℕ) (file : Reading)
+    → ReadOrMade files limit start made file → IsLater files.before files.now
+made_later files limit start (Some count) file is = inl is.0
+made_later files limit start None file is = file_later files limit start.asked.name file is
 
-input_later : (files : Files) (input : Source) (limit : ℕ) (place : Input) (read : Reading) → InputRead files input limit place read
-    → IsLater files.before files.now
-input_later files input limit Standard read is = inl is.0
-input_later files input limit (Named name) read is = file_later files limit name read is.1
+program_later : (files : Files) (limit : ℕ) (job : Result Job WordsFault) (program : Result Program Stop)
+    → ProgramFrom files limit job program → IsLater files.before files.now
+program_later files limit (Err fault) program from = inl from.0
+program_later files limit (Ok job) program (file, read, is) =
+    made_later files limit (start_of job) (start_of job).made file read
 
-outcome_later : (files : Files) (input : Source) (limit : ℕ) (program : Result Program Stop) (outcome : Result (List Finding) Stop)
+input_later : (files : Files) (input : Source) (limit : ℕ) (made : Option ℕ) (place : Input) (read : Reading)
+    → InputRead files input limit made place read → IsLater files.before files.now
+input_later files input limit (Some count) place read is = inl is.0
+input_later files input limit None Standard read is = inl is.0
+input_later files input limit None (Named name) read is = file_later files limit name read is.1
+
+outcome_later : (files : Files) (input : Source) (limit : ℕ) (program : Result Program Stop) (outcome : Result Report Stop)
     → OutcomeFrom files input limit program outcome → IsLater files.before files.now
 outcome_later files input limit (Err stop) outcome from = inl from.0
 outcome_later files input limit (Ok program) outcome (read, is, same) =
-    input_later files input limit program.asked.input read is
+    input_later files input limit program.file.made program.file.asked.input read is
 
 -- ---- what counted a fault
 
+abbrev IsFailed : Reading → Type 0
+IsFailed (Whole bytes) = ⊥
+IsFailed Missing = ⊥
+IsFailed TooLarge = ⊥
+IsFailed Failed = ⊤
+
+failed_is_not_whole : (bytes : List ℕ) → Failed ≡ Whole bytes → ⊥
+failed_is_not_whole bytes same = subst IsFailed same tt
+
+-- a check file that could not be read was a file
+failed_checks : (files : Files) (limit : ℕ) (start : Start) (made : Option ℕ) → ReadOrMade files limit start made Failed
+    → Rose files.before files.now
+failed_checks files limit start (Some count) (rests, same) = absurd (failed_is_not_whole (checks_text count) same)
+failed_checks files limit start None is = is.0
+
 -- where a program stops at a fault, the files counted it
-fault_of_files : (files : Files) (limit : ℕ) (asked : Result Asked Stop) (program : Result Program Stop) → (IsFault asked → ⊥)
-    → ProgramFrom files limit asked program → IsFault program → Rose files.before files.now
-fault_of_files files limit (Err (Refused refusal)) program calm from is = absurd (subst IsFault from.1 is)
-fault_of_files files limit (Err (NotReadable name)) program calm from is = absurd (calm tt)
-fault_of_files files limit (Ok asked) program calm (Whole bytes, read, same) is =
-    absurd (no_fault (program_in asked (canon asked.strict bytes)) (subst IsFault same is))
-fault_of_files files limit (Ok asked) program calm (Missing, read, same) is =
-    let no : IsFault (program_read asked Missing) = subst IsFault same is in absurd no
-fault_of_files files limit (Ok asked) program calm (TooLarge, read, same) is =
-    let no : IsFault (program_read asked TooLarge) = subst IsFault same is in absurd no
-fault_of_files files limit (Ok asked) program calm (Failed, read, same) is = read.0
+fault_of_files : (files : Files) (limit : ℕ) (job : Result Job WordsFault) (program : Result Program Stop)
+    → ProgramFrom files limit job program → IsFault program → Rose files.before files.now
+fault_of_files files limit (Err fault) program from is = absurd (subst IsFault from.1 is)
+fault_of_files files limit (Ok job) program (Whole bytes, read, leads) is =
+    absurd (leads_calm (check_file_in (start_of job) (canon (start_of job).asked.strict bytes)) IsCompiledTo program
+    (λ file compiled is. compiled_calm file program compiled is) leads is)
+fault_of_files files limit (Ok job) program (Missing, read, same) is = absurd (subst IsFault same is)
+fault_of_files files limit (Ok job) program (TooLarge, read, same) is = absurd (subst IsFault same is)
+fault_of_files files limit (Ok job) program (Failed, read, same) is =
+    failed_checks files limit (start_of job) (start_of job).made read
 
 whole_is_none : (program : Program) (bytes : List ℕ) → IsFault (verdict_read program (Whole bytes)) → ⊥
 whole_is_none program bytes =
-    no_fault_then (filled program.asked.allow_empty (input_name program.asked.input) bytes)
-    (λ input. Ok (verdict program (canon program.asked.strict input))) (λ input is. is)
+    no_fault_then (filled program.file.asked.allow_empty (input_name program.file.asked.input) bytes)
+    (λ input. Ok (verdict program (length input) (canon program.file.asked.strict input))) (λ input is. is)
 
-failed_input : (files : Files) (input : Source) (limit : ℕ) (place : Input) → InputRead files input limit place Failed
-    → Rose files.before files.now ⊎ Rose input.before input.now
-failed_input files input limit Standard is = inr is.1.0
-failed_input files input limit (Named name) is = inl is.1.0
+failed_input : (files : Files) (input : Source) (limit : ℕ) (made : Option ℕ) (place : Input)
+    → InputRead files input limit made place Failed → Rose files.before files.now ⊎ Rose input.before input.now
+failed_input files input limit (Some count) place (rests, rest, same) =
+    absurd (failed_is_not_whole (input_text count) same)
+failed_input files input limit None Standard is = inr is.1.0
+failed_input files input limit None (Named name) is = inl is.1.0
 
 -- where the outcome is a fault, the files or the input counted it, or the program was one
-fault_of_input : (files : Files) (input : Source) (limit : ℕ) (program : Result Program Stop) (outcome : Result (List Finding) Stop)
+fault_of_input : (files : Files) (input : Source) (limit : ℕ) (program : Result Program Stop) (outcome : Result Report Stop)
     → OutcomeFrom files input limit program outcome → IsFault outcome
     → IsFault program ⊎ Rose files.before files.now ⊎ Rose input.before input.now
 fault_of_input files input limit (Err (Refused refusal)) outcome from is = absurd (subst IsFault from.2 is)
@@ -123,19 +162,24 @@ fault_of_input files input limit (Ok program) outcome (Missing, read, same) is =
 fault_of_input files input limit (Ok program) outcome (TooLarge, read, same) is =
     let no : IsFault (verdict_read program TooLarge) = subst IsFault same is in absurd no
 fault_of_input files input limit (Ok program) outcome (Failed, read, same) is =
-    inr (failed_input files input limit program.asked.input read)
+    inr (failed_input files input limit program.file.made program.file.asked.input read)
 
 -- an answer of status 3 is to a fault
-answers_fault : (outcome : Result (List Finding) Stop) → (answer_to outcome).status ≡ 3 → IsFault outcome
-answers_fault (Ok []) is = cc
-answers_fault (Ok (finding ∷ later)) is = cc
+made_is_none : (one : Bool) → ◌≡◌ {A = ℕ} (if one then 0 else 1) 3 → ⊥
+made_is_none true is = cc
+made_is_none false is = cc
+
+answers_fault : (outcome : Result Report Stop) → (answer_to outcome).status ≡ 3 → IsFault outcome
+answers_fault (Ok (Found [])) is = cc
+answers_fault (Ok (Found (finding ∷ later))) is = cc
+answers_fault (Ok (Made made)) is = absurd (made_is_none (made.faults == 0) is)
 answers_fault (Err (Refused refusal)) is = cc
 answers_fault (Err (NotReadable name)) is = tt
 
-module _ (first_files last_files : Files) (limit : ℕ) (asked : Result Asked Stop) (program : Result Program Stop) (input : Source)
-    (most : ℕ) (outcome : Result (List Finding) Stop) (message : List ℕ) (answer : Answer) (status : ℕ) (out err : Stream)
-    (calm : IsFault asked → ⊥) (joint : first_files.now ≡ last_files.before)
-    (from : ProgramFrom first_files limit asked program) (read : OutcomeFrom last_files input most program outcome)
+module _ (first_files last_files : Files) (limit : ℕ) (job : Result Job WordsFault) (program : Result Program Stop) (input : Source)
+    (most : ℕ) (outcome : Result Report Stop) (message : List ℕ) (answer : Answer) (status : ℕ) (out err : Stream)
+    (joint : first_files.now ≡ last_files.before)
+    (from : ProgramFrom first_files limit job program) (read : OutcomeFrom last_files input most program outcome)
     (same : answer ≡ answer_to outcome) (is : status ≡ 3) where
   -- a fault of either reading is counted in the end
   in_first : Rose first_files.before first_files.now → Rose first_files.before last_files.now
@@ -146,11 +190,11 @@ module _ (first_files last_files : Files) (limit : ℕ) (asked : Result Asked St
   in_last : Rose last_files.before last_files.now → Rose first_files.before last_files.now
   in_last rose =
       then_rose first_files.before last_files.before last_files.now
-      (subst (λ n. IsLater first_files.before n) joint (program_later first_files limit asked program from)) rose
+      (subst (λ n. IsLater first_files.before n) joint (program_later first_files limit job program from)) rose
 
   by_reading : IsFault program ⊎ Rose last_files.before last_files.now ⊎ Rose input.before input.now
       → Rose first_files.before last_files.now ⊎ Rose input.before input.now ⊎ Rose out.before out.now ⊎ Rose err.before err.now
-  by_reading (inl fault) = inl (in_first (fault_of_files first_files limit asked program calm from fault))
+  by_reading (inl fault) = inl (in_first (fault_of_files first_files limit job program from fault))
   by_reading (inr (inl rose)) = inl (in_last rose)
   by_reading (inr (inr rose)) = inr (inl rose)
 

@@ -1,4 +1,5 @@
-pub mod EachLemmas
 pub mod FaultLemmas
-pub mod PrefixesLemmas
-pub mod WordsLemmas
+pub mod LieLemmas
+pub mod ProgramLemmas
+pub mod TextLemmas
+pub mod VerdictLemmas

@@ -1,23 +1,68 @@
 -- What is told of a run, and its status: a row for each refusal, in the order of docs/PROFILE.md.
 -- After LLVM Command Guide, FileCheck: 0 where the input matches, 1 where it doesn't. Own rules: the texts, and the
 -- statuses 2 for a refusal and 3 for a fault of reading.
-use Rattle.std.specs.Prelude.{ℕ, List, [], ◌∷◌, ◌++◌, codes, Result, Ok, Err}
+use Rattle.std.specs.Prelude.{ℕ, ◌==◌, if◌then◌else◌, List, [], ◌∷◌, ◌++◌, codes, Result, Ok, Err}
+use Rattle.ere_tree.specs.declared.fault.EreKind.{EreKind}
+use Rattle.ere_tree.specs.declared.fault.EreKind.TheVariants as ere
+use Rattle.filecheck_words.specs.declared.fault.WordsFault.{WordsFault}
+use Rattle.filecheck_words.specs.declared.fault.WordsFault.TheVariants.{NotText, Faulty, Misfit, NotOneFile, BadPrefix, PrefixTwice, BadImplicit}
 use Rattle.opt_words.specs.Fault.{text_before, text_behind}
-use Rattle.filecheck_tool.specs.Message.{placed, told, unplaced}
+use Rattle.pattern_parse.specs.declared.fault.PatKind.{PatKind}
+use Rattle.pattern_parse.specs.declared.fault.PatKind.TheVariants as pat
+use Rattle.filecheck_tool.specs.Message.{made_text, placed, told, unplaced}
 use Rattle.filecheck_tool.specs.declared.refusal.Refusal.{Refusal}
-use Rattle.filecheck_tool.specs.declared.refusal.Refusal.TheVariants.{WordNotText, FaultyWord, NotOneFile, BadPrefix, PrefixTwice, NotFound, TooLarge, BadCount, NotCombination, BadModifier, EmptyPattern, NonEmptyForEmpty, NoEarlierCheck, NotBuilt, NoChecks, UnusedPrefix, IsEmpty}
+use Rattle.filecheck_tool.specs.declared.refusal.Refusal.TheVariants.{Words, NotFound, TooLarge, BadCount, NotCombination, BadModifier, EmptyPattern, NonEmptyForEmpty, NoEarlierCheck, NoChecks, UnusedPrefix, BadBody, BadDefine, IsEmpty}
 use Rattle.filecheck_tool.specs.declared.refusal.Stop.{Stop}
 use Rattle.filecheck_tool.specs.declared.refusal.Stop.TheVariants.{Refused, NotReadable}
 use Rattle.filecheck_tool.specs.declared.finding.Finding.{Finding}
+use Rattle.filecheck_tool.specs.declared.report.Made.{Made as Counts}
+use Rattle.filecheck_tool.specs.declared.report.Report.{Report}
+use Rattle.filecheck_tool.specs.declared.report.Report.TheVariants.{Found, Made}
 use Rattle.tt_run.specs.declared.answer.Answer.{Answer}
+
+-- what is told of words
+abbrev pub words_text : WordsFault → List ℕ
+words_text NotText = unplaced (codes "a word isn't text")
+words_text (Faulty fault word) = unplaced (text_before fault ++ word ++ text_behind fault)
+words_text Misfit = unplaced (codes "these options don't fit together")
+words_text NotOneFile = unplaced (codes "one check file is needed")
+words_text (BadPrefix prefix) = unplaced (codes "bad prefix '" ++ prefix ++ codes "'")
+words_text (PrefixTwice prefix) = unplaced (codes "prefix '" ++ prefix ++ codes "' given twice")
+words_text (BadImplicit value) = unplaced (codes "bad pattern '" ++ value ++ codes "'")
+
+-- what is told of a regular expression
+abbrev pub regex_text : EreKind → List ℕ
+regex_text ere.EmptyAlternative = codes "bad regex: EmptyAlternative"
+regex_text ere.RepeatOfNothing = codes "bad regex: RepeatOfNothing"
+regex_text ere.BadBound = codes "bad regex: BadBound"
+regex_text ere.UnclosedGroup = codes "bad regex: UnclosedGroup"
+regex_text ere.StrayClose = codes "bad regex: StrayClose"
+regex_text ere.UnclosedBracket = codes "bad regex: UnclosedBracket"
+regex_text ere.BadRange = codes "bad regex: BadRange"
+regex_text ere.UnknownClass = codes "bad regex: UnknownClass"
+regex_text ere.UnsupportedBracket = codes "bad regex: UnsupportedBracket"
+regex_text ere.BadReference = codes "bad regex: BadReference"
+regex_text ere.TrailingBackslash = codes "bad regex: TrailingBackslash"
+regex_text ere.TooLarge = codes "bad regex: TooLarge"
+regex_text ere.TooDeep = codes "bad regex: TooDeep"
+
+-- what is told of a body
+abbrev pub body_text : PatKind → List ℕ
+body_text pat.TooLong = codes "pattern too long"
+body_text pat.NoRegexEnd = codes "no '}}' for this regex"
+body_text pat.NoBlockEnd = codes "no ']]' for this block"
+body_text (pat.BadRegex fault) = regex_text fault.kind
+body_text pat.BadName = codes "bad name"
+body_text pat.BadFormat = codes "bad format"
+body_text pat.BadExpr = codes "bad expression"
+body_text pat.FormatConflict = codes "formats differ"
+body_text pat.SameLineNumber = codes "number defined on the same line"
+body_text pat.VariableInLabel = codes "variable in a label"
+body_text pat.TooManyReferences = codes "more than nine references"
 
 -- the table
 abbrev pub text_of : Refusal → List ℕ
-text_of WordNotText = unplaced (codes "a word isn't text")
-text_of (FaultyWord fault word) = unplaced (text_before fault ++ word ++ text_behind fault)
-text_of NotOneFile = unplaced (codes "one check file is needed")
-text_of (BadPrefix prefix) = unplaced (codes "bad prefix '" ++ prefix ++ codes "'")
-text_of (PrefixTwice prefix) = unplaced (codes "prefix '" ++ prefix ++ codes "' given twice")
+text_of (Words fault) = words_text fault
 text_of (NotFound name) = unplaced (codes "'" ++ name ++ codes "' not found")
 text_of (TooLarge name) = unplaced (codes "'" ++ name ++ codes "' is too large")
 text_of (BadCount spot) = placed spot (codes "error: bad count")
@@ -26,9 +71,10 @@ text_of (BadModifier spot) = placed spot (codes "error: bad modifier")
 text_of (EmptyPattern spot) = placed spot (codes "error: empty pattern")
 text_of (NonEmptyForEmpty spot) = placed spot (codes "error: EMPTY takes no pattern")
 text_of (NoEarlierCheck spot) = placed spot (codes "error: no earlier check")
-text_of (NotBuilt spot) = placed spot (codes "error: form not built yet")
 text_of (NoChecks name) = unplaced (codes "no checks in '" ++ name ++ codes "'")
 text_of (UnusedPrefix prefix) = unplaced (codes "prefix '" ++ prefix ++ codes "' isn't used")
+text_of (BadBody kind spot) = placed spot (codes "error: " ++ body_text kind)
+text_of (BadDefine value) = unplaced (codes "bad definition '" ++ value ++ codes "'")
 text_of (IsEmpty name) = unplaced (codes "'" ++ name ++ codes "' is empty")
 
 -- an answer that tells something on the error stream alone
@@ -45,7 +91,15 @@ abbrev pub verdict_row : List Finding → Answer
 verdict_row [] = telling 0 []
 verdict_row (finding ∷ later) = telling 1 (told (finding ∷ later))
 
+-- the same of checks and an input that were made, of which counts are told
+abbrev pub made_row : Counts → Answer
+made_row made = record { out = made_text made; err = []; status = if made.faults == 0 then 0 else 1 }
+
+abbrev pub report_row : Report → Answer
+report_row (Found findings) = verdict_row findings
+report_row (Made made) = made_row made
+
 -- what is told of a run
-abbrev pub answer_to : Result (List Finding) Stop → Answer
-answer_to (Ok findings) = verdict_row findings
+abbrev pub answer_to : Result Report Stop → Answer
+answer_to (Ok report) = report_row report
 answer_to (Err stop) = row_of stop

@@ -1,9 +1,9 @@
 pub mod Answer
+pub mod CheckFile
 pub mod Message
-pub mod Prefixes
 pub mod Program
 pub mod Refusal
 pub mod Run
 pub mod Spot
+pub mod Start
 pub mod Verdict
-pub mod Words

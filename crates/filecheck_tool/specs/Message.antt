@@ -6,9 +6,10 @@ use Rattle.std.specs.List.{flat_map}
 use Rattle.filecheck_tool.specs.declared.finding.Finding.{Finding}
 use Rattle.filecheck_tool.specs.declared.finding.Note.{Note}
 use Rattle.filecheck_tool.specs.declared.finding.Remark.{Remark}
-use Rattle.filecheck_tool.specs.declared.finding.Remark.TheVariants.{ScanningFrom, MatchWasHere, PreviousEnded}
+use Rattle.filecheck_tool.specs.declared.finding.Remark.TheVariants.{ScanningFrom, MatchWasHere, PreviousEnded, FoundHere}
 use Rattle.filecheck_tool.specs.declared.finding.Trouble.{Trouble}
-use Rattle.filecheck_tool.specs.declared.finding.Trouble.TheVariants.{NotFound, NotFoundAgain, OnSameLine, NotOnNextLine, NotOnSameLine}
+use Rattle.filecheck_tool.specs.declared.finding.Trouble.TheVariants.{NotFound, NotFoundAgain, OnSameLine, NotOnNextLine, NotOnSameLine, Excluded, Undefined, OutOfRange, DividesByZero, Unreadable}
+use Rattle.filecheck_tool.specs.declared.report.Made.{Made}
 use Rattle.filecheck_tool.specs.declared.spot.Spot.{Spot}
 
 -- the end of a line
@@ -27,6 +28,14 @@ unplaced text = codes "filecheck: error: " ++ text ++ newline
 
 -- ---- what is found amiss
 
+-- names with commas between them
+abbrev pub behind_comma : List ℕ → List ℕ
+behind_comma name = codes ", " ++ name
+
+abbrev pub listed : List (List ℕ) → List ℕ
+listed [] = []
+listed (name ∷ names) = name ++ flat_map behind_comma names
+
 -- what is told of a directive
 abbrev pub trouble_text : Trouble → List ℕ
 trouble_text NotFound = codes "expected string not found in input"
@@ -35,12 +44,18 @@ trouble_text (NotFoundAgain done n) =
 trouble_text OnSameLine = codes "is on the same line as previous match"
 trouble_text NotOnNextLine = codes "is not on the line after the previous match"
 trouble_text NotOnSameLine = codes "is not on the same line as previous match"
+trouble_text Excluded = codes "excluded string found in input"
+trouble_text (Undefined names) = codes "uses undefined variables: " ++ listed names
+trouble_text OutOfRange = codes "numeric value out of range"
+trouble_text DividesByZero = codes "division by zero"
+trouble_text Unreadable = codes "matched number out of range"
 
 -- what is told of a place in the input
 abbrev pub remark_text : Remark → List ℕ
 remark_text ScanningFrom = codes "note: scanning from here"
 remark_text MatchWasHere = codes "note: match was here"
 remark_text PreviousEnded = codes "note: previous match ended here"
+remark_text FoundHere = codes "note: found here"
 
 abbrev pub note_text : Note → List ℕ
 note_text note = placed note.spot (remark_text note.remark)
@@ -57,6 +72,12 @@ told_of finding =
 -- what is told of findings, in order
 abbrev pub told : List Finding → List ℕ
 told findings = flat_map told_of findings
+
+-- what is told of checks and an input that were made
+abbrev pub made_text : Made → List ℕ
+made_text made =
+    codes "generated: checks " ++ decimal made.checks ++ codes ", input bytes " ++ decimal made.bytes
+    ++ codes ", faults " ++ decimal made.faults ++ newline
 
 -- the two that tell a fault of the run itself
 abbrev pub cannot_write : List ℕ

@@ -1,69 +1,97 @@
--- The check file, as a program or a refusal.
--- Own rule: the file is read whole, and its first line that is refused refuses it.
-use Rattle.std.specs.Prelude.{◌≤◌, ◌^◌, ℕ, false, List, [], length, slice_index_or, All, Result, Ok, Err}
-use Rattle.check_lines.specs.Canonical.{canon}
-use Rattle.check_lines.specs.Checks.{IsPlaced, read_checks}
-use Rattle.check_lines.specs.declared.directive.Directive.{Directive}
-use Rattle.check_lines.specs.declared.fault.CheckFault.{CheckFault}
-use Rattle.check_lines.specs.declared.fault.CheckKind.{CheckKind}
-use Rattle.check_lines.specs.declared.fault.CheckKind.TheVariants.{BadCount as IsBadCount, NotCombination as IsNotCombination, BadModifier as IsBadModifier, EmptyPattern as IsEmptyPattern, NonEmptyForEmpty as IsNonEmptyForEmpty, NoEarlierCheck as IsNoEarlierCheck, NotBuilt as IsNotBuilt, NoChecks as HasNoChecks, UnusedPrefix as IsUnused}
-use Rattle.check_run.specs.Program.{compile}
-use Rattle.filecheck_tool.specs.Refusal.{◌>>=◌, accepted}
-use Rattle.filecheck_tool.specs.Spot.{spot_at}
-use Rattle.filecheck_tool.specs.Words.{HasNames}
-use Rattle.filecheck_tool.specs.declared.spot.Spot.{Spot}
+-- The check file with its patterns, as a program or a refusal.
+-- After LLVM Command Guide, FileCheck: --ignore-case, --match-full-lines and -D. Own rule: the first body that is refused
+-- is told, and behind the bodies the first value of -D that defines nothing.
+use Rattle.std.specs.Prelude.{◌≡◌, ℕ, Bool, if◌then◌else◌, List, length, All, Result, Ok, Err}
+use Rattle.check_group.specs.Changes.{IsReady}
+use Rattle.check_program.specs.Compiled.{Body, Formats, IsProgram as HasPatterns, IsRefused, bodies_of}
+use Rattle.check_program.specs.declared.program.CompileOpts.{CompileOpts}
+use Rattle.check_program.specs.declared.program.Program.{Program as Patterns}
+use Rattle.define_words.specs.Defined.{defined_by}
+use Rattle.define_words.specs.Start.{start}
+use Rattle.define_words.specs.declared.defined.Defined.{Defined}
+use Rattle.filecheck_words.specs.declared.checking.Asked.{Asked}
+use Rattle.pattern_parse.specs.declared.fault.PatFault.{PatFault}
+use Rattle.pattern_parse.specs.declared.pattern.Frame.{Frame}
+use Rattle.pattern_parse.specs.declared.pattern.Frame.TheVariants.{Open, Spaced, Tight}
+use Rattle.pattern_vars.specs.declared.binding.Binding.{Binding}
+use Rattle.filecheck_tool.specs.CheckFile.{HasBodies, body_spot, check_file_read, start_behind}
+use Rattle.filecheck_tool.specs.Refusal.{LeadsTo, accepted}
+use Rattle.filecheck_tool.specs.Spot.{behind}
+use Rattle.filecheck_tool.specs.Start.{IsStart}
+use Rattle.filecheck_tool.specs.declared.check_file.CheckFile.{CheckFile}
 use Rattle.filecheck_tool.specs.declared.program.Program.{Program}
 use Rattle.filecheck_tool.specs.declared.refusal.Refusal.{Refusal}
-use Rattle.filecheck_tool.specs.declared.refusal.Refusal.TheVariants.{NotFound, TooLarge, BadCount, NotCombination, BadModifier, EmptyPattern, NonEmptyForEmpty, NoEarlierCheck, NotBuilt, NoChecks, UnusedPrefix}
+use Rattle.filecheck_tool.specs.declared.refusal.Refusal.TheVariants.{BadBody, BadDefine}
 use Rattle.filecheck_tool.specs.declared.refusal.Stop.{Stop}
 use Rattle.filecheck_tool.specs.declared.refusal.Stop.TheVariants.{Refused, NotReadable}
-use Rattle.filecheck_tool.specs.declared.words.Asked.{Asked}
+use Rattle.filecheck_tool.specs.declared.start.Start.{Start}
 use Rattle.tt_run.specs.declared.reading.Reading.{Reading}
-use Rattle.tt_run.specs.declared.reading.Reading.TheVariants.{Whole, Missing, TooLarge as PastLimit, Failed}
 
--- the bytes that reading gave
-abbrev pub whole : List ℕ → Reading → Result (List ℕ) Stop
-whole name (Whole bytes) = Ok bytes
-whole name Missing = Err (Refused (NotFound name))
-whole name PastLimit = Err (Refused (TooLarge name))
-whole name Failed = Err (NotReadable name)
+-- ---- patterns
 
--- a refusal of the check file, with the spot of its offset
-abbrev pub refusal_of : List (List ℕ) → CheckKind → List ℕ → Spot → Refusal
-refusal_of prefixes IsBadCount name spot = BadCount spot
-refusal_of prefixes IsNotCombination name spot = NotCombination spot
-refusal_of prefixes IsBadModifier name spot = BadModifier spot
-refusal_of prefixes IsEmptyPattern name spot = EmptyPattern spot
-refusal_of prefixes IsNonEmptyForEmpty name spot = NonEmptyForEmpty spot
-refusal_of prefixes IsNoEarlierCheck name spot = NoEarlierCheck spot
-refusal_of prefixes IsNotBuilt name spot = NotBuilt spot
-refusal_of prefixes HasNoChecks name spot = NoChecks name
-refusal_of prefixes (IsUnused index) name spot = UnusedPrefix (slice_index_or prefixes index [])
+-- what stands round a match, by --match-full-lines and --strict-whitespace
+abbrev pub frame_by : Bool → Bool → Frame
+frame_by full strict = if full then (if strict then Tight else Spaced) else Open
 
-abbrev pub program_of : Asked → List ℕ → Result (List Directive) CheckFault → Result Program Refusal
-program_of asked text (Ok directives) = Ok (record {
-  asked = asked;
-  text = text;
-  directives = directives;
-  checks = compile text directives;
-})
-program_of asked text (Err fault) =
-    Err (refusal_of asked.prefixes.checks fault.kind asked.name (spot_at asked.name text fault.at))
+abbrev pub opts_of : Asked → CompileOpts
+opts_of asked = record { fold = asked.fold; frame = frame_by asked.full_lines asked.strict }
 
--- the program of a canonical text
-abbrev pub program_in : Asked → List ℕ → Result Program Refusal
-program_in asked text =
-    program_of asked text
-    (read_checks asked.prefixes.checks asked.prefixes.comments asked.allow_unused false false text)
+-- the bodies of a check file, and behind them the implicit ones
+abbrev pub bodies : CheckFile → List Body
+bodies file = bodies_of file.text file.directives file.asked.implicit
 
--- the program of a check file
-abbrev pub program_read : Asked → Reading → Result Program Stop
-program_read asked file = do
-  bytes ← whole asked.name file
-  accepted (program_in asked (canon asked.strict bytes))
+-- the refusal of a body, by its number, at the byte that shows it
+abbrev pub bad_body : CheckFile → ℕ → PatFault → Refusal
+bad_body file number fault = BadBody fault.kind (behind (body_spot file number) fault.at)
 
--- the directives lie in the text, each where it tells, with one of the prefixes; the names of files are text
+-- the patterns of a check file where these formats are known, or the refusal of its first bad body
+abbrev pub ArePatterns : CheckFile → Formats → Result Patterns Stop → Type 0
+ArePatterns file known (Ok patterns) =
+    (later : Formats) × HasPatterns (opts_of file.asked) (length file.directives) known (bodies file) patterns later
+ArePatterns file known (Err (Refused refusal)) =
+    (number : ℕ) × (fault : PatFault) × (later : Formats)
+    × IsRefused (opts_of file.asked) 0 known (bodies file) number fault later × (refusal ≡ bad_body file number fault)
+ArePatterns file known (Err (NotReadable name)) = ⊥
+
+-- ---- definitions
+
+-- what -D defines, unless a value is bad
+abbrev pub fresh_of : Result (List Binding) (List ℕ) → Result (List Binding) Refusal
+fresh_of (Ok fresh) = Ok fresh
+fresh_of (Err value) = Err (BadDefine value)
+
+-- ---- the program
+
+abbrev pub program_of : CheckFile → Patterns → List Binding → Program
+program_of file patterns fresh = record {
+  file = file;
+  checks = patterns.checks;
+  always = patterns.always;
+  vars = start patterns.names fresh;
+}
+
+-- the patterns of a check file, and then what -D defines, come to this program
+abbrev pub IsCompiledWith : CheckFile → Defined → Result Program Stop → Type 0
+IsCompiledWith file values end =
+    (patterns : Result Patterns Stop) × ArePatterns file values.known patterns
+    × LeadsTo patterns (λ p. LeadsTo (accepted (fresh_of values.fresh))
+    (λ fresh end. end ≡ Ok (program_of file p fresh))) end
+
+-- a check file comes to this program, with the values of -D
+abbrev pub IsCompiledTo : CheckFile → Result Program Stop → Type 0
+IsCompiledTo file = IsCompiledWith file (defined_by file.asked.defines)
+
+-- what reading a check file gave comes to this program
+abbrev pub IsProgram : Start → Reading → Result Program Stop → Type 0
+IsProgram start file = LeadsTo (check_file_read start file) IsCompiledTo
+
+-- what is still to be read has a name, and the bodies lie in the text
+pub record IsSoundFile (file : CheckFile) : Type 0 where
+  pub start : IsStart (start_behind file)
+  pub bodies : HasBodies file
+
+-- and each directive's pattern can be sought
 pub record IsSound (program : Program) : Type 0 where
-  pub small : length program.text ≤ 2 ^ 30
-  pub placed : All (IsPlaced program.text (length program.asked.prefixes.checks)) program.directives
-  pub named : HasNames program.asked
+  pub file : IsSoundFile program.file
+  pub ready : All (IsReady program.vars) program.checks
+  pub always_ready : All (IsReady program.vars) program.always

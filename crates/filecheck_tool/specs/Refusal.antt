@@ -19,6 +19,17 @@ abbrev pub ◌>>=◌ : {A B : Type 0} → Result A Stop → (A → Result B Stop
 (Ok x) >>= f = f x
 (Err stop) >>= f = Err stop
 
+-- a step that gave a value leads on to this end; one that stopped is the end
+abbrev pub LeadsTo : {A B : Type 0} → Result A Stop → (A → Result B Stop → Type 0) → Result B Stop → Type 0
+LeadsTo (Ok x) Next end = Next x end
+LeadsTo (Err stop) Next end = end ≡ Err stop
+
+-- what a step came to is one of these ends, unless it wanted memory
+abbrev pub Ends : {X : Type 0} → Result X StepFail → (Result X Stop → Type 0) → Type 0
+Ends (Ok x) IsEnd = IsEnd (Ok x)
+Ends (Err (Stopped stop)) IsEnd = IsEnd (Err stop)
+Ends (Err NoMemory) IsEnd = ⊤
+
 -- a step gave this value, seen by a view, or stopped so, or wanted memory
 abbrev pub Gives : {X Y : Type 0} → (X → Y) → Result X StepFail → Result Y Stop → Type 0
 Gives view (Ok x) step = step ≡ Ok (view x)

@@ -1,30 +1,49 @@
 -- What a run of filecheck does to the objects that it is given.
--- Own rule: the check file is read where the words are accepted, and the input where the check file was accepted.
-use Rattle.std.specs.Prelude.{◌≡◌, ℕ, List, Result, Ok, Err}
+-- Own rule: the check file is read where the words are accepted, and the input where the check file was accepted; with
+-- --generate both are made, and nothing is read.
+use Rattle.std.specs.Prelude.{◌≡◌, ℕ, Option, Some, None, Result, Ok, Err}
+use Rattle.filecheck_words.specs.declared.checking.Input.{Input}
+use Rattle.filecheck_words.specs.declared.checking.Input.TheVariants.{Standard, Named}
+use Rattle.filecheck_words.specs.declared.fault.WordsFault.{WordsFault}
+use Rattle.filecheck_words.specs.declared.job.Job.{Job}
+use Rattle.generator.specs.Generated.{checks_text, input_text}
 use Rattle.tt_run.specs.Run.{Files, FileRead, FilesRest, Source, SourceRead, SourceRests}
 use Rattle.tt_run.specs.declared.reading.Reading.{Reading}
-use Rattle.filecheck_tool.specs.Program.{program_read}
+use Rattle.tt_run.specs.declared.reading.Reading.TheVariants.{Whole}
+use Rattle.filecheck_tool.specs.Program.{IsProgram}
+use Rattle.filecheck_tool.specs.Start.{start_of}
 use Rattle.filecheck_tool.specs.Verdict.{verdict_read}
 use Rattle.filecheck_tool.specs.declared.program.Program.{Program}
+use Rattle.filecheck_tool.specs.declared.refusal.Refusal.TheVariants.{Words}
 use Rattle.filecheck_tool.specs.declared.refusal.Stop.{Stop}
-use Rattle.filecheck_tool.specs.declared.finding.Finding.{Finding}
-use Rattle.filecheck_tool.specs.declared.words.Asked.{Asked}
-use Rattle.filecheck_tool.specs.declared.words.Input.{Input}
-use Rattle.filecheck_tool.specs.declared.words.Input.TheVariants.{Standard, Named}
+use Rattle.filecheck_tool.specs.declared.refusal.Stop.TheVariants.{Refused}
+use Rattle.filecheck_tool.specs.declared.report.Report.{Report}
+use Rattle.filecheck_tool.specs.declared.start.Start.{Start}
+
+-- reading the check file gave this, or this one was made
+abbrev pub ReadOrMade : Files → ℕ → Start → Option ℕ → Reading → Type 0
+ReadOrMade files limit start (Some count) file = FilesRest files × (file ≡ Whole (checks_text count))
+ReadOrMade files limit start None file = FileRead files limit start.asked.name file
+
+abbrev pub ChecksRead : Files → ℕ → Start → Reading → Type 0
+ChecksRead files limit start file = ReadOrMade files limit start start.made file
 
 -- from what the words ask for to the program of the check file: that is read within a limit
-abbrev pub ProgramFrom : Files → ℕ → Result Asked Stop → Result Program Stop → Type 0
-ProgramFrom files limit (Ok asked) program =
-    (file : Reading) × FileRead files limit asked.name file × (program ≡ program_read asked file)
-ProgramFrom files limit (Err stop) program = FilesRest files × (program ≡ Err stop)
+abbrev pub ProgramFrom : Files → ℕ → Result Job WordsFault → Result Program Stop → Type 0
+ProgramFrom files limit (Ok job) program =
+    (file : Reading) × ChecksRead files limit (start_of job) file × IsProgram (start_of job) file program
+ProgramFrom files limit (Err fault) program = FilesRest files × (program ≡ Err (Refused (Words fault)))
 
--- reading the input gave this, and nothing else was read
-abbrev pub InputRead : Files → Source → ℕ → Input → Reading → Type 0
-InputRead files input limit Standard read = FilesRest files × SourceRead input limit read
-InputRead files input limit (Named name) read = SourceRests input × FileRead files limit name read
+-- reading the input gave this, and nothing else was read; or this one was made
+abbrev pub InputRead : Files → Source → ℕ → Option ℕ → Input → Reading → Type 0
+InputRead files input limit (Some count) place read =
+    FilesRest files × SourceRests input × (read ≡ Whole (input_text count))
+InputRead files input limit None Standard read = FilesRest files × SourceRead input limit read
+InputRead files input limit None (Named name) read = SourceRests input × FileRead files limit name read
 
--- from the program to what it finds amiss: the input is read within a limit
-abbrev pub OutcomeFrom : Files → Source → ℕ → Result Program Stop → Result (List Finding) Stop → Type 0
+-- from the program to what is told: the input is read within a limit
+abbrev pub OutcomeFrom : Files → Source → ℕ → Result Program Stop → Result Report Stop → Type 0
 OutcomeFrom files input limit (Ok program) outcome =
-    (read : Reading) × InputRead files input limit program.asked.input read × (outcome ≡ verdict_read program read)
+    (read : Reading) × InputRead files input limit program.file.made program.file.asked.input read
+    × (outcome ≡ verdict_read program read)
 OutcomeFrom files input limit (Err stop) outcome = FilesRest files × SourceRests input × (outcome ≡ Err stop)

@@ -1,30 +1,33 @@
--- The input, and what is found amiss in it.
--- After LLVM Command Guide, FileCheck: --input-file, and an empty input is refused without --allow-empty.
-use Rattle.std.specs.Prelude.{ℕ, Bool, ◌==◌, if◌then◌else◌, List, [], ◌∷◌, ◌++◌, slice_get, slice_index_or, codes, Option, Some, None, Result, Ok, Err}
-use Rattle.std.specs.List.{flat_map}
+-- The input, and what is told of it.
+-- After LLVM Command Guide, FileCheck: --input-file, and an empty input is refused without --allow-empty. Own rule: of
+-- checks and an input that were made, counts are told.
+use Rattle.std.specs.Prelude.{ℕ, Bool, ◌==◌, if◌then◌else◌, List, [], ◌∷◌, codes, length, map, Option, Some, None, Result, Ok, Err}
+use Rattle.check_group.specs.declared.fault.Fault.{Fault}
+use Rattle.check_group.specs.declared.fault.FaultKind.{FaultKind}
+use Rattle.check_group.specs.declared.fault.FaultKind.TheVariants as fault
 use Rattle.check_lines.specs.Canonical.{canon}
-use Rattle.check_lines.specs.declared.directive.Directive.{Directive}
-use Rattle.check_lines.specs.declared.directive.Kind.{Kind}
-use Rattle.check_lines.specs.declared.directive.Kind.TheVariants.{Plain, Next, Same, Empty, Not, Dag, Label, Count}
-use Rattle.check_run.specs.Scan.{check}
-use Rattle.check_run.specs.declared.fault.Fault.{Fault}
-use Rattle.check_run.specs.declared.fault.FaultKind.{FaultKind}
-use Rattle.check_run.specs.declared.fault.FaultKind.TheVariants.{NotFound as IsAbsent, WrongLine, NotSameLine}
-use Rattle.filecheck_tool.specs.Program.{whole}
+use Rattle.check_scan.specs.Verdict.{scan}
+use Rattle.filecheck_words.specs.declared.checking.Input.{Input}
+use Rattle.filecheck_words.specs.declared.checking.Input.TheVariants.{Standard, Named}
+use Rattle.pattern_parse.specs.declared.pattern.Kind.{Kind}
+use Rattle.pattern_parse.specs.declared.pattern.Kind.TheVariants.{Plain, Next, Same, Empty, Not, Dag, Label, Count}
+use Rattle.filecheck_tool.specs.CheckFile.{body_spot, kind_of, name_of, whole}
 use Rattle.filecheck_tool.specs.Refusal.{◌>>=◌, accepted}
 use Rattle.filecheck_tool.specs.Spot.{spot_at}
+use Rattle.filecheck_tool.specs.declared.check_file.CheckFile.{CheckFile}
 use Rattle.filecheck_tool.specs.declared.finding.Finding.{Finding}
 use Rattle.filecheck_tool.specs.declared.finding.Note.{Note}
 use Rattle.filecheck_tool.specs.declared.finding.Remark.{Remark}
-use Rattle.filecheck_tool.specs.declared.finding.Remark.TheVariants.{ScanningFrom, MatchWasHere, PreviousEnded}
+use Rattle.filecheck_tool.specs.declared.finding.Remark.TheVariants.{ScanningFrom, MatchWasHere, PreviousEnded, FoundHere}
 use Rattle.filecheck_tool.specs.declared.finding.Trouble.{Trouble}
-use Rattle.filecheck_tool.specs.declared.finding.Trouble.TheVariants.{NotFound, NotFoundAgain, OnSameLine, NotOnNextLine, NotOnSameLine}
+use Rattle.filecheck_tool.specs.declared.finding.Trouble.TheVariants.{NotFound, NotFoundAgain, OnSameLine, NotOnNextLine, NotOnSameLine, Excluded, Undefined, OutOfRange, DividesByZero, Unreadable}
 use Rattle.filecheck_tool.specs.declared.program.Program.{Program}
 use Rattle.filecheck_tool.specs.declared.refusal.Refusal.{Refusal}
 use Rattle.filecheck_tool.specs.declared.refusal.Refusal.TheVariants.{IsEmpty}
 use Rattle.filecheck_tool.specs.declared.refusal.Stop.{Stop}
-use Rattle.filecheck_tool.specs.declared.words.Input.{Input}
-use Rattle.filecheck_tool.specs.declared.words.Input.TheVariants.{Standard, Named}
+use Rattle.filecheck_tool.specs.declared.report.Made.{Made as Counts}
+use Rattle.filecheck_tool.specs.declared.report.Report.{Report}
+use Rattle.filecheck_tool.specs.declared.report.Report.TheVariants.{Found, Made}
 use Rattle.tt_run.specs.declared.reading.Reading.{Reading}
 
 -- how the input is named
@@ -39,17 +42,6 @@ filled allow name [] = if allow then Ok [] else Err (IsEmpty name)
 
 -- ---- what is told of a fault
 
--- the suffix by which a kind is told
-abbrev pub suffix_of : Kind → List ℕ
-suffix_of Plain = []
-suffix_of Next = codes "-NEXT"
-suffix_of Same = codes "-SAME"
-suffix_of Empty = codes "-EMPTY"
-suffix_of Not = codes "-NOT"
-suffix_of Dag = codes "-DAG"
-suffix_of Label = codes "-LABEL"
-suffix_of (Count n) = codes "-COUNT"
-
 -- what is wrong with a directive of a kind
 abbrev pub absent_of : Kind → ℕ → Trouble
 absent_of (Count n) done = NotFoundAgain done n
@@ -61,52 +53,72 @@ absent_of Not done = NotFound
 absent_of Dag done = NotFound
 absent_of Label done = NotFound
 
+abbrev pub line_trouble : ℕ → Trouble
+line_trouble newlines = if newlines == 0 then OnSameLine else NotOnNextLine
+
 abbrev pub trouble_of : Kind → FaultKind → Trouble
-trouble_of kind (IsAbsent from done) = absent_of kind done
-trouble_of kind (WrongLine found last newlines) = if newlines == 0 then OnSameLine else NotOnNextLine
-trouble_of kind (NotSameLine found last) = NotOnSameLine
+trouble_of kind (fault.NotFound from done) = absent_of kind done
+trouble_of kind (fault.WrongLine found last newlines) = line_trouble newlines
+trouble_of kind (fault.NotSameLine found last) = NotOnSameLine
+trouble_of kind (fault.Excluded found) = Excluded
+trouble_of kind (fault.Undefined names) = Undefined names
+trouble_of kind fault.Range = OutOfRange
+trouble_of kind fault.ZeroDivisor = DividesByZero
+trouble_of kind (fault.Unreadable found) = Unreadable
 
 -- a place in the input
 abbrev pub note_at : Remark → List ℕ → List ℕ → ℕ → Note
 note_at remark name input at = record { remark = remark; spot = spot_at name input at }
 
--- the places in the input that are told with a fault
+abbrev pub one_note : Remark → List ℕ → List ℕ → ℕ → List Note
+one_note remark name input at = note_at remark name input at ∷ []
+
 abbrev pub both_notes : List ℕ → List ℕ → ℕ → ℕ → List Note
 both_notes name input found last = note_at MatchWasHere name input found ∷ note_at PreviousEnded name input last ∷ []
 
+-- the places in the input that are told with a fault
 abbrev pub notes_of : List ℕ → List ℕ → FaultKind → List Note
-notes_of name input (IsAbsent from done) = note_at ScanningFrom name input from ∷ []
-notes_of name input (WrongLine found last newlines) = both_notes name input found last
-notes_of name input (NotSameLine found last) = both_notes name input found last
+notes_of name input (fault.NotFound from done) = one_note ScanningFrom name input from
+notes_of name input (fault.WrongLine found last newlines) = both_notes name input found last
+notes_of name input (fault.NotSameLine found last) = both_notes name input found last
+notes_of name input (fault.Excluded found) = one_note FoundHere name input found
+notes_of name input (fault.Undefined names) = []
+notes_of name input fault.Range = []
+notes_of name input fault.ZeroDivisor = []
+notes_of name input (fault.Unreadable found) = one_note FoundHere name input found
 
 -- what is told of a directive that isn't met
-abbrev pub finding_of : Program → List ℕ → Directive → FaultKind → Finding
-finding_of program input directive kind = record {
-  name = slice_index_or program.asked.prefixes.checks directive.prefix [] ++ suffix_of directive.kind;
-  trouble = trouble_of directive.kind kind;
-  check = spot_at program.asked.name program.text directive.body.from;
-  notes = notes_of (input_name program.asked.input) input kind;
+abbrev pub finding_of : CheckFile → List ℕ → Fault → Finding
+finding_of file input fault = record {
+  name = name_of file fault.directive;
+  trouble = trouble_of (kind_of file fault.directive) fault.kind;
+  check = body_spot file fault.directive;
+  notes = notes_of (input_name file.asked.input) input fault.kind;
 }
 
-abbrev pub finding_by : Program → List ℕ → Option Directive → FaultKind → List Finding
-finding_by program input None kind = []
-finding_by program input (Some directive) kind = finding_of program input directive kind ∷ []
-
--- what is told of a fault
-abbrev pub findings_at : Program → List ℕ → Fault → List Finding
-findings_at program input fault = finding_by program input (slice_get program.directives fault.directive) fault.kind
-
 -- what is told of faults, in order
-abbrev pub findings_of : Program → List ℕ → List Fault → List Finding
-findings_of program input faults = flat_map (findings_at program input) faults
+abbrev pub findings_of : CheckFile → List ℕ → List Fault → List Finding
+findings_of file input faults = map (finding_of file input) faults
 
--- what is found amiss in a canonical input
-abbrev pub verdict : Program → List ℕ → List Finding
-verdict program input = findings_of program input (check program.checks input)
+-- ---- the verdict
 
--- what is found amiss in what reading the input gave
-abbrev pub verdict_read : Program → Reading → Result (List Finding) Stop
+-- what is told of checks and an input that were made
+abbrev pub made_of : ℕ → ℕ → List Fault → Counts
+made_of checks bytes faults = record { checks = checks; bytes = bytes; faults = length faults }
+
+abbrev pub report_of : Option ℕ → CheckFile → ℕ → List ℕ → List Fault → Report
+report_of (Some checks) file count input faults = Made (made_of checks count faults)
+report_of None file count input faults = Found (findings_of file input faults)
+
+-- what is told of an input of so many bytes, by its canonical text
+abbrev pub verdict : Program → ℕ → List ℕ → Report
+verdict program count input =
+    report_of program.file.made program.file count input
+    (scan program.checks program.always program.file.asked.var_scope input program.vars).faults
+
+-- what is told of what reading the input gave
+abbrev pub verdict_read : Program → Reading → Result Report Stop
 verdict_read program read = do
-  bytes ← whole (input_name program.asked.input) read
-  input ← accepted (filled program.asked.allow_empty (input_name program.asked.input) bytes)
-  Ok (verdict program (canon program.asked.strict input))
+  bytes ← whole (input_name program.file.asked.input) read
+  input ← accepted (filled program.file.asked.allow_empty (input_name program.file.asked.input) bytes)
+  Ok (verdict program (length input) (canon program.file.asked.strict input))

@@ -1,23 +1,38 @@
 //! The table: what is told of each refusal, and of a verdict.
-ghost use Rattle.std.specs.Prelude.{◌≡◌, ◌≤◌, ◌++◌, IfOk};
-ghost use Rattle.filecheck_tool.specs.Answer.{answer_to, row_of, telling, text_of, verdict_row};
-ghost use Rattle.filecheck_tool.specs.Message.{unplaced};
+ghost use Rattle.std.specs.Prelude.{◌≡◌, ◌≤◌, ◌++◌, IfOk, codes};
+ghost use Rattle.filecheck_tool.specs.Answer.{answer_to, body_text, made_row, regex_text, report_row, row_of, telling, text_of, verdict_row, words_text};
+ghost use Rattle.filecheck_tool.specs.Message.{placed, unplaced};
 
 use crate::finding::Finding;
-use crate::message::{placed, told, unplaced};
+use crate::message::{made_text, placed, told, unplaced};
 use crate::refusal::{Refusal, Stop};
+use crate::report::{Made, Report};
+use crate::spot::Spot;
+use ere_tree::EreKind;
+use filecheck_words::WordsFault;
+use pattern_parse::PatKind;
 use std::alloc::Global;
-use tt_base::{Bytes, Items, NoMemory};
+use tt_base::{Bytes, NoMemory};
 use tt_run::Answer;
 
 /// What is told of a run.
-pub fn answer_to(alloc: Global, outcome: &Result<Items<Finding>, Stop>) -> Result<Answer, NoMemory>
+pub fn answer_to(alloc: Global, outcome: &Result<Report, Stop>) -> Result<Answer, NoMemory>
     ensures value { IfOk result (λ answer. answer ≡ answer_to outcome.now) }
     ensures small { IfOk result (λ answer. answer.status ≤ 3) }
 {
     match outcome {
-        Ok(findings) => verdict_row(alloc, findings.as_slice()),
+        Ok(report) => report_row(alloc, report),
         Err(stop) => row_of(alloc, stop),
+    }
+}
+
+fn report_row(alloc: Global, report: &Report) -> Result<Answer, NoMemory>
+    ensures value { IfOk result (λ answer. answer ≡ report_row report.now) }
+    ensures small { IfOk result (λ answer. answer.status ≤ 3) }
+{
+    match report {
+        Report::Found(findings) => verdict_row(alloc, findings.as_slice()),
+        Report::Made(made) => made_row(alloc, *made),
     }
 }
 
@@ -29,6 +44,17 @@ fn verdict_row(alloc: Global, findings: &[Finding]) -> Result<Answer, NoMemory>
         return Ok(telling(alloc, 0, Bytes::new(alloc)));
     }
     Ok(telling(alloc, 1, told(alloc, findings)?))
+}
+
+fn made_row(alloc: Global, made: Made) -> Result<Answer, NoMemory>
+    ensures value { IfOk result (λ answer. answer ≡ made_row made) }
+    ensures small { IfOk result (λ answer. answer.status ≤ 3) }
+{
+    Ok(Answer {
+        out: made_text(alloc, made)?,
+        err: Bytes::new(alloc),
+        status: if made.faults == 0 { 0 } else { 1 },
+    })
 }
 
 fn row_of(alloc: Global, stop: &Stop) -> Result<Answer, NoMemory>
@@ -48,13 +74,7 @@ fn text_of(alloc: Global, refusal: &Refusal) -> Result<Bytes, NoMemory>
     ensures { IfOk result (λ text. text ≡ text_of refusal.now) }
 {
     match refusal {
-        Refusal::WordNotText => unplaced(alloc, b"a word isn't text"),
-        Refusal::FaultyWord(fault, word) => {
-            named(alloc, fault.text_before(), word, fault.text_behind())
-        }
-        Refusal::NotOneFile => unplaced(alloc, b"one check file is needed"),
-        Refusal::BadPrefix(prefix) => named(alloc, b"bad prefix '", prefix, b"'"),
-        Refusal::PrefixTwice(prefix) => named(alloc, b"prefix '", prefix, b"' given twice"),
+        Refusal::Words(fault) => words_text(alloc, fault),
         Refusal::NotFound(name) => named(alloc, b"'", name, b"' not found"),
         Refusal::TooLarge(name) => named(alloc, b"'", name, b"' is too large"),
         Refusal::BadCount(spot) => placed(alloc, spot, b"error: bad count"),
@@ -63,11 +83,78 @@ fn text_of(alloc: Global, refusal: &Refusal) -> Result<Bytes, NoMemory>
         Refusal::EmptyPattern(spot) => placed(alloc, spot, b"error: empty pattern"),
         Refusal::NonEmptyForEmpty(spot) => placed(alloc, spot, b"error: EMPTY takes no pattern"),
         Refusal::NoEarlierCheck(spot) => placed(alloc, spot, b"error: no earlier check"),
-        Refusal::NotBuilt(spot) => placed(alloc, spot, b"error: form not built yet"),
         Refusal::NoChecks(name) => named(alloc, b"no checks in '", name, b"'"),
         Refusal::UnusedPrefix(prefix) => named(alloc, b"prefix '", prefix, b"' isn't used"),
+        Refusal::BadBody(kind, spot) => placed_fault(alloc, spot, body_text(*kind)),
+        Refusal::BadDefine(value) => named(alloc, b"bad definition '", value, b"'"),
         Refusal::IsEmpty(name) => named(alloc, b"'", name, b"' is empty"),
     }
+}
+
+/// What is told of words.
+fn words_text(alloc: Global, fault: &WordsFault) -> Result<Bytes, NoMemory>
+    ensures { IfOk result (λ text. text ≡ words_text fault.now) }
+{
+    match fault {
+        WordsFault::NotText => unplaced(alloc, b"a word isn't text"),
+        WordsFault::Faulty(fault, word) => {
+            named(alloc, fault.text_before(), word, fault.text_behind())
+        }
+        WordsFault::Misfit => unplaced(alloc, b"these options don't fit together"),
+        WordsFault::NotOneFile => unplaced(alloc, b"one check file is needed"),
+        WordsFault::BadPrefix(prefix) => named(alloc, b"bad prefix '", prefix, b"'"),
+        WordsFault::PrefixTwice(prefix) => named(alloc, b"prefix '", prefix, b"' given twice"),
+        WordsFault::BadImplicit(value) => named(alloc, b"bad pattern '", value, b"'"),
+    }
+}
+
+/// What is told of a body.
+fn body_text(kind: PatKind) -> &'static [u8]
+    ensures { result.now ≡ body_text kind }
+{
+    match kind {
+        PatKind::TooLong => b"pattern too long",
+        PatKind::NoRegexEnd => b"no '}}' for this regex",
+        PatKind::NoBlockEnd => b"no ']]' for this block",
+        PatKind::BadRegex(fault) => regex_text(fault.kind),
+        PatKind::BadName => b"bad name",
+        PatKind::BadFormat => b"bad format",
+        PatKind::BadExpr => b"bad expression",
+        PatKind::FormatConflict => b"formats differ",
+        PatKind::SameLineNumber => b"number defined on the same line",
+        PatKind::VariableInLabel => b"variable in a label",
+        PatKind::TooManyReferences => b"more than nine references",
+    }
+}
+
+/// What is told of a regular expression.
+fn regex_text(kind: EreKind) -> &'static [u8]
+    ensures { result.now ≡ regex_text kind }
+{
+    match kind {
+        EreKind::EmptyAlternative => b"bad regex: EmptyAlternative",
+        EreKind::RepeatOfNothing => b"bad regex: RepeatOfNothing",
+        EreKind::BadBound => b"bad regex: BadBound",
+        EreKind::UnclosedGroup => b"bad regex: UnclosedGroup",
+        EreKind::StrayClose => b"bad regex: StrayClose",
+        EreKind::UnclosedBracket => b"bad regex: UnclosedBracket",
+        EreKind::BadRange => b"bad regex: BadRange",
+        EreKind::UnknownClass => b"bad regex: UnknownClass",
+        EreKind::UnsupportedBracket => b"bad regex: UnsupportedBracket",
+        EreKind::BadReference => b"bad regex: BadReference",
+        EreKind::TrailingBackslash => b"bad regex: TrailingBackslash",
+        EreKind::TooLarge => b"bad regex: TooLarge",
+        EreKind::TooDeep => b"bad regex: TooDeep",
+    }
+}
+
+/// A message of a body at a spot.
+fn placed_fault(alloc: Global, spot: &Spot, what: &[u8]) -> Result<Bytes, NoMemory>
+    ensures { IfOk result (λ message. message ≡ placed spot.now (codes "error: " ++ what.now)) }
+{
+    let mut text = Bytes::from_slice(alloc, b"error: ")?;
+    text.append(what)?;
+    placed(alloc, spot, text.as_slice())
 }
 
 /// A message about a name.

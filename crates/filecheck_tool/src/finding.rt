@@ -3,7 +3,7 @@ use crate::spot::Spot;
 use tt_base::{Bytes, Items};
 
 /// What is wrong with a directive.
-#[derive(Clone, Copy, Debug, PartialEq, Eq)]
+#[derive(Drop, Debug)]
 pub enum Trouble {
     NotFound,
     /// So many matches of so many are found.
@@ -11,6 +11,14 @@ pub enum Trouble {
     OnSameLine,
     NotOnNextLine,
     NotOnSameLine,
+    /// A NOT is found.
+    Excluded,
+    /// These names have no value.
+    Undefined(Items<Bytes>),
+    OutOfRange,
+    DividesByZero,
+    /// A number of the input is out of range.
+    Unreadable,
 }
 
 /// What is told of a place in the input.
@@ -19,6 +27,7 @@ pub enum Remark {
     ScanningFrom,
     MatchWasHere,
     PreviousEnded,
+    FoundHere,
 }
 
 /// A place in the input, and what is told of it.

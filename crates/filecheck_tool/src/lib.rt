@@ -3,20 +3,22 @@
 #![tactic(auto)]
 
 mod answer;
+mod check_file;
 mod finding;
 mod message;
-mod prefixes;
 mod program;
 mod refusal;
+mod report;
 mod run;
 mod spot;
+mod start;
 mod verdict;
-mod words;
 
+pub use check_file::CheckFile;
 pub use finding::{Finding, Note, Remark, Trouble};
-pub use prefixes::Prefixes;
 pub use program::Program;
 pub use refusal::{Refusal, Stop};
+pub use report::{Made, Report};
 pub use run::{CHECK_LIMIT, INPUT_LIMIT, filecheck_run};
 pub use spot::Spot;
-pub use words::{Asked, Input};
+pub use start::Start;

@@ -1,10 +1,12 @@
 //! The messages of FileCheck, byte by byte.
 ghost use Rattle.std.specs.Prelude.{◌≡◌, ◌++◌, IfOk, OnOk, replicate};
 ghost use Rattle.std.specs.Fmt.{decimal};
-ghost use Rattle.filecheck_tool.specs.Message.{note_text, notes_text, placed, told, told_of, trouble_text, unplaced};
-ghost use Rattle.filecheck_tool.specs.declared.finding.Trouble.TheVariants.{NotFoundAgain};
+ghost use Rattle.std.specs.List.{flat_map};
+ghost use Rattle.filecheck_tool.specs.Message.{behind_comma, listed, made_text, note_text, notes_text, placed, told, told_of, trouble_text, unplaced};
+ghost use Rattle.filecheck_tool.specs.declared.finding.Trouble.TheVariants.{NotFoundAgain, Undefined};
 
 use crate::finding::{Finding, Note, Remark, Trouble};
+use crate::report::Made;
 use crate::spot::Spot;
 use std::alloc::Global;
 use tt_base::{Bytes, NoMemory};
@@ -26,19 +28,19 @@ fn told_of(alloc: Global, finding: &Finding) -> Result<Bytes, NoMemory>
     let mut what = Bytes::from_slice(alloc, b"error: ")?;
     what.append(finding.name.as_slice())?;
     what.append(b": ")?;
-    what.append(trouble_text(alloc, finding.trouble)?.as_slice())?;
+    what.append(trouble_text(alloc, &finding.trouble)?.as_slice())?;
     let mut message = placed(alloc, &finding.check, what.as_slice())?;
     message.append(notes_text(alloc, finding.notes.as_slice())?.as_slice())?;
     Ok(message)
 }
 
 /// What is told of a directive.
-fn trouble_text(alloc: Global, trouble: Trouble) -> Result<Bytes, NoMemory>
-    ensures { IfOk result (λ text. text ≡ trouble_text trouble) }
+fn trouble_text(alloc: Global, trouble: &Trouble) -> Result<Bytes, NoMemory>
+    ensures { IfOk result (λ text. text ≡ trouble_text trouble.now) }
 {
     match trouble {
         Trouble::NotFound => Bytes::from_slice(alloc, b"expected string not found in input"),
-        Trouble::NotFoundAgain(done, n) => counted_text(alloc, done, n),
+        Trouble::NotFoundAgain(done, n) => counted_text(alloc, *done, *n),
         Trouble::OnSameLine => Bytes::from_slice(alloc, b"is on the same line as previous match"),
         Trouble::NotOnNextLine => {
             Bytes::from_slice(alloc, b"is not on the line after the previous match")
@@ -46,7 +48,43 @@ fn trouble_text(alloc: Global, trouble: Trouble) -> Result<Bytes, NoMemory>
         Trouble::NotOnSameLine => {
             Bytes::from_slice(alloc, b"is not on the same line as previous match")
         }
+        Trouble::Excluded => Bytes::from_slice(alloc, b"excluded string found in input"),
+        Trouble::Undefined(names) => names_text(alloc, names.as_slice()),
+        Trouble::OutOfRange => Bytes::from_slice(alloc, b"numeric value out of range"),
+        Trouble::DividesByZero => Bytes::from_slice(alloc, b"division by zero"),
+        Trouble::Unreadable => Bytes::from_slice(alloc, b"matched number out of range"),
     }
+}
+
+fn names_text(alloc: Global, names: &[Bytes]) -> Result<Bytes, NoMemory>
+    ensures { IfOk result (λ text. text ≡ trouble_text (Undefined names.now)) }
+{
+    let mut text = Bytes::from_slice(alloc, b"uses undefined variables: ")?;
+    append_listed(&mut text, names)?;
+    Ok(text)
+}
+
+/// Adds names with commas between them.
+fn append_listed(text: &mut Bytes, names: &[Bytes]) -> Result<(), NoMemory>
+    ensures { OnOk result (text.new ≡ text.old ++ listed names.now) }
+{
+    match names.split_first() {
+        Some((name, later)) => {
+            text.append(name.as_slice())?;
+            append_later(text, later)
+        }
+        None => Ok(()),
+    }
+}
+
+fn append_later(text: &mut Bytes, names: &[Bytes]) -> Result<(), NoMemory>
+    ensures { OnOk result (text.new ≡ text.old ++ flat_map behind_comma names.now) }
+{
+    for name in names {
+        text.append(b", ")?;
+        text.append(name.as_slice())?;
+    }
+    Ok(())
 }
 
 fn counted_text(alloc: Global, done: u32, n: u32) -> Result<Bytes, NoMemory>
@@ -78,7 +116,22 @@ fn note_text(alloc: Global, note: &Note) -> Result<Bytes, NoMemory>
         Remark::ScanningFrom => placed(alloc, &note.spot, b"note: scanning from here"),
         Remark::MatchWasHere => placed(alloc, &note.spot, b"note: match was here"),
         Remark::PreviousEnded => placed(alloc, &note.spot, b"note: previous match ended here"),
+        Remark::FoundHere => placed(alloc, &note.spot, b"note: found here"),
     }
+}
+
+/// What is told of checks and an input that were made.
+pub fn made_text(alloc: Global, made: Made) -> Result<Bytes, NoMemory>
+    ensures { IfOk result (λ text. text ≡ made_text made) }
+{
+    let mut text = Bytes::from_slice(alloc, b"generated: checks ")?;
+    append_count(alloc, &mut text, made.checks)?;
+    text.append(b", input bytes ")?;
+    append_count(alloc, &mut text, made.bytes)?;
+    text.append(b", faults ")?;
+    append_count(alloc, &mut text, made.faults)?;
+    text.append(b"\n")?;
+    Ok(text)
 }
 
 /// A message at a spot.
@@ -119,6 +172,15 @@ fn append_number(alloc: Global, message: &mut Bytes, number: u32) -> Result<(), 
     ensures { OnOk result (message.new ≡ message.old ++ decimal number) }
 {
     match number.to_string(alloc) {
+        Ok(text) => message.append(text.as_bytes()),
+        Err(_) => Err(NoMemory),
+    }
+}
+
+fn append_count(alloc: Global, message: &mut Bytes, count: u64) -> Result<(), NoMemory>
+    ensures { OnOk result (message.new ≡ message.old ++ decimal count) }
+{
+    match count.to_string(alloc) {
         Ok(text) => message.append(text.as_bytes()),
         Err(_) => Err(NoMemory),
     }

@@ -1,16 +1,21 @@
-//! The check file.
-ghost use Rattle.std.specs.Prelude.{◌≡◌, ◌≤◌, ◌^◌, [], IfOk, length, slice_index_or};
-ghost use Rattle.filecheck_tool.specs.Program.{IsSound, program_in, program_read, refusal_of, whole};
-ghost use Rattle.filecheck_tool.specs.Refusal.{Gives, accepted};
-ghost use Rattle.filecheck_tool.specs.Spot.{spot_at};
-ghost use Rattle.filecheck_tool.specs.Words.{HasNames};
+//! The check file with its patterns.
+ghost use Rattle.std.specs.Prelude.{◌≡◌, ◌^◌, IfOk};
+ghost use Rattle.check_program.specs.Ready.{IsScannable};
+ghost use Rattle.filecheck_tool.specs.CheckFile.{HasBodies};
+ghost use Rattle.filecheck_tool.specs.Program.{ArePatterns, IsCompiledTo, IsCompiledWith, IsProgram, IsSound, IsSoundFile, bad_body, frame_by, fresh_of};
+ghost use Rattle.filecheck_tool.specs.Refusal.{Ends, Gives, accepted};
+ghost use Rattle.filecheck_tool.specs.Start.{IsStart};
 ghost use Rattle.tt_run.specs.Run.{IsShort};
 
-use crate::refusal::{Refusal, StepFail, Stop, refuse};
-use crate::spot::spot_at;
-use crate::words::Asked;
-use check_lines::{CheckFail, CheckFault, CheckKind, Directive, canon_owned, read_checks};
-use check_run::compile;
+use crate::check_file::{CheckFile, check_file_read};
+use crate::refusal::{Refusal, StepFail, refuse};
+use crate::spot::behind;
+use crate::start::Start;
+use check_group::Check;
+use check_program::{CompileFail, CompileOpts, Program as Patterns, compile};
+use define_words::{Defined, defined_by, start_vars};
+use pattern_parse::{Formats, Frame, PatFault};
+use pattern_vars::{Bindings, Vars};
 use std::alloc::Global;
 use tt_base::{Bytes, Items, NoMemory};
 use tt_run::Reading;
@@ -18,114 +23,122 @@ use tt_run::Reading;
 /// A check file that was accepted.
 #[derive(Drop, Debug)]
 pub struct Program {
-    /// What the words ask for.
-    pub asked: Asked,
-    /// The canonical text of the check file.
-    pub text: Bytes,
-    /// Its directives, whose bodies lie in the text.
-    pub directives: Items<Directive>,
-    /// The same with the texts that they look for.
-    pub checks: check_run::Program,
+    pub file: CheckFile,
+    /// Its directives with their patterns.
+    pub checks: Items<Check>,
+    /// The implicit directives with theirs.
+    pub always: Items<Check>,
+    /// The variables where checking begins.
+    pub vars: Vars,
+}
+
+/// The program of the check file that reading gave.
+pub fn program_read(alloc: Global, start: Start, file: Reading) -> Result<Program, StepFail>
+    requires short { IsShort (2 ^ 30) file }
+    requires sound { IsStart start }
+    ensures value { Ends result (IsProgram start file) }
+    ensures sound { IfOk result IsSound }
+{
+    let file = check_file_read(alloc, start, file)?;
+    compiled(alloc, file)
 }
 
 /// The program of a check file.
-pub fn program_read(alloc: Global, asked: Asked, file: Reading) -> Result<Program, StepFail>
-    requires short { IsShort (2 ^ 30) file }
-    requires named { HasNames asked }
-    ensures value { Gives (λ program. program) result (program_read asked file) }
+fn compiled(alloc: Global, file: CheckFile) -> Result<Program, StepFail>
+    requires sound { IsSoundFile file }
+    ensures value { Ends result (IsCompiledTo file) }
     ensures sound { IfOk result IsSound }
 {
-    let bytes = whole(alloc, asked.name.as_slice(), file)?;
-    let text = canon_owned(bytes, asked.strict);
-    program_in(alloc, asked, text)
+    let values = defined_by(alloc, file.asked.defines.as_slice())?;
+    compiled_with(alloc, file, values)
 }
 
-/// The bytes that reading gave.
-pub fn whole(alloc: Global, name: &[u8], reading: Reading) -> Result<Bytes, StepFail>
-    requires { IsShort (2 ^ 30) reading }
-    ensures value { Gives (λ bytes. bytes) result (whole name.now reading) }
-    ensures short { IfOk result (λ bytes. length bytes ≤ 2 ^ 30) }
-{
-    let name = Bytes::from_slice(alloc, name)?;
-    match reading {
-        Reading::Whole(bytes) => Ok(bytes),
-        Reading::Missing => refuse(Refusal::NotFound(name)),
-        Reading::TooLarge => refuse(Refusal::TooLarge(name)),
-        Reading::Failed => Err(StepFail::Stopped(Stop::NotReadable(name))),
-    }
-}
-
-fn program_in(alloc: Global, asked: Asked, text: Bytes) -> Result<Program, StepFail>
-    requires small { length text ≤ 2 ^ 30 }
-    requires named { HasNames asked }
-    ensures value { Gives (λ program. program) result (accepted (program_in asked text)) }
+/// The same: the patterns are compiled, and then the variables are defined.
+#[tactic(auto, using(crate::proofs::ProgramLemmas::patterns_stop))]
+fn compiled_with(alloc: Global, file: CheckFile, values: Defined) -> Result<Program, StepFail>
+    requires sound { IsSoundFile file }
+    ensures value { Ends result (IsCompiledWith file values) }
     ensures sound { IfOk result IsSound }
 {
-    match read_checks(
+    let Defined { mut known, fresh } = values;
+    let Patterns {
+        checks,
+        always,
+        names,
+    } = patterns_of(alloc, &file, &mut known)?;
+    let fresh = match fresh_of(fresh) {
+        Ok(fresh) => fresh,
+        Err(fail) => return Err(fail),
+    };
+    let vars = start_vars(alloc, names, fresh)?;
+    Ok(Program {
+        file,
+        checks,
+        always,
+        vars,
+    })
+}
+
+/// The patterns of a check file's bodies, where these formats are known.
+fn patterns_of(alloc: Global, file: &CheckFile, known: &mut Formats) -> Result<Patterns, StepFail>
+    requires bodies { HasBodies file.now }
+    ensures value { Ends result (ArePatterns file.now known.old) }
+    ensures scannable { IfOk result IsScannable }
+{
+    let asked = &file.asked;
+    let opts = CompileOpts {
+        fold: asked.fold,
+        frame: frame_by(asked.full_lines, asked.strict),
+    };
+    match compile(
         alloc,
-        text.as_slice(),
-        asked.prefixes.checks.as_slice(),
-        asked.prefixes.comments.as_slice(),
-        asked.allow_unused,
-        false,
-        false,
+        file.text.as_slice(),
+        file.directives.as_slice(),
+        asked.implicit.as_slice(),
+        &opts,
+        known,
     ) {
-        Ok(directives) => {
-            let checks = compile(alloc, text.as_slice(), directives.as_slice())?;
-            Ok(Program {
-                asked,
-                text,
-                directives,
-                checks,
-            })
+        Ok(patterns) => Ok(patterns),
+        Err(CompileFail::Bad { directive, fault }) => {
+            refuse(bad_body(alloc, file, directive, fault)?)
         }
-        Err(CheckFail::Bad(fault)) => refuse(refusal_of(
-            alloc,
-            asked.name.as_slice(),
-            text.as_slice(),
-            asked.prefixes.checks.as_slice(),
-            fault,
-        )?),
-        Err(CheckFail::NoMemory) => Err(StepFail::NoMemory),
+        Err(CompileFail::NoMemory) => Err(StepFail::NoMemory),
     }
 }
 
-/// A refusal of the check file.
-fn refusal_of(
+/// What stands round a match on its line.
+fn frame_by(full_lines: bool, strict: bool) -> Frame
+    ensures { result ≡ frame_by full_lines strict }
+{
+    if !full_lines {
+        Frame::Open
+    } else if strict {
+        Frame::Tight
+    } else {
+        Frame::Spaced
+    }
+}
+
+/// The refusal of a body, by its number.
+fn bad_body(
     alloc: Global,
-    name: &[u8],
-    text: &[u8],
-    prefixes: &[Bytes],
-    fault: CheckFault,
+    file: &CheckFile,
+    number: usize,
+    fault: PatFault,
 ) -> Result<Refusal, NoMemory>
-    requires within { fault.at ≤ length text.now }
-    requires small { length text.now ≤ 2 ^ 30 }
-    ensures { IfOk result (λ refusal. refusal
-        ≡ refusal_of prefixes.now fault.kind name.now (spot_at name.now text.now fault.at)) }
+    requires { HasBodies file.now }
+    ensures { IfOk result (λ refusal. refusal ≡ bad_body file.now number fault) }
 {
-    let spot = spot_at(alloc, name, text, fault.at)?;
-    match fault.kind {
-        CheckKind::BadCount => Ok(Refusal::BadCount(spot)),
-        CheckKind::NotCombination => Ok(Refusal::NotCombination(spot)),
-        CheckKind::BadModifier => Ok(Refusal::BadModifier(spot)),
-        CheckKind::EmptyPattern => Ok(Refusal::EmptyPattern(spot)),
-        CheckKind::NonEmptyForEmpty => Ok(Refusal::NonEmptyForEmpty(spot)),
-        CheckKind::NoEarlierCheck => Ok(Refusal::NoEarlierCheck(spot)),
-        CheckKind::NotBuilt => Ok(Refusal::NotBuilt(spot)),
-        CheckKind::NoChecks => Ok(Refusal::NoChecks(spot.name)),
-        CheckKind::UnusedPrefix(index) => Ok(Refusal::UnusedPrefix(Bytes::from_slice(
-            alloc,
-            prefix_at(prefixes, index),
-        )?)),
-    }
+    let spot = file.body_spot(alloc, number)?;
+    Ok(Refusal::BadBody(fault.kind, behind(spot, fault.at)))
 }
 
-/// The prefix of a number, or nothing past the last.
-fn prefix_at(prefixes: &[Bytes], index: usize) -> &[u8]
-    ensures { result.now ≡ slice_index_or prefixes.now index [] }
+/// What `-D` defines, unless a value is bad.
+fn fresh_of(fresh: Result<Bindings, Bytes>) -> Result<Bindings, StepFail>
+    ensures { Gives (λ fresh. fresh) result (accepted (fresh_of fresh)) }
 {
-    match prefixes.get(index) {
-        Some(prefix) => prefix.as_slice(),
-        None => b"",
+    match fresh {
+        Ok(fresh) => Ok(fresh),
+        Err(value) => refuse(Refusal::BadDefine(value)),
     }
 }

@@ -5,22 +5,15 @@ ghost use Rattle.filecheck_tool.specs.declared.refusal.Stop.TheVariants.{Refused
 ghost use Rattle.filecheck_tool.specs.declared.refusal.StepFail.TheVariants.{Stopped};
 
 use crate::spot::Spot;
-use opt_words::WordFault;
+use filecheck_words::WordsFault;
+use pattern_parse::PatKind;
 use tt_base::{Bytes, NoMemory};
 
 /// Why words, check file or input aren't accepted, in the order of docs/PROFILE.md.
 #[derive(Drop, Debug)]
 pub enum Refusal {
-    /// One of the words isn't text.
-    WordNotText,
-    /// `--nope`, or an option without its value: what is wrong, and the word.
-    FaultyWord(WordFault, Bytes),
-    /// No plain word, or more than one.
-    NotOneFile,
-    /// `--check-prefix=1A`: not a letter, and then letters, digits, `-` and `_`.
-    BadPrefix(Bytes),
-    /// `--check-prefixes=A,A`: an equal one holds before it.
-    PrefixTwice(Bytes),
+    /// The words, as `--nope`.
+    Words(WordsFault),
     /// No file has this name.
     NotFound(Bytes),
     /// It has more bytes than the limit.
@@ -37,12 +30,14 @@ pub enum Refusal {
     NonEmptyForEmpty(Spot),
     /// `CHECK-NEXT: a` before any other directive, at the prefix.
     NoEarlierCheck(Spot),
-    /// `CHECK-NOT: a`, at the prefix, or `CHECK: {{a}}`, at the body.
-    NotBuilt(Spot),
     /// `MYCHECK: a` alone: no line holds a directive.
     NoChecks(Bytes),
     /// No directive has this prefix.
     UnusedPrefix(Bytes),
+    /// `CHECK: a{{b`, at the byte of the body that shows it.
+    BadBody(PatKind, Spot),
+    /// `-DX`: the value doesn't define anything.
+    BadDefine(Bytes),
     /// The input has no byte.
     IsEmpty(Bytes),
 }

@@ -8,22 +8,26 @@ ghost use Rattle.opt_words.specs.Step.{texts};
 ghost use Rattle.tt_run.specs.Run.{FileRead, IsShort};
 ghost use Rattle.filecheck_tool.specs.Answer.{answer_to};
 ghost use Rattle.filecheck_tool.specs.Message.{cannot_write, out_of_memory};
-ghost use Rattle.filecheck_tool.specs.Program.{IsSound};
-ghost use Rattle.filecheck_tool.specs.Run.{InputRead, OutcomeFrom, ProgramFrom};
-ghost use Rattle.filecheck_tool.specs.Words.{IsNamed, asked_by};
+ghost use Rattle.filecheck_tool.specs.Program.{IsSound, IsSoundFile};
+ghost use Rattle.filecheck_tool.specs.Run.{ChecksRead, InputRead, OutcomeFrom, ProgramFrom};
+ghost use Rattle.filecheck_tool.specs.Start.{IsStart};
 ghost use Rattle.filecheck_tool.specs.declared.program.Program.{Program};
 ghost use Rattle.filecheck_tool.specs.declared.refusal.Stop.{Stop};
-ghost use Rattle.filecheck_tool.specs.declared.finding.Finding.{Finding};
+ghost use Rattle.filecheck_tool.specs.declared.report.Report.{Report};
+ghost use Rattle.filecheck_words.specs.Job.{asked_by};
 
 use crate::answer::answer_to;
-use crate::finding::Finding;
+use crate::check_file::CheckFile;
 use crate::program::{Program, program_read};
-use crate::refusal::{StepFail, Stop, settled};
+use crate::refusal::{Refusal, Stop, settled};
+use crate::report::Report;
+use crate::start::{Start, start_of};
 use crate::verdict::verdict_read;
-use crate::words::{Input, asked_by};
+use filecheck_words::{Input, WordsFail, asked_by};
+use generator::{checks_text, input_text};
 use std::alloc::Global;
 use std::str::from_utf8;
-use tt_base::{Items, NoMemory};
+use tt_base::NoMemory;
 use tt_outside::{Files, Sink, Source};
 use tt_run::{Reading, read_named, read_source, tell, write_answer};
 
@@ -44,7 +48,7 @@ pub fn filecheck_run<F: Files, I: Source, O: Sink, E: Sink>(
     out: &mut O,
     err: &mut E,
 ) -> u8
-    ensures answer { result ≢ 4 → (middle : F) × (program : Result Program Stop) × (outcome : Result (List Finding) Stop)
+    ensures answer { result ≢ 4 → (middle : F) × (program : Result Program Stop) × (outcome : Result Report Stop)
         × ProgramFrom (files F.held F.steady F.faults from.old middle) (2 ^ 24) (asked_by (texts words.now)) program
         × (F.held middle ≡ F.held from.old)
         × OutcomeFrom (files F.held F.steady F.faults middle from.new)
@@ -84,22 +88,23 @@ fn program_from<F: Files>(
     ensures sound { IfOk result (λ program. IfOk program IsSound) }
     ensures files_stay { F.held from.new ≡ F.held from.old }
 {
-    let asked = match asked_by(alloc, words) {
-        Ok(asked) => asked,
-        Err(StepFail::Stopped(stop)) => return Ok(Err(stop)),
-        Err(StepFail::NoMemory) => return Err(NoMemory),
+    let job = match asked_by(alloc, words) {
+        Ok(job) => job,
+        Err(WordsFail::Bad(fault)) => return Ok(Err(Stop::Refused(Refusal::Words(fault)))),
+        Err(WordsFail::NoMemory) => return Err(NoMemory),
     };
-    let file = read_file(alloc, asked.name.as_slice(), CHECK_LIMIT, from)?;
-    settled(program_read(alloc, asked, file))
+    let start = start_of(alloc, job)?;
+    let file = read_checks(alloc, &start, from)?;
+    settled(program_read(alloc, start, file))
 }
 
-/// What the program finds amiss in the input.
+/// What is found amiss in the input.
 fn outcome_from<F: Files, I: Source>(
     alloc: Global,
     program: Result<Program, Stop>,
     from: &mut F,
     input: &mut I,
-) -> Result<Result<Items<Finding>, Stop>, NoMemory>
+) -> Result<Result<Report, Stop>, NoMemory>
     requires { IfOk program IsSound }
     ensures value { IfOk result (OutcomeFrom (files F.held F.steady F.faults from.old from.new)
         (source I.left I.steady I.faults input.old input.new) (2 ^ 26) program) }
@@ -108,35 +113,51 @@ fn outcome_from<F: Files, I: Source>(
 {
     match program {
         Ok(program) => {
-            let read = read_input(alloc, &program.asked.input, from, input)?;
-            settled(verdict_read(alloc, &program, read))
+            let read = read_input(alloc, &program.file, from, input)?;
+            settled(verdict_read(alloc, program, read))
         }
         Err(stop) => Ok(Err(stop)),
     }
 }
 
-/// What reading the input gave.
+/// What reading the check file gave, or the one that is made.
+fn read_checks<F: Files>(alloc: Global, start: &Start, from: &mut F) -> Result<Reading, NoMemory>
+    requires { IsStart start.now }
+    ensures read { IfOk result (ChecksRead (files F.held F.steady F.faults from.old from.new) (2 ^ 24) start.now) }
+    ensures short { IfOk result (IsShort (2 ^ 24)) }
+    ensures files_stay { F.held from.new ≡ F.held from.old }
+{
+    match start.made {
+        Some(count) => Ok(Reading::Whole(checks_text(alloc, count)?)),
+        None => read_file(alloc, start.asked.name.as_slice(), CHECK_LIMIT, from),
+    }
+}
+
+/// What reading the input gave, or the one that is made.
 fn read_input<F: Files, I: Source>(
     alloc: Global,
-    place: &Input,
+    file: &CheckFile,
     from: &mut F,
     input: &mut I,
 ) -> Result<Reading, NoMemory>
-    requires { IsNamed place.now }
+    requires { IsSoundFile file.now }
     ensures read { IfOk result (InputRead (files F.held F.steady F.faults from.old from.new)
-        (source I.left I.steady I.faults input.old input.new) (2 ^ 26) place.now) }
+        (source I.left I.steady I.faults input.old input.new) (2 ^ 26) file.now.made file.now.asked.input) }
     ensures short { IfOk result (IsShort (2 ^ 26)) }
     ensures taken { TakesAtMost (I.left input.old) (I.left input.new) (2 ^ 26 + 1) }
     ensures files_stay { F.held from.new ≡ F.held from.old }
 {
-    match place {
-        Input::Standard => read_source(alloc, INPUT_LIMIT, input),
-        Input::Named(name) => read_file(alloc, name.as_slice(), INPUT_LIMIT, from),
+    match file.made {
+        Some(count) => Ok(Reading::Whole(input_text(alloc, count)?)),
+        None => match &file.asked.input {
+            Input::Standard => read_source(alloc, INPUT_LIMIT, input),
+            Input::Named(name) => read_file(alloc, name.as_slice(), INPUT_LIMIT, from),
+        },
     }
 }
 
 /// What reading the file of a name gave.
-#[tactic(auto, using(crate::proofs::WordsLemmas::no_text))]
+#[tactic(auto, using(crate::proofs::TextLemmas::no_text))]
 fn read_file<F: Files>(
     alloc: Global,
     name: &[u8],

@@ -1,7 +1,7 @@
 //! A place of a text that is told with its line.
-ghost use Rattle.std.specs.Prelude.{◌≡◌, ◌≤◌, ◌^◌, IfOk, length};
+ghost use Rattle.std.specs.Prelude.{◌≡◌, ◌≤◌, ◌+◌, ◌^◌, IfOk, length, min};
 ghost use Rattle.tt_base.specs.Place.{place_at};
-ghost use Rattle.filecheck_tool.specs.Spot.{spot_at};
+ghost use Rattle.filecheck_tool.specs.Spot.{behind, spot_at};
 
 use std::alloc::Global;
 use tt_base::{Bytes, NoMemory, Place, line_of, place_of};
@@ -43,4 +43,28 @@ pub fn spot_of(
         place,
         line: Bytes::from_slice(alloc, &text[line.from..line.to])?,
     })
+}
+
+/// The spot so many bytes behind another one on its line.
+pub fn behind(spot: Spot, count: usize) -> Spot
+    ensures { result ≡ behind spot count }
+{
+    Spot {
+        name: spot.name,
+        place: Place {
+            line: spot.place.line,
+            col: spot.place.col.saturating_add(as_col(count)),
+        },
+        line: spot.line,
+    }
+}
+
+/// A number, or the greatest that a place can tell.
+pub fn as_col(count: usize) -> u32
+    ensures { result ≡ min count 4294967295 }
+{
+    match u32::try_from(count) {
+        Ok(count) => count,
+        Err(_) => u32::MAX,
+    }
 }

@@ -1,22 +1,31 @@
 //! Whether the input has what the check file asks for.
-ghost use Rattle.std.specs.Prelude.{◌≡◌, ◌≤◌, ◌^◌, ◌∷◌, ◌++◌, [], Contains, IfOk, IfSome, OnOk, length, slice_get};
-ghost use Rattle.check_lines.specs.Checks.{IsPlaced};
-ghost use Rattle.check_run.specs.Found.{OffsetsLie};
-ghost use Rattle.check_run.specs.Scan.{FaultLies, FaultsLie};
+ghost use Rattle.std.specs.Prelude.{◌≡◌, ◌≤◌, ◌<◌, ◌^◌, ◌∷◌, ◌++◌, [], All, IfOk, OnOk, length};
+ghost use Rattle.check_group.specs.Changes.{IsReady};
+ghost use Rattle.check_group.specs.Lies.{OffsetsLie};
+ghost use Rattle.check_scan.specs.Verdict.{scan};
+ghost use Rattle.filecheck_tool.specs.CheckFile.{HasBodies};
 ghost use Rattle.filecheck_tool.specs.Program.{IsSound};
 ghost use Rattle.filecheck_tool.specs.Refusal.{Gives, accepted};
-ghost use Rattle.filecheck_tool.specs.Verdict.{both_notes, filled, finding_of, findings_at, findings_of, input_name, note_at, notes_of, suffix_of, trouble_of, verdict, verdict_read};
+ghost use Rattle.filecheck_tool.specs.Verdict.{absent_of, both_notes, filled, finding_of, findings_of, input_name, line_trouble, made_of, note_at, notes_of, one_note, trouble_of, verdict, verdict_read};
 ghost use Rattle.tt_run.specs.Run.{IsShort};
 
+use crate::check_file::{CheckFile, whole};
 use crate::finding::{Finding, Note, Remark, Trouble};
-use crate::program::{Program, whole};
+use crate::program::Program;
 use crate::refusal::{Refusal, StepFail, refuse};
-use crate::spot::{spot_at, spot_of};
-use crate::words::Input;
-use check_lines::{Directive, Kind, canon_owned};
-use check_run::{Fault, FaultKind, check};
+use crate::report::{Made, Report};
+use crate::spot::spot_at;
+use check_group::{Check, Fault, FaultKind};
+use check_lines::canon_owned;
+use check_scan::scan;
+use ere_auto::Steps;
+use filecheck_words::Input;
+use pattern_parse::Kind;
+use pattern_vars::Vars;
 use std::alloc::Global;
-use tt_base::{Bytes, Items, NoMemory, Place};
+use std::marker::Brand;
+use std::sync::ledger::{Blank, Ledger};
+use tt_base::{Bytes, Items, NoMemory};
 use tt_run::Reading;
 
 /// How the input is named.
@@ -29,22 +38,19 @@ fn input_name(input: &Input) -> &[u8]
     }
 }
 
-/// What is found amiss in what reading the input gave.
-pub fn verdict_read(
-    alloc: Global,
-    program: &Program,
-    read: Reading,
-) -> Result<Items<Finding>, StepFail>
-    requires sound { IsSound program.now }
+/// What is told of what reading the input gave.
+pub fn verdict_read(alloc: Global, program: Program, read: Reading) -> Result<Report, StepFail>
+    requires sound { IsSound program }
     requires short { IsShort (2 ^ 30) read }
-    ensures { Gives (λ findings. findings) result (verdict_read program.now read) }
+    ensures { Gives (λ report. report) result (verdict_read program read) }
 {
-    let asked = &program.asked;
+    let asked = &program.file.asked;
     let name = input_name(&asked.input);
     let bytes = whole(alloc, name, read)?;
     let bytes = filled(alloc, asked.allow_empty, name, bytes)?;
+    let count = bytes.len() as u64;
     let input = canon_owned(bytes, asked.strict);
-    Ok(verdict(alloc, program, input.as_slice())?)
+    Ok(verdict(alloc, program, count, input.as_slice())?)
 }
 
 /// Bytes, of which there may be none or not.
@@ -59,130 +65,169 @@ fn filled(alloc: Global, allow: bool, name: &[u8], bytes: Bytes) -> Result<Bytes
     Ok(bytes)
 }
 
-/// What is found amiss in a canonical input.
-fn verdict(alloc: Global, program: &Program, input: &[u8]) -> Result<Items<Finding>, NoMemory>
-    requires sound { IsSound program.now }
+/// What is told of an input of so many bytes, by its canonical text.
+fn verdict(alloc: Global, program: Program, count: u64, input: &[u8]) -> Result<Report, NoMemory>
+    requires sound { IsSound program }
     requires short { length input.now ≤ 2 ^ 30 }
-    ensures { IfOk result (λ findings. findings ≡ verdict program.now input.now) }
+    ensures { IfOk result (λ report. report ≡ verdict program count input.now) }
 {
-    let verdict = check(alloc, &program.checks, input)?;
-    findings_of(alloc, program, input, verdict.faults.as_slice())
+    let Program {
+        file,
+        checks,
+        always,
+        mut vars,
+    } = program;
+    let scope = file.asked.var_scope;
+    let faults = faults_in(
+        alloc,
+        checks.as_slice(),
+        always.as_slice(),
+        scope,
+        input,
+        &mut vars,
+    )?;
+    match file.made {
+        Some(checks) => Ok(Report::Made(made_of(checks, count, faults.as_slice()))),
+        None => Ok(Report::Found(findings_of(alloc, &file, input, faults.as_slice())?)),
+    }
+}
+
+/// The faults of directives in a canonical input.
+fn faults_in(
+    alloc: Global,
+    checks: &[Check],
+    always: &[Check],
+    scope: bool,
+    input: &[u8],
+    vars: &mut Vars,
+) -> Result<Items<Fault>, NoMemory>
+    requires ready { All (IsReady vars.old) checks.now }
+    requires always_ready { All (IsReady vars.old) always.now }
+    ensures value { IfOk result (λ faults. faults
+        ≡ (scan checks.now always.now scope input.now vars.old).faults) }
+    ensures lie { IfOk result (All (λ fault. OffsetsLie (length input.now) fault.kind)) }
+{
+    faults_by::<Brand>(alloc, checks, always, scope, input, vars, Blank::new(1))
+}
+
+#[tactic(auto, using(crate::proofs::LieLemmas::offsets_lie))]
+fn faults_by<L: Ledger>(
+    alloc: Global,
+    checks: &[Check],
+    always: &[Check],
+    scope: bool,
+    input: &[u8],
+    vars: &mut Vars,
+    blank: Blank,
+) -> Result<Items<Fault>, NoMemory>
+    requires name { blank.name ≡ L.name }
+    requires parts { blank.parts ≡ L.parts }
+    requires some_part { 0 < blank.parts }
+    requires ready { All (IsReady vars.old) checks.now }
+    requires always_ready { All (IsReady vars.old) always.now }
+    ensures value { IfOk result (λ faults. faults
+        ≡ (scan checks.now always.now scope input.now vars.old).faults) }
+    ensures lie { IfOk result (All (λ fault. OffsetsLie (length input.now) fault.kind)) }
+{
+    let mut steps = Steps::<L>::new(blank);
+    let verdict = scan(alloc, checks, always, scope, input, vars, &mut steps)?;
+    Ok(verdict.faults)
+}
+
+/// What is told of checks and an input that were made.
+fn made_of(checks: u64, bytes: u64, faults: &[Fault]) -> Made
+    ensures { result ≡ made_of checks bytes faults.now }
+{
+    Made {
+        checks,
+        bytes,
+        faults: faults.len() as u64,
+    }
 }
 
 /// What is told of faults, in order.
 fn findings_of(
     alloc: Global,
-    program: &Program,
+    file: &CheckFile,
     input: &[u8],
     faults: &[Fault],
 ) -> Result<Items<Finding>, NoMemory>
-    requires sound { IsSound program.now }
+    requires bodies { HasBodies file.now }
     requires short { length input.now ≤ 2 ^ 30 }
-    requires lie { FaultsLie program.now.checks input.now faults.now }
-    ensures { IfOk result (λ findings. findings ≡ findings_of program.now input.now faults.now) }
+    requires lie { All (λ fault. OffsetsLie (length input.now) fault.kind) faults.now }
+    ensures { IfOk result (λ findings. findings ≡ findings_of file.now input.now faults.now) }
 {
     let mut findings = Items::new(alloc);
     for fault in faults {
-        add_finding(alloc, &mut findings, program, input, fault)?;
+        findings.push(finding_of(alloc, file, input, fault)?)?;
     }
     Ok(findings)
 }
 
-fn add_finding(
-    alloc: Global,
-    findings: &mut Items<Finding>,
-    program: &Program,
-    input: &[u8],
-    fault: &Fault,
-) -> Result<(), NoMemory>
-    requires sound { IsSound program.now }
-    requires short { length input.now ≤ 2 ^ 30 }
-    requires lie { FaultLies program.now.checks input.now fault.now }
-    ensures { OnOk result (findings.new ≡ findings.old ++ findings_at program.now input.now fault.now) }
-{
-    match directive_at(program.directives.as_slice(), fault.directive) {
-        Some(directive) => findings.push(finding_of(alloc, program, input, directive, fault.kind)?),
-        None => Ok(()),
-    }
-}
-
-fn directive_at(directives: &[Directive], index: usize) -> Option<Directive>
-    ensures value { result ≡ slice_get directives.now index }
-    ensures among { IfSome result (Contains directives.now) }
-{
-    directives.get(index).copied()
-}
-
 fn finding_of(
     alloc: Global,
-    program: &Program,
+    file: &CheckFile,
     input: &[u8],
-    directive: Directive,
-    kind: FaultKind,
+    fault: &Fault,
 ) -> Result<Finding, NoMemory>
-    requires small { length program.now.text ≤ 2 ^ 30 }
-    requires placed { IsPlaced program.now.text (length program.now.asked.prefixes.checks) directive }
+    requires bodies { HasBodies file.now }
     requires short { length input.now ≤ 2 ^ 30 }
-    requires lies { OffsetsLie input.now kind }
-    ensures { IfOk result (λ finding. finding ≡ finding_of program.now input.now directive kind) }
+    requires lies { OffsetsLie (length input.now) fault.now.kind }
+    ensures { IfOk result (λ finding. finding ≡ finding_of file.now input.now fault.now) }
 {
-    let mut name = Bytes::from_slice(
-        alloc,
-        program.asked.prefixes.checks.as_slice()[directive.prefix].as_slice(),
-    )?;
-    name.append(suffix_of(directive.kind))?;
-    let place = Place {
-        line: directive.line,
-        col: directive.col,
-    };
     Ok(Finding {
-        name,
-        trouble: trouble_of(directive.kind, kind),
-        check: spot_of(
-            alloc,
-            program.asked.name.as_slice(),
-            program.text.as_slice(),
-            directive.body.from,
-            place,
-        )?,
-        notes: notes_of(alloc, input_name(&program.asked.input), input, kind)?,
+        name: file.name_of(alloc, fault.directive)?,
+        trouble: trouble_of(alloc, file.kind_of(fault.directive), &fault.kind)?,
+        check: file.body_spot(alloc, fault.directive)?,
+        notes: notes_of(alloc, input_name(&file.asked.input), input, &fault.kind)?,
     })
 }
 
-/// The suffix by which a kind is told.
-fn suffix_of(kind: Kind) -> &'static [u8]
-    ensures { result.now ≡ suffix_of kind }
+/// What is wrong with a directive of a kind.
+fn trouble_of(alloc: Global, kind: Kind, fault: &FaultKind) -> Result<Trouble, NoMemory>
+    ensures { IfOk result (λ trouble. trouble ≡ trouble_of kind fault.now) }
 {
-    match kind {
-        Kind::Plain => b"",
-        Kind::Next => b"-NEXT",
-        Kind::Same => b"-SAME",
-        Kind::Empty => b"-EMPTY",
-        Kind::Not => b"-NOT",
-        Kind::Dag => b"-DAG",
-        Kind::Label => b"-LABEL",
-        Kind::Count(_) => b"-COUNT",
+    match fault {
+        FaultKind::NotFound { done, .. } => Ok(absent_of(kind, *done)),
+        FaultKind::WrongLine { newlines, .. } => Ok(line_trouble(*newlines)),
+        FaultKind::NotSameLine { .. } => Ok(Trouble::NotOnSameLine),
+        FaultKind::Excluded { .. } => Ok(Trouble::Excluded),
+        FaultKind::Undefined(names) => Ok(Trouble::Undefined(copy_of(alloc, names.as_slice())?)),
+        FaultKind::Range => Ok(Trouble::OutOfRange),
+        FaultKind::ZeroDivisor => Ok(Trouble::DividesByZero),
+        FaultKind::Unreadable { .. } => Ok(Trouble::Unreadable),
     }
 }
 
-/// What is wrong with a directive of a kind.
-fn trouble_of(kind: Kind, fault: FaultKind) -> Trouble
-    ensures { result ≡ trouble_of kind fault }
+/// What is wrong with a match that isn't on the next line.
+fn line_trouble(newlines: u64) -> Trouble
+    ensures { result ≡ line_trouble newlines }
 {
-    match fault {
-        FaultKind::NotFound { from: _, done } => match kind {
-            Kind::Count(n) => Trouble::NotFoundAgain(done, n),
-            Kind::Plain | Kind::Next | Kind::Same | Kind::Empty => Trouble::NotFound,
-            Kind::Not | Kind::Dag | Kind::Label => Trouble::NotFound,
-        },
-        FaultKind::WrongLine { newlines, .. } => {
-            if newlines == 0 {
-                Trouble::OnSameLine
-            } else {
-                Trouble::NotOnNextLine
-            }
-        }
-        FaultKind::NotSameLine { .. } => Trouble::NotOnSameLine,
+    if newlines == 0 {
+        Trouble::OnSameLine
+    } else {
+        Trouble::NotOnNextLine
+    }
+}
+
+fn copy_of(alloc: Global, names: &[Bytes]) -> Result<Items<Bytes>, NoMemory>
+    ensures { IfOk result (λ copy. copy ≡ names.now) }
+{
+    let mut copy = Items::new(alloc);
+    for name in names {
+        copy.push(Bytes::from_slice(alloc, name.as_slice())?)?;
+    }
+    Ok(copy)
+}
+
+/// What is wrong with a directive of a kind of which so many matches are found.
+fn absent_of(kind: Kind, done: u32) -> Trouble
+    ensures { result ≡ absent_of kind done }
+{
+    match kind {
+        Kind::Count(n) => Trouble::NotFoundAgain(done, n),
+        Kind::Plain | Kind::Next | Kind::Same | Kind::Empty => Trouble::NotFound,
+        Kind::Not | Kind::Dag | Kind::Label => Trouble::NotFound,
     }
 }
 
@@ -191,21 +236,40 @@ fn notes_of(
     alloc: Global,
     name: &[u8],
     input: &[u8],
-    kind: FaultKind,
+    kind: &FaultKind,
 ) -> Result<Items<Note>, NoMemory>
     requires short { length input.now ≤ 2 ^ 30 }
-    requires lies { OffsetsLie input.now kind }
-    ensures { IfOk result (λ notes. notes ≡ notes_of name.now input.now kind) }
+    requires lies { OffsetsLie (length input.now) kind.now }
+    ensures { IfOk result (λ notes. notes ≡ notes_of name.now input.now kind.now) }
 {
     match kind {
         FaultKind::NotFound { from, .. } => {
-            let mut notes = Items::new(alloc);
-            notes.push(note_at(alloc, Remark::ScanningFrom, name, input, from)?)?;
-            Ok(notes)
+            one_note(alloc, Remark::ScanningFrom, name, input, *from)
         }
-        FaultKind::WrongLine { found, last, .. } => both_notes(alloc, name, input, found, last),
-        FaultKind::NotSameLine { found, last } => both_notes(alloc, name, input, found, last),
+        FaultKind::WrongLine { found, last, .. } => both_notes(alloc, name, input, *found, *last),
+        FaultKind::NotSameLine { found, last } => both_notes(alloc, name, input, *found, *last),
+        FaultKind::Excluded { found } => one_note(alloc, Remark::FoundHere, name, input, *found),
+        FaultKind::Unreadable { found } => one_note(alloc, Remark::FoundHere, name, input, *found),
+        FaultKind::Undefined(_) | FaultKind::Range | FaultKind::ZeroDivisor => {
+            Ok(Items::new(alloc))
+        }
     }
+}
+
+fn one_note(
+    alloc: Global,
+    remark: Remark,
+    name: &[u8],
+    input: &[u8],
+    at: usize,
+) -> Result<Items<Note>, NoMemory>
+    requires short { length input.now ≤ 2 ^ 30 }
+    requires within { at ≤ length input.now }
+    ensures { IfOk result (λ notes. notes ≡ one_note remark name.now input.now at) }
+{
+    let mut notes = Items::new(alloc);
+    notes.push(note_at(alloc, remark, name, input, at)?)?;
+    Ok(notes)
 }
 
 fn both_notes(

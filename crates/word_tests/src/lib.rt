@@ -1,6 +1,10 @@
-//! Tests of the words of a command line, and of `not` and `count`.
+//! Tests of the words of a command line, of those of `filecheck`, and of `not` and `count`.
 #![tactic(auto)]
 
+#[cfg(test)]
+mod asked;
+#[cfg(test)]
+mod defines;
 #[cfg(test)]
 mod options;
 #[cfg(test)]

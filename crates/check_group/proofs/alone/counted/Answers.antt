@@ -1,4 +1,4 @@
-use Rattle.std.proofs.Common.{◌≡◌, ◌≤◌, ◌-◌, IfOk, length, sym, ◌∙◌, subst, arith}
+use Rattle.std.proofs.Common.{◌≡◌, ◌-◌, IfOk, length, sym, ◌∙◌, subst, arith}
 use Rattle.std.proofs.Math.Nat.{le_refl}
 use Rattle.check_group.specs.Alone.{counted}
 use Rattle.check_group.specs.Continues.{Continues}

@@ -1,4 +1,4 @@
-use Rattle.std.proofs.Common.{◌≤◌, IfOk, length, sym, ◌∙◌, subst, arith}
+use Rattle.std.proofs.Common.{IfOk, length, sym, ◌∙◌, subst, arith}
 use Rattle.check_group.specs.Matches.{Fits}
 use Rattle.check_group.proofs.AloneLemmas.{comes_failed, comes_found}
 use Rattle.check_group.proofs.alone.match_alone.Goals as goal

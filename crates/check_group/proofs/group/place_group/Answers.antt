@@ -1,4 +1,4 @@
-use Rattle.std.proofs.Common.{◌≤◌, IfOk, length, sym, ◌∙◌, ap, subst, arith, All}
+use Rattle.std.proofs.Common.{IfOk, length, sym, ◌∙◌, ap, subst, arith, All}
 use Rattle.std.proofs.Math.Nat.{le_refl}
 use Rattle.check_group.specs.Group.{EndsBy, group, group_at, placed}
 use Rattle.check_group.specs.Changes.{IsReady}

@@ -1,6 +1,6 @@
-use Rattle.std.proofs.Common.{rules, ◌≡◌, ◌<◌, ◌∷◌, Bool, length, take, drop, arith}
+use Rattle.std.proofs.Common.{rules, take, drop, arith}
 use Rattle.std.proofs.lemmas.List.{length-take, take-append-drop}
-use Rattle.check_scan.specs.Parts.{IsDag, part_of, parts_of, positive}
+use Rattle.check_scan.specs.Parts.{IsDag}
 use Rattle.check_scan.proofs.PartLemmas.{part_alone, part_dags}
 use Rattle.check_scan.proofs.parts.part_length.Goals as goal
 

@@ -2,8 +2,8 @@ use Rattle.std.proofs.Common.{◌^◌, refl, sym}
 use Rattle.opt_words.specs.Step.{texts}
 use Rattle.tt_run.specs.Run.{files, source, stream}
 use Rattle.filecheck_tool.specs.Message.{cannot_write}
-use Rattle.filecheck_tool.specs.Words.{asked_by}
-use Rattle.filecheck_tool.proofs.FaultLemmas.{fault_of_run, words_calm}
+use Rattle.filecheck_words.specs.Job.{asked_by}
+use Rattle.filecheck_tool.proofs.FaultLemmas.{fault_of_run}
 use Rattle.filecheck_tool.proofs.run.filecheck_run.Goals as goal
 
 pub returns-clause-answer : goal.returns-clause-answer
@@ -27,5 +27,5 @@ returns-clause-fault g c =
     let words = texts c.args.words.now in
     λ three. fault_of_run first_seen last_seen (2 ^ 24) (asked_by words) c.in-Ok.program input_seen (2 ^ 26)
     c.in-Ok-outcome_from.outcome cannot_write c.in-Ok-answer_to.answer c.write_answer.result out_seen err_seen
-    (words_calm words) refl c.in-Ok.ensures.value c.in-Ok-outcome_from.ensures.value c.in-Ok-answer_to.ensures.value three
+    refl c.in-Ok.ensures.value c.in-Ok-outcome_from.ensures.value c.in-Ok-answer_to.ensures.value three
     c.write_answer.ensures.written

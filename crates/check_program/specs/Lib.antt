@@ -1,0 +1,4 @@
+pub mod Adds
+pub mod Compiled
+pub mod Names
+pub mod Ready

@@ -1,4 +1,0 @@
-pub mod CountLemmas
-pub mod EmptyLemmas
-pub mod NearLemmas
-pub mod ScanLemmas

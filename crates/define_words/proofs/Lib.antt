@@ -1,0 +1,4 @@
+pub mod BlockLemmas
+pub mod DefinedLemmas
+pub mod LawLemmas
+pub mod StartLemmas

@@ -1,0 +1,238 @@
+//! A check file: its text and its directives.
+ghost use Rattle.std.specs.Prelude.{◌≡◌, ◌≤◌, ◌-◌, ◌^◌, [], Contains, IfOk, IfSome, length, slice_get, slice_index_or};
+ghost use Rattle.check_lines.specs.Checks.{IsPlaced};
+ghost use Rattle.filecheck_tool.specs.CheckFile.{HasBodies, body_spot, check_file_in, check_file_read, implicit_at, implicit_spot, kind_of, name_of, refusal_of, start_behind, suffix_of, whole};
+ghost use Rattle.filecheck_tool.specs.Refusal.{Gives, accepted};
+ghost use Rattle.filecheck_tool.specs.Spot.{spot_at};
+ghost use Rattle.tt_run.specs.Run.{IsShort};
+
+use crate::refusal::{Refusal, StepFail, Stop, refuse};
+use crate::spot::{Spot, as_col, spot_at, spot_of};
+use crate::start::Start;
+use check_lines::{CheckFail, CheckFault, CheckKind, Directive, canon_owned, read_checks};
+use filecheck_words::Asked;
+use pattern_parse::Kind;
+use std::alloc::Global;
+use tt_base::{Bytes, Items, NoMemory, Place};
+use tt_run::Reading;
+
+/// A check file whose lines were accepted.
+#[derive(Drop, Debug)]
+pub struct CheckFile {
+    /// What the words ask for.
+    pub asked: Asked,
+    /// How many checks it has, where it was made and not read.
+    pub made: Option<u64>,
+    /// Its canonical text.
+    pub text: Bytes,
+    /// Its directives, whose bodies lie in the text.
+    pub directives: Items<Directive>,
+}
+
+/// The bytes that reading gave.
+pub fn whole(alloc: Global, name: &[u8], reading: Reading) -> Result<Bytes, StepFail>
+    requires { IsShort (2 ^ 30) reading }
+    ensures value { Gives (λ bytes. bytes) result (whole name.now reading) }
+    ensures short { IfOk result (λ bytes. length bytes ≤ 2 ^ 30) }
+{
+    let name = Bytes::from_slice(alloc, name)?;
+    match reading {
+        Reading::Whole(bytes) => Ok(bytes),
+        Reading::Missing => refuse(Refusal::NotFound(name)),
+        Reading::TooLarge => refuse(Refusal::TooLarge(name)),
+        Reading::Failed => Err(StepFail::Stopped(Stop::NotReadable(name))),
+    }
+}
+
+/// The check file that reading gave.
+pub fn check_file_read(alloc: Global, start: Start, file: Reading) -> Result<CheckFile, StepFail>
+    requires { IsShort (2 ^ 30) file }
+    ensures value { Gives (λ file. file) result (check_file_read start file) }
+    ensures bodies { IfOk result HasBodies }
+    ensures begun { IfOk result (λ file. start_behind file ≡ start) }
+{
+    let bytes = whole(alloc, start.asked.name.as_slice(), file)?;
+    let text = canon_owned(bytes, start.asked.strict);
+    check_file_in(alloc, start, text)
+}
+
+/// The check file of a canonical text.
+fn check_file_in(alloc: Global, start: Start, text: Bytes) -> Result<CheckFile, StepFail>
+    requires { length text ≤ 2 ^ 30 }
+    ensures value { Gives (λ file. file) result (accepted (check_file_in start text)) }
+    ensures bodies { IfOk result HasBodies }
+    ensures begun { IfOk result (λ file. start_behind file ≡ start) }
+{
+    let Start { asked, made } = start;
+    match read_checks(
+        alloc,
+        text.as_slice(),
+        asked.prefixes.checks.as_slice(),
+        asked.prefixes.comments.as_slice(),
+        asked.allow_unused,
+        asked.strict && asked.full_lines,
+        asked.may_lack,
+    ) {
+        Ok(directives) => Ok(CheckFile {
+            asked,
+            made,
+            text,
+            directives,
+        }),
+        Err(CheckFail::Bad(fault)) => refuse(refusal_of(
+            alloc,
+            asked.name.as_slice(),
+            text.as_slice(),
+            asked.prefixes.checks.as_slice(),
+            fault,
+        )?),
+        Err(CheckFail::NoMemory) => Err(StepFail::NoMemory),
+    }
+}
+
+/// A refusal of the check file.
+fn refusal_of(
+    alloc: Global,
+    name: &[u8],
+    text: &[u8],
+    prefixes: &[Bytes],
+    fault: CheckFault,
+) -> Result<Refusal, NoMemory>
+    requires within { fault.at ≤ length text.now }
+    requires small { length text.now ≤ 2 ^ 30 }
+    ensures { IfOk result (λ refusal. refusal
+        ≡ refusal_of prefixes.now fault.kind name.now (spot_at name.now text.now fault.at)) }
+{
+    let spot = spot_at(alloc, name, text, fault.at)?;
+    match fault.kind {
+        CheckKind::BadCount => Ok(Refusal::BadCount(spot)),
+        CheckKind::NotCombination => Ok(Refusal::NotCombination(spot)),
+        CheckKind::BadModifier => Ok(Refusal::BadModifier(spot)),
+        CheckKind::EmptyPattern => Ok(Refusal::EmptyPattern(spot)),
+        CheckKind::NonEmptyForEmpty => Ok(Refusal::NonEmptyForEmpty(spot)),
+        CheckKind::NoEarlierCheck => Ok(Refusal::NoEarlierCheck(spot)),
+        CheckKind::NoChecks => Ok(Refusal::NoChecks(spot.name)),
+        CheckKind::UnusedPrefix(index) => Ok(Refusal::UnusedPrefix(Bytes::from_slice(
+            alloc,
+            bytes_at(prefixes, index),
+        )?)),
+    }
+}
+
+/// The bytes of a number, or none past the last.
+fn bytes_at(all: &[Bytes], index: usize) -> &[u8]
+    ensures { result.now ≡ slice_index_or all.now index [] }
+{
+    match all.get(index) {
+        Some(bytes) => bytes.as_slice(),
+        None => b"",
+    }
+}
+
+fn directive_at(directives: &[Directive], number: usize) -> Option<Directive>
+    ensures value { result ≡ slice_get directives.now number }
+    ensures among { IfSome result (Contains directives.now) }
+{
+    directives.get(number).copied()
+}
+
+/// Where the body of a directive begins.
+fn line_spot(alloc: Global, file: &CheckFile, directive: Directive) -> Result<Spot, NoMemory>
+    requires small { length file.now.text ≤ 2 ^ 30 }
+    requires placed { IsPlaced file.now.text (length file.now.asked.prefixes.checks) directive }
+    ensures { IfOk result (λ spot. spot ≡ spot_at file.now.asked.name file.now.text directive.body.from) }
+{
+    let place = Place {
+        line: directive.line,
+        col: directive.col,
+    };
+    spot_of(
+        alloc,
+        file.asked.name.as_slice(),
+        file.text.as_slice(),
+        directive.body.from,
+        place,
+    )
+}
+
+/// The body of an implicit directive, by its place among them from 0.
+fn implicit_spot(alloc: Global, body: &[u8], index: usize) -> Result<Spot, NoMemory>
+    ensures { IfOk result (λ spot. spot ≡ implicit_spot body.now index) }
+{
+    Ok(Spot {
+        name: Bytes::from_slice(alloc, b"<implicit-check-not>")?,
+        place: Place {
+            line: as_col(index).saturating_add(1),
+            col: 1,
+        },
+        line: Bytes::from_slice(alloc, body)?,
+    })
+}
+
+impl CheckFile {
+    /// The number of an implicit directive among them, from 0.
+    fn implicit_at(&self, number: usize) -> usize
+        ensures { result ≡ implicit_at self.now number }
+    {
+        number.saturating_sub(self.directives.len())
+    }
+
+    /// Where the body of a directive begins, by its number; the implicit ones are behind those of lines.
+    pub(crate) fn body_spot(&self, alloc: Global, number: usize) -> Result<Spot, NoMemory>
+        requires { HasBodies self.now }
+        ensures { IfOk result (λ spot. spot ≡ body_spot self.now number) }
+    {
+        match directive_at(self.directives.as_slice(), number) {
+            Some(directive) => line_spot(alloc, self, directive),
+            None => {
+                let index = self.implicit_at(number);
+                implicit_spot(
+                    alloc,
+                    bytes_at(self.asked.implicit.as_slice(), index),
+                    index,
+                )
+            }
+        }
+    }
+
+    /// The kind of a directive, by its number.
+    pub(crate) fn kind_of(&self, number: usize) -> Kind
+        ensures { result ≡ kind_of self.now number }
+    {
+        match directive_at(self.directives.as_slice(), number) {
+            Some(directive) => directive.kind,
+            None => Kind::Not,
+        }
+    }
+
+    /// The name by which a directive is told, by its number: its prefix with its suffix.
+    pub(crate) fn name_of(&self, alloc: Global, number: usize) -> Result<Bytes, NoMemory>
+        ensures { IfOk result (λ name. name ≡ name_of self.now number) }
+    {
+        match directive_at(self.directives.as_slice(), number) {
+            Some(directive) => {
+                let prefix = bytes_at(self.asked.prefixes.checks.as_slice(), directive.prefix);
+                let mut name = Bytes::from_slice(alloc, prefix)?;
+                name.append(suffix_of(directive.kind))?;
+                Ok(name)
+            }
+            None => Bytes::from_slice(alloc, b"IMPLICIT-CHECK-NOT"),
+        }
+    }
+}
+
+/// The suffix by which a kind is told.
+fn suffix_of(kind: Kind) -> &'static [u8]
+    ensures { result.now ≡ suffix_of kind }
+{
+    match kind {
+        Kind::Plain => b"",
+        Kind::Next => b"-NEXT",
+        Kind::Same => b"-SAME",
+        Kind::Empty => b"-EMPTY",
+        Kind::Not => b"-NOT",
+        Kind::Dag => b"-DAG",
+        Kind::Label => b"-LABEL",
+        Kind::Count(_) => b"-COUNT",
+    }
+}

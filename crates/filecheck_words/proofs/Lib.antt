@@ -1,0 +1,3 @@
+pub mod ImplicitLemmas
+pub mod PrefixesLemmas
+pub mod WordsLemmas

@@ -1,0 +1,7 @@
+use Rattle.std.proofs.Common.{◌≡◌, ℕ, ◌<◌, ◌≤◌, true, get_or, length}
+use Rattle.check_lines.specs.Class.{has}
+use Rattle.check_lines.specs.declared.class.Class.TheVariants.{Blank}
+use Rattle.filecheck_words.proofs.implicit.blanks_behind.Given as goal
+
+abbrev pub invariant-loop-at : goal.invariant-loop-at
+invariant-loop-at l = (k : ℕ) → l.at ≤ k → k < length l.text → has Blank (get_or l.text k 0) ≡ true

@@ -1,0 +1,5 @@
+//! Tests of where patterns are found.
+#![tactic(auto)]
+
+#[cfg(test)]
+mod seeking;
