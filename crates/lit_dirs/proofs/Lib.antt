@@ -1,0 +1,3 @@
+pub mod LookLemmas
+pub mod NamedLemmas
+pub mod ReadLemmas

@@ -1,0 +1,65 @@
+-- A test, from its path and its suite.
+-- After LLVM Command Guide, lit, 'SUBSTITUTIONS', for what its paths are. Own rule: where temporary files lie, how a test
+-- is named, and that a part of a suite adds to the tests below its directory.
+use Rattle.std.specs.Prelude.{◌≡◌, ℕ, ◌-◌, Bool, codes, List, [], ◌∷◌, ◌++◌, length, map, Option, None, Some, slice_get}
+use Rattle.std.specs.List.{filter, flat_map}
+use Rattle.std.specs.Option.{unwrap_or}
+use Rattle.lit_paths.specs.Paths.{Parts, dir_of, inner_text_of, is_above, joined, parts_of, text_of}
+use Rattle.lit_suite.specs.declared.suite_file.Part.{Part}
+use Rattle.lit_suite.specs.declared.suite_file.Suite.{Suite}
+use Rattle.tt_outside.specs.declared.request.Pair.{Pair}
+use Rattle.tt_outside.specs.declared.test_data.Test.{Test}
+
+-- ---- what a suite adds
+
+-- a part's directory is above a path, both below the root of the suite
+abbrev pub holds_path : Parts → Part → Bool
+holds_path below part = is_above (parts_of part.path) below
+
+-- the parts of a suite that hold a path
+abbrev pub parts_over : List Part → Parts → List Part
+parts_over parts below = filter (holds_path below) parts
+
+-- the features of a test: its suite's, and behind them those of each part that holds it
+abbrev pub features_of : Suite → Parts → List (List ℕ)
+features_of suite below = suite.features ++ flat_map (λ part. part.features) (parts_over suite.parts below)
+
+-- the replacements of a test: those of each part that holds it, and behind them its suite's
+abbrev pub substitutions_of : Suite → Parts → List Pair
+substitutions_of suite below =
+    flat_map (λ part. part.substitutions) (parts_over suite.parts below) ++ suite.substitutions
+
+-- a program's path is joined to the directory of the suite
+abbrev pub tool_of : Parts → Pair → Pair
+tool_of root tool = record { name = tool.name; value = text_of (joined root tool.value) }
+
+-- ---- paths of a test
+
+-- the last part of a path
+abbrev pub name_of : Parts → List ℕ
+name_of path = unwrap_or (slice_get path (length path - 1)) []
+
+abbrev pub exec_root_of : Parts → Option (List ℕ) → Parts
+exec_root_of root None = root
+exec_root_of root (Some path) = joined root path
+
+-- the directory in which the commands of a test run
+abbrev pub work_dir_of : Parts → Suite → Parts → Parts
+work_dir_of root suite below = exec_root_of root suite.exec_root ++ dir_of below
+
+-- the directory of its temporary files
+abbrev pub temp_dir_of : Parts → Suite → Parts → Parts
+temp_dir_of root suite below = work_dir_of root suite below ++ codes "Output" ∷ []
+
+-- the test of a path below the root of its suite
+pub record IsTestOf (root : Parts) (suite : Suite) (below : Parts) (test : Test) : Type 0 where
+  pub named : test.name ≡ suite.name ++ codes " :: " ++ inner_text_of below
+  pub file : test.path ≡ text_of (root ++ below)
+  pub source : test.source_dir ≡ text_of (root ++ dir_of below)
+  pub work : test.work_dir ≡ text_of (work_dir_of root suite below)
+  pub temps : test.temp_dir ≡ text_of (temp_dir_of root suite below)
+  pub temporary : test.temp ≡ text_of (temp_dir_of root suite below ++ (name_of below ++ codes ".tmp") ∷ [])
+  pub features : test.features ≡ features_of suite below
+  pub substitutions : test.substitutions ≡ substitutions_of suite below
+  pub tools : test.tools ≡ map (tool_of root) suite.tools
+  pub environment : test.environment ≡ suite.environment

@@ -1,0 +1,4 @@
+pub mod AboveLemmas
+pub mod LawLemmas
+pub mod NormalLemmas
+pub mod PartLemmas

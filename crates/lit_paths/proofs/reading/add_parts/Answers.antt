@@ -1,0 +1,22 @@
+use Rattle.std.proofs.Common.{◌≡◌, ◌==◌, ◌∙◌, Option, None, List, map, ap, rules, tests}
+use Rattle.std.specs.Iterator.{Yields}
+use Rattle.std.specs.List.{fold}
+use Rattle.std.proofs.lemmas.Iterator.{YieldsList}
+use Rattle.std.proofs.lemmas.Iterator.Consumers.{YieldsList-at, YieldsList-end}
+use Rattle.std.proofs.lemmas.Iterator.Splits.{YieldsList-from_slice_split}
+use Rattle.lit_paths.specs.Paths.{with_part}
+use Rattle.lit_paths.proofs.reading.add_parts.Goals as goal
+
+all_yielded : {S A B : Type 0} {steps : S → Option A → S → Type 0} {s : S} (v : A → B) (all : List B) (xs : List A)
+    (t : S) → Yields steps s xs t → (r : Option A) (u : S) → r ≡ None → steps t r u → YieldsList steps v s all
+    → map v xs ≡ all
+all_yielded v all xs t y r u is last chain = (YieldsList-end chain xs t y r u is last).0
+
+pub returns : goal.returns
+returns c =
+    c.loop-part.invariant
+    ∙ ap (fold with_part c.args.path.now.items)
+    (all_yielded (λ part. part.now) _ c.loop-part.yielded _ c.loop-part.yielded_by _ _ c.in-None.is c.next.ensures.steps
+    (YieldsList-at c.into_iter-part-iterator.ensures.into_iter_gives
+    (YieldsList-from_slice_split _ (λ byte. byte == 47) c.args.text.now c.split-part-items.ensures.rest
+    c.split-part-items.ensures.done c.split-part-items.ensures.closure (λ x r q k. search (rules, tests)))))

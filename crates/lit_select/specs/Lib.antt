@@ -1,0 +1,2 @@
+pub mod Finder
+pub mod Selection

@@ -1,0 +1,6 @@
+pub mod Asked
+pub mod Expression
+pub mod Fault
+pub mod Given
+pub mod Number
+pub mod Paths

@@ -1,0 +1,14 @@
+//! What the words of `lit` ask for: the paths of tests, which of the tests are kept, and how they are shown; or the
+//! first refusal. After LLVM Command Guide, lit, 'OPTIONS'. Tests are found above this crate.
+#![tactic(auto)]
+
+mod asked;
+mod expression;
+mod fault;
+mod given;
+mod number;
+mod paths;
+
+pub use asked::{Asked, Detail, asked_by};
+pub use fault::{WordsFail, WordsFault};
+pub use number::Shard;
