@@ -1,5 +1,6 @@
 -- Loops over directives, by what is done and what is left.
 -- Shown: a loop begins, binds, ends and is left with its part of the changes. Idea: changes behind changes are one list.
+-- The hard one is `continues_behind`, where a match binds.
 use Rattle.std.proofs.Common.{◌≡◌, List, [], ◌∷◌, ◌++◌, Result, refl, sym, ◌∙◌, ap, append_assoc, subst}
 use Rattle.std.proofs.lemmas.List.{append-nil}
 use Rattle.pattern_vars.specs.declared.binding.Binding.{Binding}

@@ -1,4 +1,6 @@
--- A group, member by member.
+-- Shown: a group goes on with a member that is placed, and ends at one that fails or behind the last.
+-- Idea: what is left of the members decides what is left of the group.
+-- The hard one is `group_goes_on`.
 use Rattle.std.proofs.Common.{◌≡◌, ℕ, suc, ◌+◌, ◌<◌, ◌≤◌, List, [], ◌∷◌, Ok, Err, length, get_or, drop, sym, ◌∙◌, ap, drop-cons, add-one, arith}
 use Rattle.std.proofs.lemmas.List.{drop_all}
 use Rattle.tt_base.specs.declared.place.Span.{Span}

@@ -1,21 +1,15 @@
--- The laws: by what is read of a block, and value by value.
-use Rattle.std.proofs.Common.{◌≡◌, ◌∙◌, ◌≤◌, ◌+◌, ℕ, ℤ, true, false, List, [], ◌∷◌, ◌++◌, length, Option, Some, None, Result, Ok, Err, refl, sym, ap, subst}
+-- Shown: the laws of definitions, by what is read of a block, and value by value.
+-- Idea: a value binds something, or it is the first that is refused.
+-- The hard one is `first_from`, by cases of a value and of those behind it.
+use Rattle.std.proofs.Common.{◌≡◌, ◌∙◌, ℕ, ℤ, List, [], ◌∷◌, ◌++◌, Option, Some, None, Result, Ok, Err, refl, sym, ap, subst}
 use Rattle.std.specs.Prelude.{IsOk}
 use Rattle.std.specs.FinMap.{FinMap, empty, get}
-use Rattle.std.specs.List.{list_all}
 use Rattle.num_base.specs.Names.{name_cmp}
 use Rattle.num_base.specs.declared.format.Format.{Format}
-use Rattle.num_exprs.specs.Block.{reading}
-use Rattle.pattern_parse.specs.Block.{number_of}
-use Rattle.pattern_parse.specs.Item.{Item}
-use Rattle.pattern_parse.specs.Pieces.{IsPieces, nothing_said}
-use Rattle.pattern_parse.specs.declared.fault.PatFault.{PatFault}
-use Rattle.pattern_parse.specs.declared.pattern.Kind.TheVariants.{Plain}
 use Rattle.pattern_vars.specs.declared.binding.Binding.{Binding}
 use Rattle.define_words.specs.Defined.{and_bindings, binding_of, fresh_by, numbers_with, words_of}
-use Rattle.define_words.specs.Format.{body_of}
 use Rattle.define_words.specs.Laws.{BlockIsBody, RefusedIsFirst, one_piece}
-use Rattle.define_words.specs.Word.{is_inside, known_with, word_of}
+use Rattle.define_words.specs.Word.{known_with, word_of}
 use Rattle.define_words.proofs.BlockLemmas.{item_here, refused_here}
 use Rattle.define_words.proofs.DefinedLemmas.{binds, binds_nothing}
 

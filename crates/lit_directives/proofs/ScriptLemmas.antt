@@ -1,4 +1,6 @@
--- The directives of the lines from one on.
+-- Shown: what a line comes to, before the directives of the lines behind it, is what all lines from it on come to.
+-- Idea: the lines from one on are that line and those behind its newline.
+-- The hard one is `line_taken`, which goes on behind the newline.
 use Rattle.std.proofs.Common.{◌≡◌, ◌⊎◌, ℕ, ◌+◌, ◌-◌, ◌<◌, ◌≤◌, List, [], ◌∷◌, length, take, drop, Ok, Err, true, false, inl, inr, sym, ap, ◌∙◌, arith, refl}
 use Rattle.std.proofs.Math.Nat.{eq-or-lt_of_le}
 use Rattle.std.specs.List.{slice_split}

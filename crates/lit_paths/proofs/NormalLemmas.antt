@@ -1,5 +1,6 @@
--- Joined paths are normal: the parts of a text that is cut at its slashes have none, and each part that is added leaves
--- a path normal.
+-- Shown: joined paths are normal, and their parts are parts.
+-- Idea: the parts of a text that is cut at its slashes have none, and each part that is added leaves a path normal.
+-- The hard one is `chosen_passes`, the cases of one part.
 use Rattle.std.proofs.Common.{◌≡◌, ◌==◌, ℕ, ◌-◌, Bool, true, false, cond, not, ◌&&◌, ◌||◌, codes, zero, suc, List, [], ◌∷◌, ◌++◌, length, take, refl, ◌∙◌, ap}
 use Rattle.std.specs.List.{fold, list_all, list_any, onto_first, slice_split}
 use Rattle.std.specs.Str.{bytes_eq}

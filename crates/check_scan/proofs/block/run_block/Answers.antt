@@ -1,5 +1,6 @@
--- A block's loop: nothing is done, a NOT joins the pending ones, a part goes on, ends the block or runs out of memory, and the
--- end of the directives ends it. Each is one lemma of BlockLemmas, at the state of the loop as the code cuts it (`runs_seen`).
+-- A block's loop: nothing is done, a NOT joins the pending ones, a part goes on, ends the block or runs out of memory, and
+-- the end of the directives ends it. Each is one lemma of BlockLemmas, at the state of the loop as the code cuts it
+-- (`runs_seen`). The hard one is `loop-check-preserved`.
 use Rattle.std.proofs.Common.{rules, All, ◌≡◌, ◌≤◌, ◌++◌, ◌∷◌, [], IfSome, Some, length, take, drop, sym, ◌∙◌, subst, arith}
 use Rattle.std.proofs.lemmas.List.Elements.{All-drop}
 use Rattle.check_group.specs.Changes.{IsReady}

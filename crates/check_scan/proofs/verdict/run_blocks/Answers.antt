@@ -1,5 +1,6 @@
--- The loop over labels: nothing is done, a labelled block goes on, ends it or runs out of memory, and the last block ends it.
--- Each is one lemma of VerdictLemmas, at the block that the label ends (`verdict_label`).
+-- The loop over labels: nothing is done, a labelled block goes on, ends it or runs out of memory, and the last block ends
+-- it. Each is one lemma of VerdictLemmas, at the block that the label ends (`verdict_label`).
+-- The hard one is `loop-at-preserved`, which goes on behind a label.
 use Rattle.std.proofs.Common.{All, ◌≤◌, ◌+◌, [], IfSome, Some, length, sym, subst, arith}
 use Rattle.std.proofs.lemmas.List.Elements.{All-drop, All-take}
 use Rattle.check_group.specs.Changes.{IsReady}

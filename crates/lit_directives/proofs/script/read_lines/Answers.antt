@@ -1,3 +1,6 @@
+-- The loop over lines: what a line comes to leads on from the state before it, stops there, or ends the script.
+-- Each is one lemma of ScriptLemmas, at the line as the code cuts it (`leads_line`).
+-- The hard one is `loop-fail-preserved`, which goes on behind a line.
 use Rattle.std.proofs.Common.{◌≡◌, ◌<◌, ◌≤◌, ◌+◌, ℕ, List, Bool, true, false, Ok, Err, Result, length, sym, subst, ◌∙◌, arith, rules}
 use Rattle.lit_directives.specs.Script.{IsState, LeadsOn, State, reader_view}
 use Rattle.lit_directives.specs.declared.fault.ScriptFault.{ScriptFault}
