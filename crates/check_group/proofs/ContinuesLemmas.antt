@@ -1,7 +1,7 @@
 -- Loops over directives, by what is done and what is left.
 -- Shown: a loop begins, binds, ends and is left with its part of the changes. Idea: changes behind changes are one list.
 -- The hard one is `continues_behind`, where a match binds.
-use Rattle.std.proofs.Common.{◌≡◌, List, [], ◌∷◌, ◌++◌, Result, refl, sym, ◌∙◌, ap, append_assoc, subst}
+use Rattle.std.proofs.Common.{◌≡◌, List, [], ◌∷◌, ◌++◌, Result, Ok, Err, OnErr, refl, sym, ◌∙◌, ap, append_assoc, subst}
 use Rattle.std.proofs.lemmas.List.{append-nil}
 use Rattle.pattern_vars.specs.declared.binding.Binding.{Binding}
 use Rattle.check_group.specs.declared.answer.Matched.{Matched}
@@ -71,6 +71,10 @@ continues_end whole rest old now outcome on none is = record {
 -- memory runs out
 pub continues_part_way : (whole rest : Came) (old now : Variables) → Continues whole rest old now → IsPartWay whole.changes old now
 continues_part_way whole rest old now on = (on.done, rest.changes, on.changes, on.vars)
+
+pub part_way_any : {A E : Type 0} (result : Result A E) {P : Type 0} → P → OnErr result P
+part_way_any (Ok value) holds = tt
+part_way_any (Err fault) holds = holds
 
 -- what can be sought and bound still can
 pub continues_ready : (whole rest : Came) (old now : Variables) (check : Check) → Continues whole rest old now → IsReady old check

@@ -6,5 +6,7 @@ pub mod GroupLemmas
 pub mod LawLemmas
 pub mod LiesLemmas
 pub mod LineLemmas
+pub mod OrderLemmas
 pub mod PlacedLemmas
+pub mod ResumeLemmas
 pub mod TriedLemmas

@@ -1,8 +1,10 @@
 -- Groups of DAGs.
 -- After LLVM Command Guide, FileCheck, CHECK-DAG: a run of DAGs matches in any order, and no two of its matches overlap. Own
 -- rules: which try follows one that overlaps, and that each member binds as it matches.
-use Rattle.std.specs.Prelude.{◌≡◌, ℕ, zero, suc, ◌-◌, ◌<◌, ◌≤◌, nat_lt, min, max, Bool, ◌&&◌, ◌||◌, ◌==◌, if◌then◌else◌, List, [], ◌∷◌, length, Option, Some, None, Result, Ok, Err, IfOk}
+use Rattle.std.specs.Prelude.{◌≡◌, ℕ, zero, suc, ◌+◌, ◌-◌, ◌<◌, ◌≤◌, nat_lt, min, max, Bool, ◌&&◌, ◌||◌, ◌==◌, if◌then◌else◌, List, [], ◌∷◌, length, Option, Some, None, Result, Ok, Err, IfOk}
+use Rattle.std.specs.List.{AllByRecursion}
 use Rattle.tt_base.specs.declared.place.Span.{Span}
+use Rattle.pattern_scan.specs.Seek.{IsPlain}
 use Rattle.pattern_vars.specs.Vars.{bound_all}
 use Rattle.check_group.specs.Changes.{Variables}
 use Rattle.check_group.specs.Matches.{Came, behind, if_met, looked}
@@ -31,6 +33,11 @@ unfoldable pub placed_among : Span → List Span → List Span
 placed_among m [] = m ∷ []
 placed_among m (range ∷ ranges) =
     if is_lower range m then range ∷ placed_among m ranges else m ∷ range ∷ ranges
+
+-- ranges stand in order, and none begins before the end of another in front of it
+abbrev pub AreInOrder : List Span → Type 0
+AreInOrder [] = Unit {0}
+AreInOrder (range ∷ ranges) = AllByRecursion (λ later. range.to ≤ later.from) ranges × AreInOrder ranges
 
 -- a range ends at or before an offset
 abbrev pub EndsBy : ℕ → Span → Type 0
@@ -63,6 +70,16 @@ IsChain try ranges from (next ∷ starts) last =
 -- a member of a group is placed against the ranges before it
 abbrev pub placed : List ℕ → Variables → List Span → Check → ℕ → Result Met FaultKind
 placed text vars ranges check from = tried (looked text vars check 0) ranges (length text - from) from
+
+-- the last of a member's tries is that of the chain of which the first is from a later offset
+abbrev pub IsTriedFrom : List ℕ → Variables → List Span → Check → ℕ → ℕ → Type 0
+IsTriedFrom text vars ranges check place from =
+    (left : ℕ) × (length text ≤ from + left)
+    × (tried (looked text vars check 0) ranges left from ≡ placed text vars ranges check place)
+
+-- two directives are sought as the same bytes
+abbrev pub AreSameText : Check → Check → Type 0
+AreSameText one other = (bytes : List ℕ) × IsPlain one.pattern bytes × IsPlain other.pattern bytes
 
 -- ---- the group
 

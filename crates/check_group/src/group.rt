@@ -1,22 +1,24 @@
 //! Groups of DAGs.
-ghost use Rattle.std.specs.Prelude.{◌≡◌, ◌≤◌, All, IfOk, OnErr, length};
+ghost use Rattle.std.specs.Prelude.{◌≡◌, ◌⊎◌, ◌+◌, ◌-◌, ◌<◌, ◌≤◌, None, All, IfOk, IsTrue, OnErr, get_or, length};
 ghost use Rattle.check_group.specs.Changes.{IsPartWay, IsReady};
 ghost use Rattle.check_group.specs.Continues.{Comes, LiesIn};
-ghost use Rattle.check_group.specs.Group.{EndsBy, group_at, placed, reach};
+ghost use Rattle.check_group.specs.Group.{AreInOrder, AreSameText, EndsBy, IsTriedFrom, group_at, lowest, placed, reach};
 ghost use Rattle.check_group.specs.Matches.{Fits};
+ghost use Rattle.check_group.specs.declared.directive.Check.{Check};
 
 use crate::answer::{Matched, Met, look};
 use crate::directive::Check;
 use crate::fault::{Fault, FaultKind};
 use crate::ranges::{lowest_overlapped, passed, place_among};
 use ere_auto::Steps;
+use pattern_scan::plain_text;
 use pattern_vars::Vars;
 use std::alloc::Global;
 use std::sync::ledger::Ledger;
 use tt_base::{NoMemory, Span};
 
 #[tactic(auto, using(crate::proofs::TriedLemmas::tried_failed, crate::proofs::TriedLemmas::ends_later))]
-/// A member of a group, placed against the ranges before it, which stand in order.
+/// A member of a group, placed against the ranges before it, which stand in order. Its tries begin at `from`.
 fn place_member<L: Ledger>(
     alloc: Global,
     check: &Check,
@@ -24,15 +26,20 @@ fn place_member<L: Ledger>(
     text: &[u8],
     ranges: &[Span],
     place: usize,
+    from: usize,
     steps: &mut Steps<L>,
 ) -> Result<Result<Met, FaultKind>, NoMemory>
-    requires here { place ≤ length text.now }
+    requires later { place ≤ from }
+    requires here { from ≤ length text.now }
     requires ready { IsReady vars.now check.now }
     requires ranges { All (EndsBy (length text.now)) ranges.now }
+    requires in_order { AreInOrder ranges.now }
+    requires tried { IsTriedFrom text.now vars.now ranges.now check.now place from }
     ensures value { IfOk result (λ met. met ≡ placed text.now vars.now ranges.now check.now place) }
     ensures fits { IfOk result (λ met. IfOk met (Fits vars.now place (length text.now))) }
+    ensures free { IfOk result (λ met. IfOk met (λ m. lowest m.span ranges.now ≡ None)) }
 {
-    let mut from = place;
+    let mut from = from;
     let mut at = 0;
     loop {
         match look(alloc, check, vars, text, 0, from, steps)? {
@@ -47,6 +54,36 @@ fn place_member<L: Ledger>(
             }
         }
     }
+}
+
+/// Whether two directives are sought as the same bytes.
+fn is_same_text(one: &Check, other: &Check) -> bool
+    ensures { IsTrue result → AreSameText one.now other.now }
+{
+    match (plain_text(&one.pattern), plain_text(&other.pattern)) {
+        (Some(text), Some(next)) => text == next,
+        _ => false,
+    }
+}
+
+/// Where the tries of a member begin: behind the match of the member before it, if both are the same text.
+fn first_try(checks: &[Check], index: usize, place: usize, behind: usize) -> usize
+    requires within { index < length checks.now }
+    ensures { (result ≡ place) ⊎ ((result ≡ behind) × (0 < index)
+        × ((one : Check) → AreSameText (get_or checks.now (index - 1) one) (get_or checks.now index one))) }
+{
+    if index > 0 && is_same_text(&checks[index - 1], &checks[index]) {
+        behind
+    } else {
+        place
+    }
+}
+
+/// Where one more member of the same text is tried first: behind a match, if that isn't empty.
+fn next_try(m: Span, place: usize) -> usize
+    ensures { (result ≡ place) ⊎ ((result ≡ m.to) × (m.from < m.to)) }
+{
+    if m.from < m.to { m.to } else { place }
 }
 
 /// What a group spans with one more match.
@@ -82,12 +119,24 @@ pub fn place_group<L: Ledger>(
         from: text.len(),
         to: place,
     };
-    for check in checks {
-        match place_member(alloc, check, vars, text, ranges.as_slice(), place, steps)? {
+    let mut behind = place;
+    for (index, check) in checks.iter().enumerate() {
+        let from = first_try(checks, index, place, behind);
+        match place_member(
+            alloc,
+            check,
+            vars,
+            text,
+            ranges.as_slice(),
+            place,
+            from,
+            steps,
+        )? {
             Ok(m) => {
                 // The room for the range is taken before anything is bound.
                 place_among(&mut ranges, m.span)?;
                 reached = reach(reached, m.span);
+                behind = next_try(m.span, place);
                 vars.bind(m.fresh);
             }
             Err(kind) => {

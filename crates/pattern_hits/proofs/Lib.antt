@@ -1,3 +1,4 @@
 pub mod CapsLemmas
+pub mod NearLemmas
 pub mod PlainLemmas
 pub mod ReadLemmas

@@ -88,6 +88,16 @@ fn next_at(at: usize, body: &[u8], raw: &Raw) -> Result<usize, NoMemory>
     behind_raw(at, raw.kind, part(body, raw.from, raw.to))
 }
 
+/// No pieces, with room for so many. A check file has a list for each directive, most of them of one piece.
+fn room_for(alloc: Global, count: usize) -> Result<Items<Piece>, NoMemory>
+    ensures { IfOk result (λ pieces. pieces ≡ []) }
+{
+    match Vec::with_capacity(alloc, count) {
+        Ok(pieces) => Ok(Items::from_vec(pieces)),
+        Err(_) => Err(NoMemory),
+    }
+}
+
 /// The pieces of a body that was cut.
 fn read_pieces(
     alloc: Global,
@@ -102,7 +112,7 @@ fn read_pieces(
         (map (raw_view body.now) raws.now) (ending_view ending)) }
 {
     let mut said = Said::new(alloc);
-    let mut pieces = Items::new(alloc);
+    let mut pieces = room_for(alloc, raws.len())?;
     let mut at: usize = 0;
     for raw in raws {
         match read_next(alloc, known, &mut said, fold, label, at, body, raw)? {
@@ -168,7 +178,7 @@ fn frame_of(kind: Kind, frame: Frame) -> Frame
 fn plain_body(alloc: Global, body: &[u8]) -> Result<Items<Piece>, NoMemory>
     ensures { IfOk result (λ pieces. items_view pieces ≡ plain body.now ∷ []) }
 {
-    let mut pieces = Items::new(alloc);
+    let mut pieces = room_for(alloc, 1)?;
     pieces.push(Piece::Plain(Bytes::from_slice(alloc, body)?))?;
     Ok(pieces)
 }

@@ -7,14 +7,21 @@ use tt_base::{Bytes, Items};
 /// What kind of directive a body belongs to.
 #[derive(Clone, Copy, Debug, PartialEq, Eq)]
 pub enum Kind {
+    /// `CHECK:`: somewhere behind the match before.
     Plain,
+    /// `CHECK-NEXT:`: on the line after the match before.
     Next,
+    /// `CHECK-SAME:`: on the line of the match before.
     Same,
+    /// `CHECK-EMPTY:`: the line after the match before is empty.
     Empty,
+    /// `CHECK-NOT:`: nowhere between two matches.
     Not,
+    /// `CHECK-DAG:`: in any order with those beside it.
     Dag,
+    /// `CHECK-LABEL:`: where a block of the input ends.
     Label,
-    /// So many matches.
+    /// `CHECK-COUNT-3:`: so often, one match behind the other.
     Count(u32),
 }
 

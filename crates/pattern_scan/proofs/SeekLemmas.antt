@@ -124,6 +124,12 @@ sought_within fold text from (made t gifts) inside =
     answer_within fold text gifts from (hit_in text t from) (value_lies text t from inside)
     (hit_is_sound text t from (hit_in text t from) inside (value_is_hit text t from))
 
+pub pattern_within : (pattern : Pattern) (vars : FinMap name_cmp Held) (text : List ℕ) (from line : ℕ) → from ≤ length text
+    → IsWithin from (length text) (sought pattern vars text from line)
+pattern_within pattern vars text from line inside =
+    sought_within pattern.fold text from
+    (instance_of (known_of vars line pattern.fold) pattern.frame (items_view pattern.pieces)) inside
+
 pub answers_within : (fold : Bool) (text : List ℕ) (from : ℕ) (i : Instance) (r : Result Sought NoMemory)
     → from ≤ length text → IfOk r (λ answer. answer ≡ sought_of fold text from i) → IfOk r (IsWithin from (length text))
 answers_within fold text from i (Ok answer) inside is =
@@ -174,6 +180,13 @@ plain_made : (vars : FinMap name_cmp Held) (line : ℕ) (pattern : Pattern) (nee
     ≡ made (cat (then (plain needle) none)) []
 plain_made vars line pattern needle is =
     (λ n. instance_of (known_of vars line (is.fold n)) (is.frame n) (is.pieces n))
+
+-- two patterns of the same plain text answer alike, whatever the variables hold
+pub plain_alike : (vars vars' : FinMap name_cmp Held) (line line' : ℕ) (pattern other : Pattern) (needle text : List ℕ) (from : ℕ)
+    → IsPlain pattern needle → IsPlain other needle → sought pattern vars text from line ≡ sought other vars' text from line'
+plain_alike vars vars' line line' pattern other needle text from is also =
+    (λ n. sought_of (is.fold n) text from (plain_made vars line pattern needle is n))
+    ∙ sym ((λ n. sought_of (also.fold n) text from (plain_made vars' line' other needle also n)))
 
 is_text : (needle : List ℕ) → IsText (cat (then (plain needle) none)) needle
 is_text needle = record { texts = needle ∷ []; is = refl; joins = append-nil needle }

@@ -8,5 +8,5 @@ mod seeking;
 mod sought;
 
 pub use ready::{Ready, prepare};
-pub use seeking::seek;
+pub use seeking::{plain_text, seek};
 pub use sought::Sought;

@@ -70,7 +70,7 @@ fn refusal_of(alloc: Global, fault: EvalFault) -> Sought
 }
 
 /// The answer of a hit, or of none.
-pub fn answer_of(
+fn answer_of(
     alloc: Global,
     gifts: &[Gift],
     text: &[u8],

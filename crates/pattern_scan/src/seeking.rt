@@ -1,25 +1,26 @@
 //! Seeking a pattern.
-ghost use Rattle.std.specs.Prelude.{◌≡◌, ◌≤◌, ◌+◌, ◌-◌, IfOk, IfSome, length};
+ghost use Rattle.std.specs.Prelude.{◌≡◌, ◌≤◌, ◌+◌, ◌-◌, [], ℕ, false, IfOk, IfSome, List, length};
 ghost use Rattle.ere_tree.specs.Hit.{FindsHit};
 ghost use Rattle.pattern_instance.specs.Instance.{instance_of};
 ghost use Rattle.pattern_instance.specs.Known.{known_of};
 ghost use Rattle.pattern_parse.specs.PieceView.{items_view};
 ghost use Rattle.pattern_parse.specs.Search.{IsSearchable};
 ghost use Rattle.pattern_vars.specs.Vars.{HavePlaces};
-ghost use Rattle.pattern_scan.specs.Seek.{ArePlaced, IsPlain, IsShown, IsWithin, is_expressed, names_of, sought};
+ghost use Rattle.pattern_scan.specs.Seek.{ArePlaced, IsPlain, IsShown, IsWithin, answer_of, is_expressed, names_of, sought};
 
-use crate::ready::{answer_of, prepare};
+use crate::ready::prepare;
 use crate::sought::Sought;
 use ere_auto::Steps;
+use ere_tree::Hit;
 use pattern_hits::find_text;
 use pattern_parse::{Frame, Pattern, Piece};
 use pattern_vars::Vars;
 use std::alloc::Global;
 use std::sync::ledger::Ledger;
-use tt_base::NoMemory;
+use tt_base::{Items, NoMemory, Span};
 
 /// The bytes that a pattern stands for where it is one piece of plain text.
-fn plain_text(pattern: &Pattern) -> Option<&[u8]>
+pub fn plain_text(pattern: &Pattern) -> Option<&[u8]>
     ensures { IfSome result (λ text. IsPlain pattern.now text.now) }
 {
     if pattern.fold {
@@ -29,6 +30,44 @@ fn plain_text(pattern: &Pattern) -> Option<&[u8]>
         (Frame::Open, [Piece::Plain(text)]) => Some(text.as_slice()),
         _ => None,
     }
+}
+
+/// The answer of a hit that binds nothing, or of none.
+fn plain_answer(alloc: Global, hit: Option<Hit>) -> Sought
+    ensures { (text : List ℕ) → result ≡ answer_of false text [] hit }
+{
+    match hit {
+        Some(hit) => Sought::Found {
+            span: Span::of(hit.from, hit.to.saturating_sub(hit.from)),
+            fresh: Items::new(alloc),
+        },
+        None => Sought::Absent,
+    }
+}
+
+/// Seeks a pattern that is made ready for this slice alone. It stands apart, since what is ready is large, and plain text
+/// shouldn't pay for it.
+#[inline(never)]
+fn seek_once<L: Ledger>(
+    alloc: Global,
+    pattern: &Pattern,
+    vars: &Vars,
+    text: &[u8],
+    from: usize,
+    line: u32,
+    steps: &mut Steps<L>,
+) -> Result<Sought, NoMemory>
+    requires inside { from ≤ length text.now }
+    requires searchable { IsSearchable (items_view pattern.now.pieces) }
+    ensures value { IfOk result (λ answer. answer ≡ sought pattern.now vars.now text.now from line) }
+    ensures least { IfOk result (λ answer. IsShown (is_expressed (items_view pattern.now.pieces)) text.now from
+        (instance_of (known_of vars.now line pattern.now.fold) pattern.now.frame (items_view pattern.now.pieces))
+        (steps.new - steps.old)) }
+    ensures most { steps.new ≤ steps.old + (length text.now - from) + 1 }
+    ensures counted { steps.old ≤ steps.new }
+{
+    let mut ready = prepare(alloc, pattern, vars, line)?;
+    ready.seek(alloc, text, from, steps)
 }
 
 /// Seeks a pattern of a directive of this line, in the slice from `from` to the text's end. No variable changes. Whoever
@@ -54,14 +93,7 @@ pub fn seek<L: Ledger>(
     ensures counted { steps.old ≤ steps.new }
 {
     if let Some(needle) = plain_text(pattern) {
-        return answer_of(
-            alloc,
-            &[],
-            text,
-            false,
-            find_text(alloc, needle, text, from),
-        );
+        return Ok(plain_answer(alloc, find_text(alloc, needle, text, from)));
     }
-    let mut ready = prepare(alloc, pattern, vars, line)?;
-    ready.seek(alloc, text, from, steps)
+    seek_once(alloc, pattern, vars, text, from, line, steps)
 }

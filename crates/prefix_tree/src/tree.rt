@@ -1,5 +1,5 @@
 //! The tree of a list of prefixes.
-ghost use Rattle.std.specs.Prelude.{◌≡◌, ◌+◌, ◌<◌, ◌≤◌, IfOk, IfSome, OnOk, length};
+ghost use Rattle.std.specs.Prelude.{◌≡◌, ◌∷◌, [], ◌+◌, ◌<◌, ◌≤◌, IfOk, IfSome, OnOk, length};
 ghost use Rattle.prefix_tree.specs.Heads.{AreHeads};
 ghost use Rattle.prefix_tree.specs.Prefix.{IsMeant, meant};
 ghost use Rattle.prefix_tree.specs.Tree.{IsTree, ended};
@@ -46,7 +46,7 @@ impl<'a> PrefixTree<'a> {
         ensures among { IfSome result (λ one. one.index < length self.now.prefixes.now) }
     {
         if may_begin(&self.heads, text) {
-            longest_in(&self.turns, self.prefixes, text)
+            longest_of(&self.turns, self.prefixes, text)
         } else {
             None
         }
@@ -77,6 +77,32 @@ fn add(turns: &mut Turns, prefixes: &[Bytes], index: usize) -> Result<(), NoMemo
     }
     turns.end_at(owner, prefix.len(), index)?;
     Ok(())
+}
+
+/// The same where one of the prefixes may stand. One prefix alone needs no turns.
+fn longest_of(turns: &Turns, prefixes: &[Bytes], text: &[u8]) -> Option<Standing>
+    requires { ∥ IsTree (next_of turns.now) (end_of turns.now) prefixes.now (length prefixes.now) ∥₁ }
+    ensures { result ≡ meant prefixes.now text.now }
+{
+    match prefixes {
+        [one] => only(one.as_slice(), text),
+        _ => longest_in(turns, prefixes, text),
+    }
+}
+
+/// The only prefix, if it stands at the front of a text.
+#[tactic(auto, unfolding(crate::specs::Prefix::meant_from))]
+fn only(prefix: &[u8], text: &[u8]) -> Option<Standing>
+    ensures { result ≡ meant (prefix.now ∷ []) text.now }
+{
+    if text.starts_with(prefix) {
+        Some(Standing {
+            index: 0,
+            length: prefix.len(),
+        })
+    } else {
+        None
+    }
 }
 
 /// The longest of the prefixes of a tree that stand at the front of a text.

@@ -1,19 +1,28 @@
-use Rattle.std.proofs.Common.{◌≤◌, ◌-◌, IfOk, length, refl, sym, ◌∙◌, ap, subst, arith, All, take}
-use Rattle.std.proofs.Math.Nat.{le_refl}
+use Rattle.std.proofs.Common.{◌≤◌, IfOk, length, sym, ◌∙◌, ap, subst, arith, All, take}
 use Rattle.std.proofs.lemmas.List.Elements.{All-drop}
-use Rattle.check_group.specs.Group.{EndsBy, lowest}
+use Rattle.check_group.specs.Group.{AreInOrder, EndsBy, lowest}
 use Rattle.check_group.specs.Matches.{Fits, looked}
-use Rattle.check_group.proofs.TriedLemmas.{ends_later, tried_free, tried_on}
+use Rattle.check_group.proofs.OrderLemmas.{order_drop}
+use Rattle.check_group.proofs.TriedLemmas.{ends_later, lowest_drop, tried_free, tried_on}
 use Rattle.check_group.proofs.group.place_member.Goals as goal
 
 pub loop-kind-init : goal.loop-kind-init
 loop-kind-init g c = record {
-  behind = le_refl c.args.place;
+  behind = c.requires.later;
   within = c.requires.here;
   at = omega arith;
   passed = λ k d low. absurd (omega (arith, low));
-  chain = (length c.args.text.now - c.args.place, omega (arith, c.requires.here), refl);
+  chain = c.requires.tried;
 }
+
+pub lowest_overlapped-requires : goal.lowest_overlapped-requires
+lowest_overlapped-requires g c =
+    subst AreInOrder (sym c.split_at.ensures.back) (order_drop c.passed-at.result c.args.ranges.now c.requires.in_order)
+
+pub returns-in-None-clause-free : goal.returns-in-None-clause-free
+returns-in-None-clause-free g c =
+    lowest_drop c.in-Ok.m.span c.passed-at.result c.args.ranges.now c.passed-at.ensures.before
+    ∙ sym (c.in-None.ensures.value ∙ ap (lowest c.in-Ok.m.span) c.split_at.ensures.back)
 
 pub returns-in-None-clause-value : goal.returns-in-None-clause-value
 returns-in-None-clause-value g c =

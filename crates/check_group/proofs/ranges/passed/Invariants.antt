@@ -2,11 +2,12 @@ use Rattle.std.proofs.Common.{◌≤◌, ◌-◌, All, length, take}
 use Rattle.check_group.specs.Group.{EndsBy}
 use Rattle.check_group.proofs.ranges.passed.Given as goal
 
-abbrev pub invariant-loop-next : goal.invariant-loop-next
-invariant-loop-next l = record {
-  within : l.next ≤ length l.ranges;
-  before : All (EndsBy l.from) (take l.next l.ranges);
+abbrev pub invariant-loop-low : goal.invariant-loop-low
+invariant-loop-low l = record {
+  ordered : l.low ≤ l.high;
+  within : l.high ≤ length l.ranges;
+  before : All (EndsBy l.from) (take l.low l.ranges);
 }
 
-abbrev pub decreases-loop-next : goal.decreases-loop-next
-decreases-loop-next l = length l.ranges - l.next
+abbrev pub decreases-loop-low : goal.decreases-loop-low
+decreases-loop-low l = l.high - l.low

@@ -17,12 +17,12 @@ returns-else-may_begin-clause-value c =
 
 pub returns-then-may_begin-clause-longest : goal.returns-then-may_begin-clause-longest
 returns-then-may_begin-clause-longest c =
-    counts_by_value c.args.self.now.prefixes.now c.args.text.now c.longest_in.result c.longest_in.ensures
+    counts_by_value c.args.self.now.prefixes.now c.args.text.now c.longest_of.result c.longest_of.ensures
 
 pub returns-then-may_begin-clause-within : goal.returns-then-may_begin-clause-within
 returns-then-may_begin-clause-within c =
-    within_by_value c.args.self.now.prefixes.now c.args.text.now c.longest_in.result c.longest_in.ensures
+    within_by_value c.args.self.now.prefixes.now c.args.text.now c.longest_of.result c.longest_of.ensures
 
 pub returns-then-may_begin-clause-among : goal.returns-then-may_begin-clause-among
 returns-then-may_begin-clause-among c =
-    among_by_value c.args.self.now.prefixes.now c.args.text.now c.longest_in.result c.longest_in.ensures
+    among_by_value c.args.self.now.prefixes.now c.args.text.now c.longest_of.result c.longest_of.ensures
