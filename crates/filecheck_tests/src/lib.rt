@@ -10,6 +10,8 @@ mod numbers;
 #[cfg(test)]
 mod options;
 #[cfg(test)]
+mod pieces;
+#[cfg(test)]
 mod rows;
 #[cfg(test)]
 mod runs;

@@ -15,7 +15,7 @@ const AMPLE: usize = 1 << 14;
 #[derive(Drop)]
 pub(crate) struct Objects {
     files: MemFiles,
-    input: MemSource,
+    pub(crate) input: MemSource,
     pub(crate) out: MemSink,
     pub(crate) err: MemSink,
 }
@@ -62,6 +62,15 @@ impl Objects {
         self.run_words(alloc, words.as_slice())
     }
 
+    /// What is told of a run on these words, behind its status.
+    pub(crate) fn told(&mut self, alloc: Global, line: &str) -> Result<Bytes, Fail> {
+        let status = self.run(alloc, line)?;
+        let mut told = Bytes::from_slice(alloc, &[b'0' + status.min(9), b' '])?;
+        told.append(self.err.as_slice())?;
+        told.append(self.out.as_slice())?;
+        Ok(told)
+    }
+
     fn run_words(&mut self, alloc: Global, words: &[String]) -> Result<u8, AllocError> {
         Ok(filecheck_run(
             alloc,
@@ -77,14 +86,10 @@ impl Objects {
 /// What is told of a run on these words, a check file and an input, behind its status. Nothing is written to `out`.
 pub(crate) fn told(alloc: Global, line: &str, checks: &str, input: &str) -> Result<Bytes, Fail> {
     let mut objects = Objects::new(alloc, checks, input)?;
-    let status = objects.run(alloc, line)?;
-    let mut told = Bytes::from_slice(alloc, &[b'0' + status.min(9), b' '])?;
-    told.append(objects.err.as_slice())?;
-    told.append(objects.out.as_slice())?;
-    Ok(told)
+    objects.told(alloc, line)
 }
 
-const ROW_MESSAGE: &str = "t.txt:1:8: error: CHECK: expected string not found in input
+pub(crate) const ROW_MESSAGE: &str = "t.txt:1:8: error: CHECK: expected string not found in input
 CHECK: foo
        ^
 <stdin>:1:1: note: scanning from here

@@ -4,6 +4,7 @@
 #![tactic(auto)]
 
 mod crew;
+mod equal;
 mod files;
 mod listing;
 mod mem_crew;

@@ -5,6 +5,8 @@
 #[cfg(test)]
 mod base;
 #[cfg(test)]
+mod equal;
+#[cfg(test)]
 mod outside;
 #[cfg(test)]
 mod plain;

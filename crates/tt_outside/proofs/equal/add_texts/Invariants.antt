@@ -1,0 +1,5 @@
+use Rattle.std.proofs.Common.{◌≡◌, ◌++◌, drop}
+use Rattle.tt_outside.proofs.equal.add_texts.Given as goal
+
+abbrev pub invariant-loop-one : goal.invariant-loop-one
+invariant-loop-one l = l.texts ++ drop l.one-index l.more ≡ l.fn.texts ++ l.more

@@ -1,0 +1,287 @@
+//! Equal tests, requests and replies: copies, and comparisons, which take no memory.
+ghost use Rattle.std.specs.Prelude.{◌≡◌, ◌++◌, ◌↔◌, IfOk, IsTrue, OnOk};
+
+use crate::request::{Entry, Pair, Reply, Request};
+use crate::test_data::Test;
+use std::alloc::Global;
+use tt_base::{Bytes, Items, NoMemory};
+
+/// An equal text.
+fn text(alloc: Global, bytes: &Bytes) -> Result<Bytes, NoMemory>
+    ensures { IfOk result (λ copy. copy ≡ bytes.now) }
+{
+    Bytes::from_slice(alloc, bytes.as_slice())
+}
+
+/// Adds equal texts.
+fn add_texts(alloc: Global, texts: &mut Items<Bytes>, more: &[Bytes]) -> Result<(), NoMemory>
+    ensures { OnOk result (texts.new ≡ texts.old ++ more.now) }
+{
+    for one in more {
+        texts.push(text(alloc, one)?)?;
+    }
+    Ok(())
+}
+
+/// Adds equal pairs.
+fn add_pairs(alloc: Global, pairs: &mut Items<Pair>, more: &[Pair]) -> Result<(), NoMemory>
+    ensures { OnOk result (pairs.new ≡ pairs.old ++ more.now) }
+{
+    for one in more {
+        pairs.push(one.copy(alloc)?)?;
+    }
+    Ok(())
+}
+
+/// Equal texts.
+fn texts(alloc: Global, items: &Items<Bytes>) -> Result<Items<Bytes>, NoMemory>
+    ensures { IfOk result (λ copy. copy ≡ items.now) }
+{
+    let mut copy = Items::new(alloc);
+    add_texts(alloc, &mut copy, items.as_slice())?;
+    Ok(copy)
+}
+
+/// Equal pairs.
+fn pairs(alloc: Global, items: &Items<Pair>) -> Result<Items<Pair>, NoMemory>
+    ensures { IfOk result (λ copy. copy ≡ items.now) }
+{
+    let mut copy = Items::new(alloc);
+    add_pairs(alloc, &mut copy, items.as_slice())?;
+    Ok(copy)
+}
+
+/// Whether two texts are equal.
+fn same_text(one: &Bytes, other: &Bytes) -> bool
+    ensures { IsTrue result ↔ (one.now ≡ other.now) }
+{
+    one.as_slice() == other.as_slice()
+}
+
+/// Whether texts are equal, one by one.
+fn same_texts(one: &[Bytes], other: &[Bytes]) -> bool
+    ensures { IsTrue result ↔ (one.now ≡ other.now) }
+{
+    let mut rest = other;
+    for first in one {
+        let Some((second, behind)) = rest.split_first() else {
+            return false;
+        };
+        if !same_text(first, second) {
+            return false;
+        }
+        rest = behind;
+    }
+    rest.is_empty()
+}
+
+/// Whether pairs are equal, one by one.
+fn same_pairs(one: &[Pair], other: &[Pair]) -> bool
+    ensures { IsTrue result ↔ (one.now ≡ other.now) }
+{
+    let mut rest = other;
+    for first in one {
+        let Some((second, behind)) = rest.split_first() else {
+            return false;
+        };
+        if !first.same(second) {
+            return false;
+        }
+        rest = behind;
+    }
+    rest.is_empty()
+}
+
+impl Pair {
+    /// An equal pair.
+    pub fn copy(&self, alloc: Global) -> Result<Pair, NoMemory>
+        ensures { IfOk result (λ copy. copy ≡ self.now) }
+    {
+        Ok(Pair {
+            name: text(alloc, &self.name)?,
+            value: text(alloc, &self.value)?,
+        })
+    }
+
+    /// Whether two pairs are equal.
+    pub fn same(&self, other: &Pair) -> bool
+        ensures { IsTrue result ↔ (self.now ≡ other.now) }
+    {
+        same_text(&self.name, &other.name) && same_text(&self.value, &other.value)
+    }
+}
+
+impl Test {
+    /// An equal test.
+    #[tactic(auto, using(crate::proofs::EqualLemmas::equal_tests))]
+    pub fn copy(&self, alloc: Global) -> Result<Test, NoMemory>
+        ensures { IfOk result (λ copy. copy ≡ self.now) }
+    {
+        Ok(Test {
+            name: text(alloc, &self.name)?,
+            path: text(alloc, &self.path)?,
+            source_dir: text(alloc, &self.source_dir)?,
+            work_dir: text(alloc, &self.work_dir)?,
+            temp_dir: text(alloc, &self.temp_dir)?,
+            temp: text(alloc, &self.temp)?,
+            features: texts(alloc, &self.features)?,
+            substitutions: pairs(alloc, &self.substitutions)?,
+            tools: pairs(alloc, &self.tools)?,
+            environment: pairs(alloc, &self.environment)?,
+        })
+    }
+
+    /// Whether two tests are equal.
+    pub fn same(&self, other: &Test) -> bool
+        ensures { IsTrue result ↔ (self.now ≡ other.now) }
+    {
+        same_text(&self.name, &other.name)
+            && same_text(&self.path, &other.path)
+            && same_text(&self.source_dir, &other.source_dir)
+            && same_text(&self.work_dir, &other.work_dir)
+            && same_text(&self.temp_dir, &other.temp_dir)
+            && same_text(&self.temp, &other.temp)
+            && same_texts(self.features.as_slice(), other.features.as_slice())
+            && same_pairs(
+                self.substitutions.as_slice(),
+                other.substitutions.as_slice(),
+            )
+            && same_pairs(self.tools.as_slice(), other.tools.as_slice())
+            && same_pairs(self.environment.as_slice(), other.environment.as_slice())
+    }
+}
+
+impl Request {
+    /// An equal request.
+    pub fn copy(&self, alloc: Global) -> Result<Request, NoMemory>
+        ensures { IfOk result (λ copy. copy ≡ self.now) }
+    {
+        match self {
+            Request::ReadFile { path, limit } => Ok(Request::ReadFile {
+                path: text(alloc, path)?,
+                limit: *limit,
+            }),
+            Request::MakeDir { path } => Ok(Request::MakeDir {
+                path: text(alloc, path)?,
+            }),
+            Request::WriteFile {
+                path,
+                bytes,
+                append,
+            } => Ok(Request::WriteFile {
+                path: text(alloc, path)?,
+                bytes: text(alloc, bytes)?,
+                append: *append,
+            }),
+            Request::Spawn {
+                words,
+                dir,
+                env,
+                input,
+                limit,
+            } => Ok(Request::Spawn {
+                words: texts(alloc, words)?,
+                dir: text(alloc, dir)?,
+                env: pairs(alloc, env)?,
+                input: text(alloc, input)?,
+                limit: *limit,
+            }),
+        }
+    }
+
+    /// Whether two requests are equal.
+    pub fn same(&self, other: &Request) -> bool
+        ensures { IsTrue result ↔ (self.now ≡ other.now) }
+    {
+        match (self, other) {
+            (
+                Request::ReadFile { path, limit },
+                Request::ReadFile {
+                    path: second,
+                    limit: most,
+                },
+            ) => same_text(path, second) && limit == most,
+            (Request::MakeDir { path }, Request::MakeDir { path: second }) => same_text(
+                path, second,
+            ),
+            (
+                Request::WriteFile {
+                    path,
+                    bytes,
+                    append,
+                },
+                Request::WriteFile {
+                    path: second,
+                    bytes: written,
+                    append: appended,
+                },
+            ) => same_text(path, second) && same_text(bytes, written) && append == appended,
+            (
+                Request::Spawn {
+                    words,
+                    dir,
+                    env,
+                    input,
+                    limit,
+                },
+                Request::Spawn {
+                    words: more,
+                    dir: second,
+                    env: pairs,
+                    input: read,
+                    limit: most,
+                },
+            ) => {
+                same_texts(words.as_slice(), more.as_slice())
+                    && same_text(dir, second)
+                    && same_pairs(env.as_slice(), pairs.as_slice())
+                    && same_text(input, read)
+                    && limit == most
+            }
+            _ => false,
+        }
+    }
+}
+
+impl Reply {
+    /// Whether two replies are equal.
+    pub fn same(&self, other: &Reply) -> bool
+        ensures { IsTrue result ↔ (self.now ≡ other.now) }
+    {
+        match (self, other) {
+            (Reply::Bytes(bytes), Reply::Bytes(read)) => same_text(bytes, read),
+            (Reply::Written, Reply::Written) => true,
+            (Reply::Missing, Reply::Missing) => true,
+            (
+                Reply::Status { finish, out, err },
+                Reply::Status {
+                    finish: end,
+                    out: written,
+                    err: told,
+                },
+            ) => finish == end && same_text(out, written) && same_text(err, told),
+            (Reply::TooLarge(stream), Reply::TooLarge(other)) => stream == other,
+            (Reply::Broken, Reply::Broken) => true,
+            _ => false,
+        }
+    }
+}
+
+impl Entry {
+    /// An equal entry.
+    pub fn copy(&self, alloc: Global) -> Result<Entry, NoMemory>
+        ensures { IfOk result (λ copy. copy ≡ self.now) }
+    {
+        Ok(Entry {
+            request: self.request.copy(alloc)?,
+            reply: self.reply.copy(alloc)?,
+        })
+    }
+
+    /// Whether two entries are equal.
+    pub fn same(&self, other: &Entry) -> bool
+        ensures { IsTrue result ↔ (self.now ≡ other.now) }
+    {
+        self.request.same(&other.request) && self.reply.same(&other.reply)
+    }
+}
