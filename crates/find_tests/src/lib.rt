@@ -2,6 +2,8 @@
 #![tactic(auto)]
 
 #[cfg(test)]
+mod discoveries;
+#[cfg(test)]
 mod kept;
 #[cfg(test)]
 mod looks;
@@ -9,3 +11,5 @@ mod looks;
 mod paths;
 #[cfg(test)]
 mod tests_made;
+#[cfg(test)]
+mod wide;

@@ -97,3 +97,14 @@ fn a_part_adds_to_the_tests_below_it(rt: HostRuntime) -> Result<(), Fail> {
     }
     Ok(())
 }
+
+#[test]
+fn a_copy_of_a_test_is_equal_and_another_test_is_not(rt: HostRuntime) -> Result<(), Fail> {
+    let alloc = rt.alloc();
+    let test = made(alloc, "a.t")?;
+    let copy = test.copy(alloc)?;
+    assert!(rt; test.same(&copy));
+    let other = made(alloc, "x/b.t")?;
+    assert!(rt; !test.same(&other));
+    Ok(())
+}

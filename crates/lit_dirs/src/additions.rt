@@ -22,16 +22,6 @@ pub(crate) fn add_texts(
     Ok(())
 }
 
-/// A copy of a pair.
-fn copied_pair(alloc: Global, pair: &Pair) -> Result<Pair, NoMemory>
-    ensures { IfOk result (λ copy. copy ≡ pair.now) }
-{
-    Ok(Pair {
-        name: Bytes::from_slice(alloc, pair.name.as_slice())?,
-        value: Bytes::from_slice(alloc, pair.value.as_slice())?,
-    })
-}
-
 /// Adds copies of pairs.
 pub(crate) fn add_pairs(
     alloc: Global,
@@ -41,7 +31,7 @@ pub(crate) fn add_pairs(
     ensures { OnOk result (pairs.new ≡ pairs.old ++ more.now) }
 {
     for pair in more {
-        pairs.push(copied_pair(alloc, pair)?)?;
+        pairs.push(pair.copy(alloc)?)?;
     }
     Ok(())
 }

@@ -1,5 +1,5 @@
 //! What a directory tells.
-ghost use Rattle.std.specs.Prelude.{◌≡◌, ◌≤◌, ◌++◌, ◌∷◌, [], true, Err, IfOk, IfSome};
+ghost use Rattle.std.specs.Prelude.{◌≡◌, ◌≢◌, ◌≤◌, ◌++◌, ◌∷◌, [], true, Err, IfOk, IfSome};
 ghost use Rattle.std.specs.List.{list_all};
 ghost use Rattle.tt_outside.specs.Faults.{Rose};
 ghost use Rattle.tt_outside.specs.TreeMap.{Lists, is_part};
@@ -30,6 +30,9 @@ pub fn list_dir<T: Tree>(
     ensures root { T.root tree.new ≡ T.root tree.old }
     ensures later { T.faults tree.old ≤ T.faults tree.new }
     ensures cause { result ≡ Err DiscoverFault.TreeFault → Rose (T.faults tree.old) (T.faults tree.new) }
+    ensures calm { result ≢ Err DiscoverFault.TreeFault → T.faults tree.new ≡ T.faults tree.old }
+    ensures steady { T.steady tree.old
+        → (result ≢ Err DiscoverFault.TreeFault) × T.steady tree.new × (T.faults tree.new ≡ T.faults tree.old) }
 {
     let path = text_of(alloc, dir)?;
     match tree.list(alloc, path.as_slice()) {
@@ -65,6 +68,9 @@ fn read_in<T: Tree>(alloc: Global, tree: &mut T, dir: &[Bytes]) -> Result<Suite,
     ensures root { T.root tree.new ≡ T.root tree.old }
     ensures later { T.faults tree.old ≤ T.faults tree.new }
     ensures cause { result ≡ Err DiscoverFault.TreeFault → Rose (T.faults tree.old) (T.faults tree.new) }
+    ensures calm { result ≢ Err DiscoverFault.TreeFault → T.faults tree.new ≡ T.faults tree.old }
+    ensures steady { T.steady tree.old
+        → (result ≢ Err DiscoverFault.TreeFault) × T.steady tree.new × (T.faults tree.new ≡ T.faults tree.old) }
 {
     let path = suite_path(alloc, dir)?;
     match tree.read_all(alloc, path.as_slice(), MAX_SUITE) {
@@ -96,6 +102,9 @@ pub fn look_in<T: Tree>(
     ensures root { T.root tree.new ≡ T.root tree.old }
     ensures later { T.faults tree.old ≤ T.faults tree.new }
     ensures cause { result ≡ Err DiscoverFault.TreeFault → Rose (T.faults tree.old) (T.faults tree.new) }
+    ensures calm { result ≢ Err DiscoverFault.TreeFault → T.faults tree.new ≡ T.faults tree.old }
+    ensures steady { T.steady tree.old
+        → (result ≢ Err DiscoverFault.TreeFault) × T.steady tree.new × (T.faults tree.new ≡ T.faults tree.old) }
 {
     if let Some(name) = python_of(items) {
         let path = path_of(alloc, dir, name.as_bytes())?;

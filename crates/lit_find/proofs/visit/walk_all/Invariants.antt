@@ -1,0 +1,19 @@
+use Rattle.std.proofs.Common.{◌≡◌, List, Some}
+use Rattle.tt_outside.specs.declared.tree.Node.{Node}
+use Rattle.lit_paths.specs.Paths.{Parts}
+use Rattle.lit_look.specs.declared.seen.Looked.{Looked}
+use Rattle.lit_find.specs.Walk.{IsWalk, room}
+use Rattle.lit_find.proofs.visit.walk_all.Given as goal
+
+abbrev pub invariant-loop-place : goal.invariant-loop-place
+invariant-loop-place g l = record {
+  nodes : g.T.Tree.nodes l.tree ≡ g.T.Tree.nodes l.fn.tree;
+  root : g.T.Tree.root l.tree ≡ g.T.Tree.root l.fn.tree;
+  calm : g.T.Tree.faults l.tree ≡ g.T.Tree.faults l.fn.tree;
+  walk : (nodes : List Node) (words : List Parts) (word : Parts) (first : List Looked)
+      → g.T.Tree.nodes l.fn.tree ≡ Some nodes → IsWalk nodes words word first l.fn.seen l.fn.walk
+      → IsWalk nodes words word first l.seen l.walk;
+}
+
+abbrev pub decreases-loop-place : goal.decreases-loop-place
+decreases-loop-place g l = room l.seen l.walk

@@ -1,0 +1,18 @@
+-- Places under keys: what the code's maps hold.
+-- Own rule.
+use Rattle.std.specs.Prelude.{◌≡◌, ℕ, List, map, Vec}
+use Rattle.std.specs.declared.alloc.Global.{Global}
+use Rattle.lit_paths.specs.Paths.{text_of}
+use Rattle.lit_find.specs.declared.place.Place.{Place}
+
+-- the parts of a key
+abbrev pub parts_of : Vec (Vec ℕ Global) Global → List (List ℕ)
+parts_of key = map (λ part. part.items) key.items
+
+-- each place is under its path
+abbrev pub KeysArePaths : List (Vec (Vec ℕ Global) Global × Place) → Type 0
+KeysArePaths entries = map (λ entry. parts_of entry.0) entries ≡ map (λ entry. entry.1.path) entries
+
+-- each place is under the text of its path
+abbrev pub KeysAreTexts : List (Vec ℕ Global × Place) → Type 0
+KeysAreTexts entries = map (λ entry. entry.0.items) entries ≡ map (λ entry. text_of entry.1.path) entries

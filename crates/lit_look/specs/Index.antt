@@ -1,0 +1,29 @@
+-- The directories that were looked at, with their numbers under their paths.
+-- Own rule.
+use Rattle.std.specs.Prelude.{◌≡◌, ℕ, ◌<◌, ◌≤◌, List, length, All, Option, Some, Vec, slice_index_or}
+use Rattle.std.specs.declared.alloc.Global.{Global}
+use Rattle.std.specs.BTreeMap.{is_at}
+use Rattle.std.specs.Cmp.Lexicographic.{slice_cmp}
+use Rattle.std.specs.Map.{lookup}
+use Rattle.std.specs.Ordering.{nat_cmp}
+use Rattle.lit_paths.specs.Paths.{text_of}
+use Rattle.lit_look.specs.Seen.{HasParts, HasWhole, count_items}
+use Rattle.lit_look.specs.declared.seen.Looked.{Looked}
+
+-- the number under a path
+abbrev pub number_at : List (Vec ℕ Global × ℕ) → List ℕ → Option ℕ
+number_at numbers path = lookup (is_at (λ key. slice_cmp nat_cmp path key.items)) numbers
+
+-- the directory of this number has this path
+abbrev pub IsAt : List Looked → ℕ → List ℕ → Type 0
+IsAt seen number path =
+    (number < length seen) × ((other : Looked) → text_of (slice_index_or seen number other).dir ≡ path)
+
+-- each directory has its number under its path, and there are no other numbers
+pub record IsIndexed (seen : List Looked) (numbers : List (Vec ℕ Global × ℕ)) (items : ℕ) : Type 0 where
+  pub right : (path : List ℕ) (number : ℕ) → number_at numbers path ≡ Some number → IsAt seen number path
+  pub whole : (number : ℕ) (path : List ℕ) → IsAt seen number path → number_at numbers path ≡ Some number
+  pub parts : All HasParts seen
+  pub suites : All HasWhole seen
+  pub count : items ≡ count_items seen
+  pub within : items ≤ 1000000

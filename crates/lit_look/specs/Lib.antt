@@ -1,0 +1,4 @@
+pub mod Index
+pub mod Looks
+pub mod Seen
+pub mod Suites

@@ -1,0 +1,60 @@
+-- The directories that were looked at.
+-- Own rule: each directory is looked at once, and what all of them list has a limit.
+use Rattle.std.specs.Prelude.{◌≡◌, ◌≢◌, ℕ, ◌+◌, ◌≤◌, nat_lt, true, if◌then◌else◌, List, map, length, All, Some, None, IfSome, Ok}
+use Rattle.std.specs.List.{AllPairs, Contains, list_all, sum_by}
+use Rattle.std.specs.Option.{option_map}
+use Rattle.tt_outside.specs.declared.tree.Node.{Node}
+use Rattle.tt_outside.specs.declared.tree.Item.{Item}
+use Rattle.tt_outside.specs.TreeMap.{Lists, is_part}
+use Rattle.lit_paths.specs.Paths.{Parts, text_of}
+use Rattle.lit_suite.specs.Whole.{IsWhole}
+use Rattle.lit_dirs.specs.Looks.{fault_in}
+use Rattle.lit_dirs.specs.Suites.{suite_at}
+use Rattle.lit_dirs.specs.declared.fault.DiscoverFault.{DiscoverFault}
+use Rattle.lit_dirs.specs.declared.fault.DiscoverFault.TheVariants.{TooManyItems}
+use Rattle.lit_look.specs.declared.seen.Looked.{Looked}
+
+-- a directory is among those that were looked at
+abbrev pub Has : List Looked → Parts → Type 0
+Has seen dir = Contains (map (λ looked. looked.dir) seen) dir
+
+-- the directory is made of parts
+abbrev pub HasParts : Looked → Type 0
+HasParts looked = list_all is_part looked.dir ≡ true
+
+-- its suite, if it has one, is whole
+abbrev pub HasWhole : Looked → Type 0
+HasWhole looked = IfSome looked.suite IsWhole
+
+-- this is what a look at the directory gives, which nothing refuses
+pub record IsLook (nodes : List Node) (looked : Looked) : Type 0 where
+  pub lists : Lists nodes (text_of looked.dir) looked.items
+  pub clear : fault_in nodes looked.dir ≡ None
+  pub suite : suite_at nodes looked.dir ≡ option_map Ok looked.suite
+
+-- how many items were listed in all
+abbrev pub count_items : List Looked → ℕ
+count_items seen = sum_by (λ looked. length looked.items) seen
+
+-- each directory of which Before holds was looked at once, and no other; nothing refuses one
+pub record AreSeen (nodes : List Node) (Before : Parts → Type 0) (seen : List Looked) : Type 0 where
+  pub right : (dir : Parts) → Has seen dir → Before dir
+  pub whole : (dir : Parts) → Before dir → Has seen dir
+  pub looks : All (IsLook nodes) seen
+  pub once : AllPairs (λ one other. one.dir ≢ other.dir) seen
+  pub within : count_items seen ≤ 1000000
+
+-- looks, each at another directory
+abbrev pub AreLooks : List Node → List Looked → Type 0
+AreLooks nodes seen = AreSeen nodes (Has seen) seen
+
+-- Behind looks at each directory of which Before holds, a further one is refused: with its items there are too many, or
+-- else it has a fault.
+pub record Refuses (nodes : List Node) (Before : Parts → Type 0) (dir : Parts) (fault : DiscoverFault) : Type 0 where
+  pub seen : List Looked
+  pub before : AreSeen nodes Before seen
+  pub new : ¬ (Before dir)
+  pub items : List Item
+  pub lists : Lists nodes (text_of dir) items
+  pub told : (if nat_lt 1000000 (count_items seen + length items) then Some TooManyItems else fault_in nodes dir)
+      ≡ Some fault

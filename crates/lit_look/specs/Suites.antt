@@ -1,0 +1,52 @@
+-- The suite of a directory.
+-- Own rule: a directory's suite is the one at it, or at the nearest directory above.
+use Rattle.std.specs.Prelude.{◌≡◌, ◌≢◌, ℕ, List, [], ◌∷◌, ◌++◌, Option, None, Some, Result, Ok, Err, map, reverse}
+use Rattle.lit_paths.specs.Paths.{Parts}
+use Rattle.lit_dirs.specs.Suites.{suite_at}
+use Rattle.lit_suite.specs.declared.suite_file.Suite.{Suite}
+use Rattle.lit_suite.specs.declared.suite_file.SuiteFault.{SuiteFault}
+use Rattle.tt_outside.specs.declared.tree.Node.{Node}
+
+-- a suite and its directory
+pub record Rooted : Type 0 where
+  pub root : Parts
+  pub suite : Suite
+
+-- the suite that a directory is the root of
+abbrev pub rooted : Parts → Option (Result Suite SuiteFault) → Option Rooted
+rooted dir None = None
+rooted dir (Some (Ok suite)) = Some (record { root = dir; suite = suite })
+rooted dir (Some (Err fault)) = None
+
+-- the fronts of a path, shortest first
+abbrev pub fronts : Parts → List Parts
+fronts [] = [] ∷ []
+fronts (part ∷ path) = [] ∷ map (λ front. part ∷ front) (fronts path)
+
+-- a directory and those above it, nearest first
+abbrev pub upward : Parts → List Parts
+upward dir = reverse (fronts dir)
+
+abbrev pub or_else : Option Rooted → Option Rooted → Option Rooted
+or_else (Some one) other = Some one
+or_else None other = other
+
+-- the suite of the first of these directories that is the root of one
+abbrev pub first_suite : List Node → List Parts → Option Rooted
+first_suite nodes [] = None
+first_suite nodes (dir ∷ dirs) = or_else (rooted dir (suite_at nodes dir)) (first_suite nodes dirs)
+
+-- the suite of the files in a directory
+abbrev pub nearest : List Node → Parts → Option Rooted
+nearest nodes dir = first_suite nodes (upward dir)
+
+-- a directory lies above another
+abbrev pub IsAbove : Parts → Parts → Type 0
+IsAbove one dir = (part : List ℕ) × (rest : Parts) × (dir ≡ one ++ part ∷ rest)
+
+-- A directory is the one to start from or lies above it, and none from there to just below it has a suite: so it is
+-- looked at for the suite of that one.
+abbrev pub GoesUp : List Node → Parts → Parts → Type 0
+GoesUp nodes start dir =
+    (below : Parts) × (start ≡ dir ++ below)
+    × ((one rest : Parts) → below ≡ one ++ rest → one ≢ [] → suite_at nodes (dir ++ one) ≡ None)

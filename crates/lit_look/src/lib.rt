@@ -1,0 +1,11 @@
+//! Which directories a discovery has looked at, and the suite of a directory: the one at it, or the nearest above.
+//! After LLVM Command Guide, lit, 'TEST DISCOVERY'; a suite is what its `lit.suite.toml` says.
+#![tactic(auto)]
+
+mod looking;
+mod seen;
+mod upward;
+
+pub use looking::look;
+pub use seen::{Looked, Seen};
+pub use upward::nearest;

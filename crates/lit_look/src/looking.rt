@@ -1,0 +1,111 @@
+//! A look at a directory.
+ghost use Rattle.std.specs.Prelude.{◌≡◌, ◌≢◌, ◌≤◌, IfOk, IfSome, List, true};
+ghost use Rattle.std.specs.List.{list_all};
+ghost use Rattle.lit_dirs.specs.Looks.{kind_of};
+ghost use Rattle.lit_paths.specs.Paths.{text_of};
+ghost use Rattle.lit_look.specs.Looks.{Extends, GivesDirLook, GivesLook, IsNumberOf};
+ghost use Rattle.lit_look.specs.Seen.{AreLooks, Has};
+ghost use Rattle.tt_outside.specs.Faults.{Rose};
+ghost use Rattle.tt_outside.specs.declared.tree.ItemKind.TheVariants.{Dir};
+ghost use Rattle.tt_outside.specs.declared.tree.Node.{Node};
+ghost use Rattle.tt_outside.specs.TreeMap.{Lists, is_part};
+
+use crate::seen::{Looked, Seen};
+use lit_dirs::{DiscoverFault, list_dir, look_in};
+use lit_paths::{copied, text_of};
+use std::alloc::Global;
+use tt_base::{Bytes, Items};
+use tt_outside::{Item, Tree};
+
+/// Adds a directory that lists these items, with its suite, and gives its number; or what refuses the directory.
+fn enter<T: Tree>(
+    alloc: Global,
+    tree: &mut T,
+    seen: &mut Seen,
+    dir: &[Bytes],
+    items: Items<Item>,
+) -> Result<usize, DiscoverFault>
+    requires parts { list_all is_part dir.now ≡ true }
+    requires lists { IfSome (T.nodes tree.old) (λ nodes. Lists nodes (text_of dir.now) items) }
+    requires new { ¬ (Has seen.old dir.now) }
+    ensures gives { (nodes : List Node) → T.nodes tree.old ≡ Some nodes → AreLooks nodes seen.old
+        → GivesDirLook nodes dir.now seen.old seen.new result }
+    ensures number { IfOk result (IsNumberOf seen.new dir.now) }
+    ensures extends { Extends seen.old seen.new }
+    ensures nodes { T.nodes tree.new ≡ T.nodes tree.old }
+    ensures root { T.root tree.new ≡ T.root tree.old }
+    ensures later { T.faults tree.old ≤ T.faults tree.new }
+    ensures cause { result ≡ Err DiscoverFault.TreeFault → Rose (T.faults tree.old) (T.faults tree.new) }
+    ensures calm { result ≢ Err DiscoverFault.TreeFault → T.faults tree.new ≡ T.faults tree.old }
+{
+    if !seen.has_room(items.len()) {
+        return Err(DiscoverFault::TooManyItems);
+    }
+    match look_in(alloc, tree, dir, items.as_slice()) {
+        Ok(suite) => {
+            let looked = Looked {
+                dir: copied(alloc, dir)?,
+                items,
+                suite,
+            };
+            Ok(seen.add(alloc, looked)?)
+        }
+        Err(fault) => Err(fault),
+    }
+}
+
+/// Looks at a directory, if it wasn't looked at, and gives its number; none, where a file has the path.
+pub fn look<T: Tree>(
+    alloc: Global,
+    tree: &mut T,
+    seen: &mut Seen,
+    dir: &[Bytes],
+) -> Result<Option<usize>, DiscoverFault>
+    requires parts { list_all is_part dir.now ≡ true }
+    ensures gives { (nodes : List Node) → T.nodes tree.old ≡ Some nodes → AreLooks nodes seen.old
+        → GivesLook nodes dir.now seen.old seen.new result }
+    ensures number { IfOk result (λ found. IfSome found (IsNumberOf seen.new dir.now)) }
+    ensures extends { Extends seen.old seen.new }
+    ensures nodes { T.nodes tree.new ≡ T.nodes tree.old }
+    ensures root { T.root tree.new ≡ T.root tree.old }
+    ensures later { T.faults tree.old ≤ T.faults tree.new }
+    ensures cause { result ≡ Err DiscoverFault.TreeFault → Rose (T.faults tree.old) (T.faults tree.new) }
+    ensures calm { result ≢ Err DiscoverFault.TreeFault → T.faults tree.new ≡ T.faults tree.old }
+{
+    if let Some(number) = seen.number_of(alloc, dir)? {
+        return Ok(Some(number));
+    }
+    match list_dir(alloc, tree, dir) {
+        Ok(Some(items)) => match enter(alloc, tree, seen, dir, items) {
+            Ok(number) => Ok(Some(number)),
+            Err(fault) => Err(fault),
+        },
+        Ok(None) => Ok(None),
+        Err(fault) => Err(fault),
+    }
+}
+
+/// Looks at a directory, if it wasn't looked at, and gives its number. A file that stands there has taken its place.
+pub(crate) fn look_at_dir<T: Tree>(
+    alloc: Global,
+    tree: &mut T,
+    seen: &mut Seen,
+    dir: &[Bytes],
+) -> Result<usize, DiscoverFault>
+    requires parts { list_all is_part dir.now ≡ true }
+    ensures gives { (nodes : List Node) → T.nodes tree.old ≡ Some nodes → AreLooks nodes seen.old
+        → kind_of nodes dir.now ≡ Some Dir → GivesDirLook nodes dir.now seen.old seen.new result }
+    ensures number { IfOk result (IsNumberOf seen.new dir.now) }
+    ensures extends { Extends seen.old seen.new }
+    ensures nodes { T.nodes tree.new ≡ T.nodes tree.old }
+    ensures root { T.root tree.new ≡ T.root tree.old }
+    ensures later { T.faults tree.old ≤ T.faults tree.new }
+    ensures cause { result ≡ Err DiscoverFault.TreeFault → Rose (T.faults tree.old) (T.faults tree.new) }
+    ensures calm { result ≢ Err DiscoverFault.TreeFault → T.faults tree.new ≡ T.faults tree.old }
+{
+    match look(alloc, tree, seen, dir) {
+        Ok(Some(number)) => Ok(number),
+        Ok(None) => Err(DiscoverFault::Missing(text_of(alloc, dir)?)),
+        Err(fault) => Err(fault),
+    }
+}
