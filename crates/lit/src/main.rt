@@ -1,0 +1,56 @@
+//! `lit --show-tests PATH ..`: shows the names of the tests that suites of directories hold.
+//! All that it says and how it ends is `lit_tool`'s; here are the real words, folders and streams.
+#![tactic(auto)]
+
+use lit_tool::lit_run;
+use std::env::{self, Env};
+use std::io::{self, ErrorKind};
+use std::process::ExitCode;
+use tt_base::Bytes;
+use tt_main::{no_words, words};
+use tt_outside::Sink;
+use tt_real::{StdErr, StdOut, StdTree};
+use tt_run::{answer_on, tell};
+
+/// The path that words are joined to: that of the current directory.
+fn base<R: Env + AllocGlobal>(rt: &R) -> io::Result<Bytes> {
+    let dir = env::current_dir(rt)?;
+    match Bytes::from_slice(rt.alloc(), dir.as_str().as_bytes()) {
+        Ok(base) => Ok(base),
+        Err(_) => Err(io::Error::from(ErrorKind::OutOfMemory)),
+    }
+}
+
+/// Tells why there is no such path.
+fn no_base<E: Sink>(error: &io::Error, err: &mut E) -> u8 {
+    match error.kind() {
+        ErrorKind::OutOfMemory => {
+            tell(b"lit: error: out of memory\n", err);
+            4
+        }
+        _ => answer_on(b"lit: error: cannot read the tree\n", 3, err),
+    }
+}
+
+fn main(rt: HostRuntime) -> ExitCode {
+    let alloc = rt.alloc();
+    let mut err = StdErr::new(rt.stderr());
+    let words = match words(&rt) {
+        Ok(words) => words,
+        Err(error) => {
+            return ExitCode::from(no_words(
+                &error,
+                b"lit: error: a word isn't text\n",
+                b"lit: error: out of memory\n",
+                &mut err,
+            ));
+        }
+    };
+    let base = match base(&rt) {
+        Ok(base) => base,
+        Err(error) => return ExitCode::from(no_base(&error, &mut err)),
+    };
+    let mut out = StdOut::new(rt.stdout());
+    let mut tree = StdTree::new(rt, base);
+    ExitCode::from(lit_run(alloc, words.as_slice(), &mut tree, &mut out, &mut err))
+}

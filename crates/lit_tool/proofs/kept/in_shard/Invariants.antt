@@ -1,0 +1,10 @@
+use Rattle.std.proofs.Common.{◌≡◌, ◌++◌, ◌+◌, length}
+use Rattle.std.specs.Vec.Iter.{into_iter_items}
+use Rattle.lit_tool.specs.Kept.{shard_from}
+use Rattle.lit_tool.proofs.kept.in_shard.Given as goal
+
+abbrev pub invariant-loop-test : goal.invariant-loop-test
+invariant-loop-test l = record {
+  done : l.kept ++ shard_from l.part l.place (into_iter_items l.test-iterator) ≡ shard_from l.part 0 l.fn.tests;
+  counted : l.place + length (into_iter_items l.test-iterator) ≡ length l.fn.tests;
+}

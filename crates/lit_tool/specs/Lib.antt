@@ -1,0 +1,4 @@
+pub mod Answer
+pub mod Kept
+pub mod Message
+pub mod Run

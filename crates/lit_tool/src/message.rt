@@ -1,0 +1,97 @@
+//! The messages of lit.
+ghost use Rattle.std.specs.Prelude.{◌≡◌, ◌++◌, IfOk};
+ghost use Rattle.lit_tool.specs.Message.{discovery_text, kind_text, text_of, unplaced, words_text};
+
+use crate::stop::Stop;
+use lit_dirs::DiscoverFault;
+use lit_suite::SuiteFault;
+use lit_words::WordsFault;
+use std::alloc::Global;
+use tt_base::{Bytes, NoMemory};
+
+/// A name between two texts.
+fn named(alloc: Global, before: &[u8], name: &Bytes, behind: &[u8]) -> Result<Bytes, NoMemory>
+    ensures { IfOk result (λ text. text ≡ before.now ++ name.now ++ behind.now) }
+{
+    let mut text = Bytes::from_slice(alloc, before)?;
+    text.append(name.as_slice())?;
+    text.append(behind)?;
+    Ok(text)
+}
+
+/// A message, with the program's name before it.
+pub(crate) fn unplaced(alloc: Global, text: &[u8]) -> Result<Bytes, NoMemory>
+    ensures { IfOk result (λ message. message ≡ unplaced text.now) }
+{
+    let mut message = Bytes::from_slice(alloc, b"lit: error: ")?;
+    message.append(text)?;
+    message.append(b"\n")?;
+    Ok(message)
+}
+
+/// What is told of a stop.
+pub(crate) fn text_of(alloc: Global, stop: &Stop) -> Result<Bytes, NoMemory>
+    ensures { IfOk result (λ text. text ≡ text_of stop.now) }
+{
+    match stop {
+        Stop::Words(fault) => words_text(alloc, fault),
+        Stop::NotBuilt => Bytes::from_slice(alloc, b"form not built yet"),
+        Stop::Discovery(fault) => discovery_text(alloc, fault),
+        Stop::NoneSelected => Bytes::from_slice(alloc, b"no tests selected"),
+    }
+}
+
+fn words_text(alloc: Global, fault: &WordsFault) -> Result<Bytes, NoMemory>
+    ensures { IfOk result (λ text. text ≡ words_text fault.now) }
+{
+    match fault {
+        WordsFault::Faulty(fault, word) => {
+            named(alloc, fault.text_before(), word, fault.text_behind())
+        }
+        WordsFault::NoPath => Bytes::from_slice(alloc, b"a path is needed"),
+        WordsFault::Misfit => Bytes::from_slice(alloc, b"these options don't fit together"),
+        WordsFault::BadRegex(value) => named(alloc, b"bad regex '", value, b"'"),
+    }
+}
+
+fn discovery_text(alloc: Global, fault: &DiscoverFault) -> Result<Bytes, NoMemory>
+    ensures { IfOk result (λ text. text ≡ discovery_text fault.now) }
+{
+    match fault {
+        DiscoverFault::Missing(path) => named(alloc, b"path not found: '", path, b"'"),
+        DiscoverFault::PythonConfig(path) => {
+            named(
+                alloc,
+                b"Python configuration isn't supported: '",
+                path,
+                b"'",
+            )
+        }
+        DiscoverFault::NoSuite(path) => named(alloc, b"no suite for '", path, b"'"),
+        DiscoverFault::BadSuite { path, fault } => {
+            let kind = kind_text(alloc, fault)?;
+            let mut text = named(alloc, b"bad suite '", path, b"': ")?;
+            text.append(kind.as_slice())?;
+            Ok(text)
+        }
+        DiscoverFault::SuiteTooLarge(path) => named(alloc, b"suite file too large: '", path, b"'"),
+        DiscoverFault::TooMany => Bytes::from_slice(alloc, b"too many tests"),
+        DiscoverFault::TooManyItems => Bytes::from_slice(alloc, b"too many files"),
+        DiscoverFault::NoTests => Bytes::from_slice(alloc, b"no tests found"),
+        DiscoverFault::TreeFault => Bytes::from_slice(alloc, b"cannot read the tree"),
+        DiscoverFault::NoMemory => Bytes::from_slice(alloc, b"out of memory"),
+    }
+}
+
+/// The kind of a suite's fault, with its key.
+fn kind_text(alloc: Global, fault: &SuiteFault) -> Result<Bytes, NoMemory>
+    ensures { IfOk result (λ text. text ≡ kind_text fault.now) }
+{
+    match fault {
+        SuiteFault::NotToml => Bytes::from_slice(alloc, b"NotToml"),
+        SuiteFault::MissingKey(key) => named(alloc, b"MissingKey '", key, b"'"),
+        SuiteFault::BadVersion => Bytes::from_slice(alloc, b"BadVersion"),
+        SuiteFault::UnknownKey(key) => named(alloc, b"UnknownKey '", key, b"'"),
+        SuiteFault::BadValue(key) => named(alloc, b"BadValue '", key, b"'"),
+    }
+}

@@ -1,0 +1,17 @@
+//! Why a run shows no tests. src/message.rt has what is told of each.
+
+use lit_dirs::DiscoverFault;
+use lit_words::WordsFault;
+
+/// Why a run shows no tests, in the order of docs/PROFILE.md.
+#[derive(Drop, Debug)]
+pub enum Stop {
+    /// The words are refused.
+    Words(WordsFault),
+    /// `lit demo`: tests don't run yet.
+    NotBuilt,
+    /// The tests weren't found.
+    Discovery(DiscoverFault),
+    /// `--select zz`: no test is kept of those that were found.
+    NoneSelected,
+}
