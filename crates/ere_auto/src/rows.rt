@@ -11,6 +11,12 @@ use std::alloc::{AllocError, Global};
 /// How many rows are kept.
 pub const MAX_ROWS: usize = 192;
 
+/// In how many slots the places of rows are kept, by what is in them.
+const SLOTS: usize = 512;
+
+/// In how many slots, one behind the other, a row is looked for.
+const TRIES: usize = 8;
+
 /// For how many threads of each row there is room, one with the other.
 const ROW_WIDTH: usize = 16;
 
@@ -19,8 +25,8 @@ const ROW_WIDTH: usize = 16;
 pub struct Rows {
     pool: Vec<Thread>,
     rows: Vec<Row>,
-    cells: Vec<u16>,
-    index: Vec<u16>,
+    cells: Vec<u8>,
+    index: Vec<u8>,
     pub nodes: usize,
     room: usize,
     pub ghost two: { 2 ≤ vec_len rows },
@@ -36,7 +42,7 @@ pub struct Rows {
     ghost pool_fits: { vec_len pool ≤ room },
     ghost pool_room: { room ≤ vec_capacity pool },
     ghost wide: { nodes ≤ room },
-    ghost slots: { vec_len index ≡ 64 },
+    ghost slots: { vec_len index ≡ 512 },
     pub ghost begun: { (r : ℕ) → r < vec_len rows → slot_or_zero (row_in rows.items r).begun ≤ nodes },
     pub ghost met: { (r : ℕ) → r < vec_len rows → slot_or_zero (row_in rows.items r).met ≤ nodes },
     pub ghost origins: { (x : ℕ) → x < vec_len pool → origin_in pool.items x ≤ nodes },
@@ -85,7 +91,7 @@ impl Rows {
         let mut cells = Vec::with_capacity(alloc, 256 * MAX_ROWS)?;
         add_cells(&mut cells);
         add_cells(&mut cells);
-        let index = vec![in alloc; 0u16; 64]?;
+        let index = vec![in alloc; 0u8; SLOTS]?;
         Ok(Rows {
             pool,
             rows,
@@ -150,7 +156,7 @@ impl Rows {
         ensures pool { self.new.pool ≡ self.old.pool }
         ensures nodes { self.new.nodes ≡ self.old.nodes }
     {
-        self.cells[row * 256 + byte as usize] = to as u16;
+        self.cells[row * 256 + byte as usize] = to as u8;
     }
 
     /// The row that the index has in a slot, if it is this one.
@@ -163,7 +169,7 @@ impl Rows {
         begun: Option<usize>,
         met: Option<usize>,
     ) -> Option<usize>
-        requires { slot < 64 }
+        requires { slot < 512 }
         ensures { IfSome result (λ row. IsRow (row_table_of self.now) row threads.now line searching begun met) }
     {
         let known = self.index[slot] as usize;
@@ -183,6 +189,38 @@ impl Rows {
         }
     }
 
+    /// The row that the index has for these threads. Those that no slot has are kept in the first free one, or else in the
+    /// first.
+    fn look(
+        &self,
+        threads: &[Thread],
+        line: bool,
+        searching: bool,
+        begun: Option<usize>,
+        met: Option<usize>,
+    ) -> Looked
+        ensures row { IfSome result.row (λ row. IsRow (row_table_of self.now) row threads.now line searching begun met) }
+        ensures slot { result.slot < 512 }
+    {
+        let first = slot_of(threads, line, searching, met);
+        for step in 0..TRIES {
+            let slot = (first + step) % SLOTS;
+            if self.index[slot] == 0 {
+                return Looked { row: None, slot };
+            }
+            if let Some(row) = self.find(slot, threads, line, searching, begun, met) {
+                return Looked {
+                    row: Some(row),
+                    slot,
+                };
+            }
+        }
+        Looked {
+            row: None,
+            slot: first,
+        }
+    }
+
     /// Drops all rows but the first two, and what is known of them.
     fn clear(&mut self)
         ensures steps { (T : ℕ → Node) (e : ℕ) → AreSteps T e (row_table_of self.new) }
@@ -194,6 +232,7 @@ impl Rows {
         self.pool.clear();
         self.rows.truncate(2);
         self.cells.clear();
+        self.index.fill(0);
         add_cells(&mut self.cells);
         add_cells(&mut self.cells);
     }
@@ -273,15 +312,22 @@ impl Rows {
         ensures steps { (T : ℕ → Node) (e : ℕ) → AreSteps T e (row_table_of self.old) → AreSteps T e (row_table_of self.new) }
         ensures nodes { self.new.nodes ≡ self.old.nodes }
     {
-        let slot = slot_of(threads, line, searching, met);
-        if let Some(row) = self.find(slot, threads, line, searching, begun, met) {
+        let looked = self.look(threads, line, searching, begun, met);
+        if let Some(row) = looked.row {
             return Entered { row, kept: true };
         }
         let kept = self.make_room(threads.len());
         let row = self.push_row(threads, line, searching, begun, met);
-        self.index[slot] = row as u16;
+        self.index[looked.slot] = row as u8;
         Entered { row, kept }
     }
+}
+
+/// The row that the index has, and the slot in which it is, or is to be.
+#[derive(Clone, Copy, Debug, PartialEq, Eq)]
+struct Looked {
+    row: Option<usize>,
+    slot: usize,
 }
 
 /// The place of a row, and whether the rows before are where they were.
@@ -309,7 +355,7 @@ fn add_threads(pool: &mut Vec<Thread>, threads: &[Thread])
 }
 
 /// Adds the cells of a row, of which none is known. There is room for them.
-fn add_cells(cells: &mut Vec<u16>)
+fn add_cells(cells: &mut Vec<u8>)
     requires { vec_len cells.old + 256 ≤ vec_capacity cells.old }
     ensures items { cells.new.items ≡ cells.old.items ++ replicate 256 0 }
     ensures len { vec_len cells.new ≡ vec_len cells.old + 256 }
@@ -337,7 +383,7 @@ fn same_threads(one: &[Thread], other: &[Thread]) -> bool
 
 /// A slot of the index: any function of the row would do.
 fn slot_of(threads: &[Thread], line: bool, searching: bool, met: Option<usize>) -> usize
-    ensures { result < 64 }
+    ensures { result < 512 }
 {
     const MIX: u64 = 0x9E37_79B9_7F4A_7C15;
     let mut hash = line as u64 * 2 + searching as u64;
@@ -348,5 +394,5 @@ fn slot_of(threads: &[Thread], line: bool, searching: bool, met: Option<usize>) 
         let both = (thread.node as u64).wrapping_mul(MIX) ^ thread.origin as u64;
         hash = (hash.rotate_left(11) ^ both).wrapping_mul(MIX);
     }
-    ((hash >> 32) % 64) as usize
+    ((hash >> 32) % SLOTS as u64) as usize
 }
