@@ -15,21 +15,21 @@ use Rattle.filecheck_words.specs.declared.checking.Input.TheVariants.{Standard, 
 use Rattle.filecheck_words.specs.declared.fault.WordsFault.{WordsFault}
 use Rattle.filecheck_words.specs.declared.job.Job.{Job}
 use Rattle.generator.specs.Generated.{checks_text, input_text}
-use Rattle.filecheck_tool.specs.Answer.{answer_to}
+use Rattle.filecheck_messages.specs.Answer.{answer_to}
 use Rattle.filecheck_tool.specs.CheckFile.{check_file_in}
 use Rattle.check_program.specs.declared.program.Program.{Program as Patterns}
 use Rattle.filecheck_tool.specs.Program.{ArePatterns, IsCompiledTo, fresh_of, program_of}
-use Rattle.filecheck_tool.specs.Refusal.{◌>>=◌, LeadsTo, accepted}
+use Rattle.filecheck_messages.specs.Refusal.{◌>>=◌, LeadsTo, accepted}
 use Rattle.filecheck_tool.specs.Run.{InputRead, OutcomeFrom, ProgramFrom, ReadOrMade}
 use Rattle.filecheck_tool.specs.Start.{start_of}
 use Rattle.filecheck_tool.specs.Verdict.{filled, input_name, verdict, verdict_read}
 use Rattle.filecheck_tool.specs.declared.check_file.CheckFile.{CheckFile}
 use Rattle.filecheck_tool.specs.declared.program.Program.{Program}
-use Rattle.filecheck_tool.specs.declared.refusal.Refusal.{Refusal}
-use Rattle.filecheck_tool.specs.declared.refusal.Stop.{Stop}
-use Rattle.filecheck_tool.specs.declared.refusal.Stop.TheVariants.{Refused, NotReadable}
-use Rattle.filecheck_tool.specs.declared.report.Report.{Report}
-use Rattle.filecheck_tool.specs.declared.report.Report.TheVariants.{Found, Made}
+use Rattle.filecheck_messages.specs.declared.refusal.Refusal.{Refusal}
+use Rattle.filecheck_messages.specs.declared.refusal.Stop.{Stop}
+use Rattle.filecheck_messages.specs.declared.refusal.Stop.TheVariants.{Refused, NotReadable}
+use Rattle.filecheck_messages.specs.declared.report.Report.{Report}
+use Rattle.filecheck_messages.specs.declared.report.Report.TheVariants.{Found, Made}
 use Rattle.filecheck_tool.specs.declared.start.Start.{Start}
 
 -- a step stopped at a fault of reading

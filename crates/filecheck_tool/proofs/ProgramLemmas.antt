@@ -13,13 +13,13 @@ use Rattle.pattern_parse.specs.declared.fault.PatFault.{PatFault}
 use Rattle.pattern_parse.specs.declared.pattern.Frame.{Frame}
 use Rattle.pattern_vars.specs.declared.binding.Binding.{Binding}
 use Rattle.filecheck_tool.specs.Program.{ArePatterns, IsCompiledWith, bad_body, frame_by, fresh_of, program_of}
-use Rattle.filecheck_tool.specs.Refusal.{Ends, Gives, LeadsTo, accepted}
+use Rattle.filecheck_messages.specs.Refusal.{Ends, Gives, LeadsTo, accepted}
 use Rattle.filecheck_tool.specs.declared.check_file.CheckFile.{CheckFile}
 use Rattle.filecheck_tool.specs.declared.program.Program.{Program}
-use Rattle.filecheck_tool.specs.declared.refusal.Refusal.{Refusal}
-use Rattle.filecheck_tool.specs.declared.refusal.StepFail.{StepFail}
-use Rattle.filecheck_tool.specs.declared.refusal.StepFail.TheVariants.{Stopped, NoMemory}
-use Rattle.filecheck_tool.specs.declared.refusal.Stop.TheVariants.{Refused}
+use Rattle.filecheck_messages.specs.declared.refusal.Refusal.{Refusal}
+use Rattle.filecheck_messages.specs.declared.refusal.StepFail.{StepFail}
+use Rattle.filecheck_messages.specs.declared.refusal.StepFail.TheVariants.{Stopped, NoMemory}
+use Rattle.filecheck_messages.specs.declared.refusal.Stop.TheVariants.{Refused}
 
 module _ (file : CheckFile) (known new : Formats) (frame : Frame) (text : List ℕ) (directives : List Directive)
     (implicit : List (List ℕ)) (frames : frame ≡ frame_by file.asked.full_lines file.asked.strict)

@@ -2,11 +2,11 @@
 use Rattle.std.proofs.Common.{◌≡◌, ◌∙◌, ℕ, List, length, Result, Ok, ap, sym}
 use Rattle.check_lines.specs.Canonical.{canon}
 use Rattle.filecheck_tool.specs.CheckFile.{whole}
-use Rattle.filecheck_tool.specs.Refusal.{◌>>=◌, accepted}
+use Rattle.filecheck_messages.specs.Refusal.{◌>>=◌, accepted}
 use Rattle.filecheck_tool.specs.Verdict.{filled, input_name, verdict, verdict_read}
 use Rattle.filecheck_tool.specs.declared.program.Program.{Program}
-use Rattle.filecheck_tool.specs.declared.refusal.Stop.{Stop}
-use Rattle.filecheck_tool.specs.declared.report.Report.{Report}
+use Rattle.filecheck_messages.specs.declared.refusal.Stop.{Stop}
+use Rattle.filecheck_messages.specs.declared.report.Report.{Report}
 use Rattle.tt_run.specs.declared.reading.Reading.{Reading}
 
 abbrev then_verdict : Program → List ℕ → Result Report Stop

@@ -10,14 +10,14 @@ use Rattle.check_lines.specs.declared.fault.CheckKind.{CheckKind}
 use Rattle.check_lines.specs.declared.fault.CheckKind.TheVariants.{BadCount as IsBadCount, NotCombination as IsNotCombination, BadModifier as IsBadModifier, EmptyPattern as IsEmptyPattern, NonEmptyForEmpty as IsNonEmptyForEmpty, NoEarlierCheck as IsNoEarlierCheck, NoChecks as HasNoChecks, UnusedPrefix as IsUnused}
 use Rattle.pattern_parse.specs.declared.pattern.Kind.{Kind}
 use Rattle.pattern_parse.specs.declared.pattern.Kind.TheVariants.{Plain, Next, Same, Empty, Not, Dag, Label, Count}
-use Rattle.filecheck_tool.specs.Refusal.{◌>>=◌, accepted}
-use Rattle.filecheck_tool.specs.Spot.{spot_at}
+use Rattle.filecheck_messages.specs.Refusal.{◌>>=◌, accepted}
+use Rattle.filecheck_messages.specs.Spot.{spot_at}
 use Rattle.filecheck_tool.specs.declared.check_file.CheckFile.{CheckFile}
-use Rattle.filecheck_tool.specs.declared.refusal.Refusal.{Refusal}
-use Rattle.filecheck_tool.specs.declared.refusal.Refusal.TheVariants.{NotFound, TooLarge, BadCount, NotCombination, BadModifier, EmptyPattern, NonEmptyForEmpty, NoEarlierCheck, NoChecks, UnusedPrefix}
-use Rattle.filecheck_tool.specs.declared.refusal.Stop.{Stop}
-use Rattle.filecheck_tool.specs.declared.refusal.Stop.TheVariants.{Refused, NotReadable}
-use Rattle.filecheck_tool.specs.declared.spot.Spot.{Spot}
+use Rattle.filecheck_messages.specs.declared.refusal.Refusal.{Refusal}
+use Rattle.filecheck_messages.specs.declared.refusal.Refusal.TheVariants.{NotFound, TooLarge, BadCount, NotCombination, BadModifier, EmptyPattern, NonEmptyForEmpty, NoEarlierCheck, NoChecks, UnusedPrefix}
+use Rattle.filecheck_messages.specs.declared.refusal.Stop.{Stop}
+use Rattle.filecheck_messages.specs.declared.refusal.Stop.TheVariants.{Refused, NotReadable}
+use Rattle.filecheck_messages.specs.declared.spot.Spot.{Spot}
 use Rattle.filecheck_tool.specs.declared.start.Start.{Start}
 use Rattle.tt_run.specs.declared.reading.Reading.{Reading}
 use Rattle.tt_run.specs.declared.reading.Reading.TheVariants.{Whole, Missing, TooLarge as PastLimit, Failed}

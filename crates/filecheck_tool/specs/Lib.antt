@@ -1,9 +1,5 @@
-pub mod Answer
 pub mod CheckFile
-pub mod Message
 pub mod Program
-pub mod Refusal
 pub mod Run
-pub mod Spot
 pub mod Start
 pub mod Verdict

@@ -15,15 +15,15 @@ use Rattle.pattern_parse.specs.declared.pattern.Frame.{Frame}
 use Rattle.pattern_parse.specs.declared.pattern.Frame.TheVariants.{Open, Spaced, Tight}
 use Rattle.pattern_vars.specs.declared.binding.Binding.{Binding}
 use Rattle.filecheck_tool.specs.CheckFile.{HasBodies, body_spot, check_file_read, start_behind}
-use Rattle.filecheck_tool.specs.Refusal.{LeadsTo, accepted}
-use Rattle.filecheck_tool.specs.Spot.{behind}
+use Rattle.filecheck_messages.specs.Refusal.{LeadsTo, accepted}
+use Rattle.filecheck_messages.specs.Spot.{behind}
 use Rattle.filecheck_tool.specs.Start.{IsStart}
 use Rattle.filecheck_tool.specs.declared.check_file.CheckFile.{CheckFile}
 use Rattle.filecheck_tool.specs.declared.program.Program.{Program}
-use Rattle.filecheck_tool.specs.declared.refusal.Refusal.{Refusal}
-use Rattle.filecheck_tool.specs.declared.refusal.Refusal.TheVariants.{BadBody, BadDefine}
-use Rattle.filecheck_tool.specs.declared.refusal.Stop.{Stop}
-use Rattle.filecheck_tool.specs.declared.refusal.Stop.TheVariants.{Refused, NotReadable}
+use Rattle.filecheck_messages.specs.declared.refusal.Refusal.{Refusal}
+use Rattle.filecheck_messages.specs.declared.refusal.Refusal.TheVariants.{BadBody, BadDefine}
+use Rattle.filecheck_messages.specs.declared.refusal.Stop.{Stop}
+use Rattle.filecheck_messages.specs.declared.refusal.Stop.TheVariants.{Refused, NotReadable}
 use Rattle.filecheck_tool.specs.declared.start.Start.{Start}
 use Rattle.tt_run.specs.declared.reading.Reading.{Reading}
 

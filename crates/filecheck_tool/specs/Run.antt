@@ -14,10 +14,10 @@ use Rattle.filecheck_tool.specs.Program.{IsProgram}
 use Rattle.filecheck_tool.specs.Start.{start_of}
 use Rattle.filecheck_tool.specs.Verdict.{verdict_read}
 use Rattle.filecheck_tool.specs.declared.program.Program.{Program}
-use Rattle.filecheck_tool.specs.declared.refusal.Refusal.TheVariants.{Words}
-use Rattle.filecheck_tool.specs.declared.refusal.Stop.{Stop}
-use Rattle.filecheck_tool.specs.declared.refusal.Stop.TheVariants.{Refused}
-use Rattle.filecheck_tool.specs.declared.report.Report.{Report}
+use Rattle.filecheck_messages.specs.declared.refusal.Refusal.TheVariants.{Words}
+use Rattle.filecheck_messages.specs.declared.refusal.Stop.{Stop}
+use Rattle.filecheck_messages.specs.declared.refusal.Stop.TheVariants.{Refused}
+use Rattle.filecheck_messages.specs.declared.report.Report.{Report}
 use Rattle.filecheck_tool.specs.declared.start.Start.{Start}
 
 -- reading the check file gave this, or this one was made

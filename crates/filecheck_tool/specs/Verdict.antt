@@ -12,22 +12,22 @@ use Rattle.filecheck_words.specs.declared.checking.Input.TheVariants.{Standard, 
 use Rattle.pattern_parse.specs.declared.pattern.Kind.{Kind}
 use Rattle.pattern_parse.specs.declared.pattern.Kind.TheVariants.{Plain, Next, Same, Empty, Not, Dag, Label, Count}
 use Rattle.filecheck_tool.specs.CheckFile.{body_spot, kind_of, name_of, whole}
-use Rattle.filecheck_tool.specs.Refusal.{◌>>=◌, accepted}
-use Rattle.filecheck_tool.specs.Spot.{spot_at}
+use Rattle.filecheck_messages.specs.Refusal.{◌>>=◌, accepted}
+use Rattle.filecheck_messages.specs.Spot.{spot_at}
 use Rattle.filecheck_tool.specs.declared.check_file.CheckFile.{CheckFile}
-use Rattle.filecheck_tool.specs.declared.finding.Finding.{Finding}
-use Rattle.filecheck_tool.specs.declared.finding.Note.{Note}
-use Rattle.filecheck_tool.specs.declared.finding.Remark.{Remark}
-use Rattle.filecheck_tool.specs.declared.finding.Remark.TheVariants.{ScanningFrom, MatchWasHere, PreviousEnded, FoundHere}
-use Rattle.filecheck_tool.specs.declared.finding.Trouble.{Trouble}
-use Rattle.filecheck_tool.specs.declared.finding.Trouble.TheVariants.{NotFound, NotFoundAgain, OnSameLine, NotOnNextLine, NotOnSameLine, Excluded, Undefined, OutOfRange, DividesByZero, Unreadable}
+use Rattle.filecheck_messages.specs.declared.finding.Finding.{Finding}
+use Rattle.filecheck_messages.specs.declared.finding.Note.{Note}
+use Rattle.filecheck_messages.specs.declared.finding.Remark.{Remark}
+use Rattle.filecheck_messages.specs.declared.finding.Remark.TheVariants.{ScanningFrom, MatchWasHere, PreviousEnded, FoundHere}
+use Rattle.filecheck_messages.specs.declared.finding.Trouble.{Trouble}
+use Rattle.filecheck_messages.specs.declared.finding.Trouble.TheVariants.{NotFound, NotFoundAgain, OnSameLine, NotOnNextLine, NotOnSameLine, Excluded, Undefined, OutOfRange, DividesByZero, Unreadable}
 use Rattle.filecheck_tool.specs.declared.program.Program.{Program}
-use Rattle.filecheck_tool.specs.declared.refusal.Refusal.{Refusal}
-use Rattle.filecheck_tool.specs.declared.refusal.Refusal.TheVariants.{IsEmpty}
-use Rattle.filecheck_tool.specs.declared.refusal.Stop.{Stop}
-use Rattle.filecheck_tool.specs.declared.report.Made.{Made as Counts}
-use Rattle.filecheck_tool.specs.declared.report.Report.{Report}
-use Rattle.filecheck_tool.specs.declared.report.Report.TheVariants.{Found, Made}
+use Rattle.filecheck_messages.specs.declared.refusal.Refusal.{Refusal}
+use Rattle.filecheck_messages.specs.declared.refusal.Refusal.TheVariants.{IsEmpty}
+use Rattle.filecheck_messages.specs.declared.refusal.Stop.{Stop}
+use Rattle.filecheck_messages.specs.declared.report.Made.{Made as Counts}
+use Rattle.filecheck_messages.specs.declared.report.Report.{Report}
+use Rattle.filecheck_messages.specs.declared.report.Report.TheVariants.{Found, Made}
 use Rattle.tt_run.specs.declared.reading.Reading.{Reading}
 
 -- how the input is named

@@ -2,14 +2,13 @@
 ghost use Rattle.std.specs.Prelude.{◌≡◌, ◌≤◌, ◌-◌, ◌^◌, [], Contains, IfOk, IfSome, length, slice_get, slice_index_or};
 ghost use Rattle.check_lines.specs.Checks.{IsPlaced};
 ghost use Rattle.filecheck_tool.specs.CheckFile.{HasBodies, body_spot, check_file_in, check_file_read, implicit_at, implicit_spot, kind_of, name_of, refusal_of, start_behind, suffix_of, whole};
-ghost use Rattle.filecheck_tool.specs.Refusal.{Gives, accepted};
-ghost use Rattle.filecheck_tool.specs.Spot.{spot_at};
+ghost use Rattle.filecheck_messages.specs.Refusal.{Gives, accepted};
+ghost use Rattle.filecheck_messages.specs.Spot.{spot_at};
 ghost use Rattle.tt_run.specs.Run.{IsShort};
 
-use crate::refusal::{Refusal, StepFail, Stop, refuse};
-use crate::spot::{Spot, as_col, spot_at, spot_of};
 use crate::start::Start;
 use check_lines::{CheckFail, CheckFault, CheckKind, Directive, canon_owned, read_checks};
+use filecheck_messages::{Refusal, Spot, StepFail, Stop, as_col, refuse, spot_at, spot_of};
 use filecheck_words::Asked;
 use pattern_parse::Kind;
 use std::alloc::Global;

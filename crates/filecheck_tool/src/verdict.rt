@@ -5,20 +5,19 @@ ghost use Rattle.check_group.specs.Lies.{OffsetsLie};
 ghost use Rattle.check_scan.specs.Verdict.{scan};
 ghost use Rattle.filecheck_tool.specs.CheckFile.{HasBodies};
 ghost use Rattle.filecheck_tool.specs.Program.{IsSound};
-ghost use Rattle.filecheck_tool.specs.Refusal.{Gives, accepted};
+ghost use Rattle.filecheck_messages.specs.Refusal.{Gives, accepted};
 ghost use Rattle.filecheck_tool.specs.Verdict.{absent_of, both_notes, filled, finding_of, findings_of, input_name, line_trouble, made_of, note_at, notes_of, one_note, trouble_of, verdict, verdict_read};
 ghost use Rattle.tt_run.specs.Run.{IsShort};
 
 use crate::check_file::{CheckFile, whole};
-use crate::finding::{Finding, Note, Remark, Trouble};
 use crate::program::Program;
-use crate::refusal::{Refusal, StepFail, refuse};
-use crate::report::{Made, Report};
-use crate::spot::spot_at;
 use check_group::{Check, Fault, FaultKind};
 use check_lines::canon_owned;
 use check_scan::scan;
 use ere_auto::Steps;
+use filecheck_messages::{
+    Finding, Made, Note, Refusal, Remark, Report, StepFail, Trouble, refuse, spot_at,
+};
 use filecheck_words::Input;
 use pattern_parse::Kind;
 use pattern_vars::Vars;

@@ -1,6 +1,6 @@
 use Rattle.std.proofs.Common.{sym, subst}
 use Rattle.filecheck_tool.specs.Program.{ArePatterns}
-use Rattle.filecheck_tool.specs.Refusal.{Ends}
+use Rattle.filecheck_messages.specs.Refusal.{Ends}
 use Rattle.filecheck_tool.proofs.ProgramLemmas.{patterns_are, patterns_refused}
 use Rattle.filecheck_tool.proofs.program.patterns_of.Goals as goal
 

@@ -1,7 +1,7 @@
 use Rattle.std.proofs.Common.{◌^◌, refl, sym}
 use Rattle.opt_words.specs.Step.{texts}
 use Rattle.tt_run.specs.Run.{files, source, stream}
-use Rattle.filecheck_tool.specs.Message.{cannot_write}
+use Rattle.filecheck_messages.specs.Message.{cannot_write}
 use Rattle.filecheck_words.specs.Job.{asked_by}
 use Rattle.filecheck_tool.proofs.FaultLemmas.{fault_of_run}
 use Rattle.filecheck_tool.proofs.run.filecheck_run.Goals as goal

@@ -1,8 +1,8 @@
 //! What is refused, as data. src/answer.rt has what is told of each.
 ghost use Rattle.std.specs.Prelude.{◌≡◌, Err};
-ghost use Rattle.filecheck_tool.specs.Refusal.{Settles};
-ghost use Rattle.filecheck_tool.specs.declared.refusal.Stop.TheVariants.{Refused};
-ghost use Rattle.filecheck_tool.specs.declared.refusal.StepFail.TheVariants.{Stopped};
+ghost use Rattle.filecheck_messages.specs.Refusal.{Settles};
+ghost use Rattle.filecheck_messages.specs.declared.refusal.Stop.TheVariants.{Refused};
+ghost use Rattle.filecheck_messages.specs.declared.refusal.StepFail.TheVariants.{Stopped};
 
 use crate::spot::Spot;
 use filecheck_words::WordsFault;
@@ -59,7 +59,7 @@ pub enum StepFail {
 
 impl From<NoMemory> for StepFail {
     ghost use Rattle.std.specs.Prelude.{◌≡◌};
-    ghost use Rattle.filecheck_tool.specs.declared.refusal.StepFail.TheVariants.{NoMemory};
+    ghost use Rattle.filecheck_messages.specs.declared.refusal.StepFail.TheVariants.{NoMemory};
 
     ghost from_gives = { λ _ fail. fail ≡ NoMemory };
 

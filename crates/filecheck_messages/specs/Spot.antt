@@ -2,7 +2,7 @@
 -- Own rule, after the messages of the LLVM Command Guide, FileCheck: the text's name, the place, and the line.
 use Rattle.std.specs.Prelude.{ℕ, ◌+◌, ◌-◌, List, take, drop, min}
 use Rattle.tt_base.specs.Place.{line_end, line_start, place_at}
-use Rattle.filecheck_tool.specs.declared.spot.Spot.{Spot}
+use Rattle.filecheck_messages.specs.declared.spot.Spot.{Spot}
 
 -- an offset of a named text
 abbrev pub spot_at : List ℕ → List ℕ → ℕ → Spot

@@ -1,7 +1,7 @@
 //! A place of a text that is told with its line.
 ghost use Rattle.std.specs.Prelude.{◌≡◌, ◌≤◌, ◌+◌, ◌^◌, IfOk, length, min};
 ghost use Rattle.tt_base.specs.Place.{place_at};
-ghost use Rattle.filecheck_tool.specs.Spot.{behind, spot_at};
+ghost use Rattle.filecheck_messages.specs.Spot.{behind, spot_at};
 
 use std::alloc::Global;
 use tt_base::{Bytes, NoMemory, Place, line_of, place_of};

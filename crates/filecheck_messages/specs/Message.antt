@@ -3,14 +3,14 @@
 use Rattle.std.specs.Prelude.{ℕ, ◌-◌, List, [], ◌∷◌, ◌++◌, codes, replicate}
 use Rattle.std.specs.Fmt.{decimal}
 use Rattle.std.specs.List.{flat_map}
-use Rattle.filecheck_tool.specs.declared.finding.Finding.{Finding}
-use Rattle.filecheck_tool.specs.declared.finding.Note.{Note}
-use Rattle.filecheck_tool.specs.declared.finding.Remark.{Remark}
-use Rattle.filecheck_tool.specs.declared.finding.Remark.TheVariants.{ScanningFrom, MatchWasHere, PreviousEnded, FoundHere}
-use Rattle.filecheck_tool.specs.declared.finding.Trouble.{Trouble}
-use Rattle.filecheck_tool.specs.declared.finding.Trouble.TheVariants.{NotFound, NotFoundAgain, OnSameLine, NotOnNextLine, NotOnSameLine, Excluded, Undefined, OutOfRange, DividesByZero, Unreadable}
-use Rattle.filecheck_tool.specs.declared.report.Made.{Made}
-use Rattle.filecheck_tool.specs.declared.spot.Spot.{Spot}
+use Rattle.filecheck_messages.specs.declared.finding.Finding.{Finding}
+use Rattle.filecheck_messages.specs.declared.finding.Note.{Note}
+use Rattle.filecheck_messages.specs.declared.finding.Remark.{Remark}
+use Rattle.filecheck_messages.specs.declared.finding.Remark.TheVariants.{ScanningFrom, MatchWasHere, PreviousEnded, FoundHere}
+use Rattle.filecheck_messages.specs.declared.finding.Trouble.{Trouble}
+use Rattle.filecheck_messages.specs.declared.finding.Trouble.TheVariants.{NotFound, NotFoundAgain, OnSameLine, NotOnNextLine, NotOnSameLine, Excluded, Undefined, OutOfRange, DividesByZero, Unreadable}
+use Rattle.filecheck_messages.specs.declared.report.Made.{Made}
+use Rattle.filecheck_messages.specs.declared.spot.Spot.{Spot}
 
 -- the end of a line
 abbrev pub newline : List ℕ

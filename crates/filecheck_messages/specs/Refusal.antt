@@ -2,11 +2,11 @@
 -- Own rule: the first refusal alone is told. A fault of reading is no refusal, and has a variant of its own.
 use Rattle.std.specs.Prelude.{◌≡◌, ⊤, Result, Ok, Err, IsErr}
 use Rattle.tt_base.specs.declared.memory.NoMemory.{NoMemory as NoRoom}
-use Rattle.filecheck_tool.specs.declared.refusal.Refusal.{Refusal}
-use Rattle.filecheck_tool.specs.declared.refusal.StepFail.{StepFail}
-use Rattle.filecheck_tool.specs.declared.refusal.StepFail.TheVariants.{Stopped, NoMemory}
-use Rattle.filecheck_tool.specs.declared.refusal.Stop.{Stop}
-use Rattle.filecheck_tool.specs.declared.refusal.Stop.TheVariants.{Refused}
+use Rattle.filecheck_messages.specs.declared.refusal.Refusal.{Refusal}
+use Rattle.filecheck_messages.specs.declared.refusal.StepFail.{StepFail}
+use Rattle.filecheck_messages.specs.declared.refusal.StepFail.TheVariants.{Stopped, NoMemory}
+use Rattle.filecheck_messages.specs.declared.refusal.Stop.{Stop}
+use Rattle.filecheck_messages.specs.declared.refusal.Stop.TheVariants.{Refused}
 
 -- a step that reads nothing: it gives a value, or refuses
 abbrev pub accepted : {A : Type 0} → Result A Refusal → Result A Stop

@@ -1,7 +1,7 @@
 use Rattle.std.proofs.Common.{◌≡◌, ◌++◌, drop}
 use Rattle.std.specs.List.{flat_map}
-use Rattle.filecheck_tool.specs.Message.{behind_comma}
-use Rattle.filecheck_tool.proofs.message.append_later.Given as goal
+use Rattle.filecheck_messages.specs.Message.{behind_comma}
+use Rattle.filecheck_messages.proofs.message.append_later.Given as goal
 
 abbrev pub invariant-loop-name : goal.invariant-loop-name
 invariant-loop-name l =

@@ -1,7 +1,7 @@
 //! The table: what is told of each refusal, and of a verdict.
 ghost use Rattle.std.specs.Prelude.{◌≡◌, ◌≤◌, ◌++◌, IfOk, codes};
-ghost use Rattle.filecheck_tool.specs.Answer.{answer_to, body_text, made_row, regex_text, report_row, row_of, telling, text_of, verdict_row, words_text};
-ghost use Rattle.filecheck_tool.specs.Message.{placed, unplaced};
+ghost use Rattle.filecheck_messages.specs.Answer.{answer_to, body_text, made_row, regex_text, report_row, row_of, telling, text_of, verdict_row, words_text};
+ghost use Rattle.filecheck_messages.specs.Message.{placed, unplaced};
 
 use crate::finding::Finding;
 use crate::message::{made_text, placed, told, unplaced};

@@ -9,15 +9,15 @@ use Rattle.filecheck_words.specs.declared.fault.WordsFault.TheVariants.{NotText,
 use Rattle.opt_words.specs.Fault.{text_before, text_behind}
 use Rattle.pattern_parse.specs.declared.fault.PatKind.{PatKind}
 use Rattle.pattern_parse.specs.declared.fault.PatKind.TheVariants as pat
-use Rattle.filecheck_tool.specs.Message.{made_text, placed, told, unplaced}
-use Rattle.filecheck_tool.specs.declared.refusal.Refusal.{Refusal}
-use Rattle.filecheck_tool.specs.declared.refusal.Refusal.TheVariants.{Words, NotFound, TooLarge, BadCount, NotCombination, BadModifier, EmptyPattern, NonEmptyForEmpty, NoEarlierCheck, NoChecks, UnusedPrefix, BadBody, BadDefine, IsEmpty}
-use Rattle.filecheck_tool.specs.declared.refusal.Stop.{Stop}
-use Rattle.filecheck_tool.specs.declared.refusal.Stop.TheVariants.{Refused, NotReadable}
-use Rattle.filecheck_tool.specs.declared.finding.Finding.{Finding}
-use Rattle.filecheck_tool.specs.declared.report.Made.{Made as Counts}
-use Rattle.filecheck_tool.specs.declared.report.Report.{Report}
-use Rattle.filecheck_tool.specs.declared.report.Report.TheVariants.{Found, Made}
+use Rattle.filecheck_messages.specs.Message.{made_text, placed, told, unplaced}
+use Rattle.filecheck_messages.specs.declared.refusal.Refusal.{Refusal}
+use Rattle.filecheck_messages.specs.declared.refusal.Refusal.TheVariants.{Words, NotFound, TooLarge, BadCount, NotCombination, BadModifier, EmptyPattern, NonEmptyForEmpty, NoEarlierCheck, NoChecks, UnusedPrefix, BadBody, BadDefine, IsEmpty}
+use Rattle.filecheck_messages.specs.declared.refusal.Stop.{Stop}
+use Rattle.filecheck_messages.specs.declared.refusal.Stop.TheVariants.{Refused, NotReadable}
+use Rattle.filecheck_messages.specs.declared.finding.Finding.{Finding}
+use Rattle.filecheck_messages.specs.declared.report.Made.{Made as Counts}
+use Rattle.filecheck_messages.specs.declared.report.Report.{Report}
+use Rattle.filecheck_messages.specs.declared.report.Report.TheVariants.{Found, Made}
 use Rattle.tt_run.specs.declared.answer.Answer.{Answer}
 
 -- what is told of words

@@ -2,8 +2,8 @@
 ghost use Rattle.std.specs.Prelude.{◌≡◌, ◌++◌, IfOk, OnOk, replicate};
 ghost use Rattle.std.specs.Fmt.{decimal};
 ghost use Rattle.std.specs.List.{flat_map};
-ghost use Rattle.filecheck_tool.specs.Message.{behind_comma, listed, made_text, note_text, notes_text, placed, told, told_of, trouble_text, unplaced};
-ghost use Rattle.filecheck_tool.specs.declared.finding.Trouble.TheVariants.{NotFoundAgain, Undefined};
+ghost use Rattle.filecheck_messages.specs.Message.{behind_comma, listed, made_text, note_text, notes_text, placed, told, told_of, trouble_text, unplaced};
+ghost use Rattle.filecheck_messages.specs.declared.finding.Trouble.TheVariants.{NotFoundAgain, Undefined};
 
 use crate::finding::{Finding, Note, Remark, Trouble};
 use crate::report::Made;
