@@ -8,5 +8,6 @@ pub mod LiesLemmas
 pub mod LineLemmas
 pub mod OrderLemmas
 pub mod PlacedLemmas
+pub mod RegionLemmas
 pub mod ResumeLemmas
 pub mod TriedLemmas

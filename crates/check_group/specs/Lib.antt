@@ -7,3 +7,4 @@ pub mod Lies
 pub mod Lines
 pub mod Matches
 pub mod Region
+pub mod Tries

@@ -1,9 +1,10 @@
 -- Regions of NOTs.
 -- After LLVM Command Guide, FileCheck, CHECK-NOT and --implicit-check-not. Own rule: all faults of a region are told.
-use Rattle.std.specs.Prelude.{ℕ, List, [], ◌∷◌, Option, Some, None}
+use Rattle.std.specs.Prelude.{ℕ, Bool, List, [], ◌∷◌, IfSome, Option, Some, None}
 use Rattle.pattern_scan.specs.Seek.{sought}
 use Rattle.pattern_scan.specs.declared.sought.Sought.{Sought}
 use Rattle.pattern_scan.specs.declared.sought.Sought.TheVariants.{Found, Absent, UndefinedNames, Range, ZeroDivisor, Unreadable}
+use Rattle.text_windows.specs.Windows.{Covers}
 use Rattle.check_group.specs.Changes.{Variables}
 use Rattle.check_group.specs.declared.directive.Check.{Check}
 use Rattle.check_group.specs.declared.fault.Fault.{Fault}
@@ -28,3 +29,7 @@ unfoldable pub region : List ℕ → ℕ → Variables → List Check → List F
 region text from vars [] = []
 region text from vars (check ∷ nots) =
     fault_before check (excluded_by (sought check.pattern vars text from check.line)) (region text from vars nots)
+
+-- windows that are known are those of the text
+abbrev pub AreOf : List ℕ → Option (List Bool) → Type 0
+AreOf text known = IfSome known (λ windows. Covers windows text)

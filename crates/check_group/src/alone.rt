@@ -9,6 +9,7 @@ use crate::answer::{Matched, Met, look};
 use crate::directive::Check;
 use crate::fault::{Fault, FaultKind};
 use crate::lines::{behind_newline, empty_line, on_next_line, on_same_line};
+use crate::tries::Tries;
 use ere_auto::Steps;
 use pattern_parse::Kind;
 use pattern_vars::Vars;
@@ -80,13 +81,15 @@ fn counted<L: Ledger>(
         from: place,
         to: place,
     };
+    let mut tries = Tries::Fresh;
     for done in 0..n {
-        match look(alloc, check, vars, text, done, reached.to, steps)? {
+        match tries.look(alloc, check, vars, text, done, reached.to, steps)? {
             Ok(m) => {
                 reached = Matched {
                     from: began_at(done, m.span.from, reached.from),
                     to: m.span.to,
                 };
+                tries = tries.behind(&m.fresh);
                 vars.bind(m.fresh);
             }
             Err(kind) => {

@@ -27,7 +27,8 @@ pub struct Matched {
 }
 
 /// A search's answer as a match or a fault; `absent` is the fault where nothing is found.
-fn answered(answer: Sought, absent: FaultKind) -> Result<Met, FaultKind>
+#[inline(always)]
+pub(crate) fn answered(answer: Sought, absent: FaultKind) -> Result<Met, FaultKind>
     ensures { result ≡ answered answer absent }
 {
     match answer {
@@ -41,6 +42,7 @@ fn answered(answer: Sought, absent: FaultKind) -> Result<Met, FaultKind>
 }
 
 /// A directive sought in the slice from an offset to the text's end, behind `done` matches of the same directive.
+#[inline(always)]
 pub fn look<L: Ledger>(
     alloc: Global,
     check: &Check,

@@ -6,10 +6,11 @@ ghost use Rattle.check_group.specs.Group.{AreInOrder, AreSameText, EndsBy, IsTri
 ghost use Rattle.check_group.specs.Matches.{Fits};
 ghost use Rattle.check_group.specs.declared.directive.Check.{Check};
 
-use crate::answer::{Matched, Met, look};
+use crate::answer::{Matched, Met};
 use crate::directive::Check;
 use crate::fault::{Fault, FaultKind};
 use crate::ranges::{lowest_overlapped, passed, place_among};
+use crate::tries::Tries;
 use ere_auto::Steps;
 use pattern_scan::plain_text;
 use pattern_vars::Vars;
@@ -39,10 +40,11 @@ fn place_member<L: Ledger>(
     ensures fits { IfOk result (λ met. IfOk met (Fits vars.now place (length text.now))) }
     ensures free { IfOk result (λ met. IfOk met (λ m. lowest m.span ranges.now ≡ None)) }
 {
+    let mut tries = Tries::Fresh;
     let mut from = from;
     let mut at = 0;
     loop {
-        match look(alloc, check, vars, text, 0, from, steps)? {
+        match tries.look(alloc, check, vars, text, 0, from, steps)? {
             Err(kind) => return Ok(Err(kind)),
             Ok(m) => {
                 // The tries' starts rise, so no later try overlaps what ends at or before this match's start.

@@ -11,6 +11,7 @@ mod laws;
 mod lines;
 mod ranges;
 mod region;
+mod tries;
 
 pub use alone::match_alone;
 pub use answer::{Matched, Met, look};

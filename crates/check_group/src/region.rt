@@ -1,16 +1,25 @@
 //! Regions of NOTs.
-ghost use Rattle.std.specs.Prelude.{◌≡◌, ◌≤◌, ◌++◌, All, OnOk, length};
-ghost use Rattle.check_group.specs.Changes.{IsReady};
-ghost use Rattle.check_group.specs.Region.{excluded_by, region};
+ghost use Rattle.std.specs.Prelude.{◌≡◌, ◌≤◌, ◌++◌, ℕ, true, All, IfOk, List, OnOk, drop, length};
+ghost use Rattle.check_group.specs.Changes.{IsReady, Variables};
+ghost use Rattle.check_group.specs.Region.{AreOf, excluded_by, region};
+ghost use Rattle.pattern_scan.specs.Seek.{sought};
+ghost use Rattle.pattern_scan.specs.declared.sought.Sought.TheVariants.{Absent};
 
 use crate::directive::Check;
 use crate::fault::{Fault, FaultKind};
 use ere_auto::Steps;
-use pattern_scan::{Sought, seek};
+use pattern_parse::Pattern;
+use pattern_scan::{Sought, plain_text, seek};
 use pattern_vars::Vars;
 use std::alloc::Global;
 use std::sync::ledger::Ledger;
+use text_windows::Windows;
 use tt_base::{Items, NoMemory};
+
+/// From how many NOTs on a text is read for its windows first, and how many bytes it has to have.
+const MANY: usize = 16;
+
+const LONG: usize = 1 << 16;
 
 /// The fault of a NOT whose search answers so, if it is one.
 fn excluded_by(answer: Sought) -> Option<FaultKind>
@@ -24,6 +33,50 @@ fn excluded_by(answer: Sought) -> Option<FaultKind>
         Sought::ZeroDivisor => Some(FaultKind::ZeroDivisor),
         Sought::Unreadable(span) => Some(FaultKind::Unreadable { found: span.from }),
     }
+}
+
+/// The windows of a slice, where so many NOTs are sought in it that it pays to know them.
+fn windows_of(alloc: Global, nots: &[Check], slice: &[u8]) -> Result<Option<Windows>, NoMemory>
+    ensures { IfOk result (AreOf slice.now) }
+{
+    if nots.len() < MANY || slice.len() < LONG {
+        return Ok(None);
+    }
+    Ok(Some(Windows::of(alloc, slice)?))
+}
+
+/// Whether the windows of the slice that begins at an offset tell that a pattern isn't there.
+#[tactic(auto, using(crate::proofs::RegionLemmas::lacks))]
+fn is_told_absent(known: &Option<Windows>, pattern: &Pattern) -> bool
+    ensures { result ≡ true → (text : List ℕ) (from : ℕ) → AreOf (drop from text) known.now →
+        (vars : Variables) (line : ℕ) → sought pattern.now vars text from line ≡ Absent }
+{
+    match (known, plain_text(pattern)) {
+        (Some(windows), Some(needle)) => windows.lack(needle),
+        _ => false,
+    }
+}
+
+/// The fault of a NOT in the slice from an offset to the text's end, if it has one.
+fn tested<L: Ledger>(
+    alloc: Global,
+    check: &Check,
+    known: &Option<Windows>,
+    vars: &Vars,
+    text: &[u8],
+    from: usize,
+    steps: &mut Steps<L>,
+) -> Result<Option<FaultKind>, NoMemory>
+    requires inside { from ≤ length text.now }
+    requires ready { IsReady vars.now check.now }
+    requires known { AreOf (drop from text.now) known.now }
+    ensures { IfOk result (λ kind. kind ≡ excluded_by (sought check.now.pattern vars.now text.now from check.now.line)) }
+{
+    if is_told_absent(known, &check.pattern) {
+        return Ok(None);
+    }
+    let answer = seek(alloc, &check.pattern, vars, text, from, check.line, steps)?;
+    Ok(excluded_by(answer))
 }
 
 /// Tests NOTs in the slice from an offset to the text's end, and adds their faults. A NOT binds nothing.
@@ -41,9 +94,9 @@ pub fn test_region<L: Ledger>(
     requires ready { All (IsReady vars.now) nots.now }
     ensures { OnOk result (faults.new ≡ faults.old ++ region text.now from vars.now nots.now) }
 {
+    let known = windows_of(alloc, nots, text.split_at(from).1)?;
     for check in nots {
-        let answer = seek(alloc, &check.pattern, vars, text, from, check.line, steps)?;
-        if let Some(kind) = excluded_by(answer) {
+        if let Some(kind) = tested(alloc, check, &known, vars, text, from, steps)? {
             faults.push(Fault {
                 directive: check.number,
                 kind,

@@ -3,6 +3,7 @@ use Rattle.std.proofs.Math.Nat.{le_refl}
 use Rattle.check_group.specs.Alone.{counted}
 use Rattle.check_group.specs.Continues.{Continues}
 use Rattle.check_group.specs.Matches.{Fits}
+use Rattle.check_group.specs.Tries.{AreFor}
 use Rattle.check_group.proofs.ContinuesLemmas.{continues_ready, continues_whole}
 use Rattle.check_group.proofs.CountLemmas.{count_on, count_fails, count_ends}
 use Rattle.check_group.proofs.alone.counted.Goals as goal
@@ -14,6 +15,7 @@ loop-done-init g c =
     let all : a.n ≡ a.n - 0 = omega arith in
     record {
       behind = le_refl a.place;
+      same = tt;
       reached = (le_refl a.place, c.requires.here, c.requires.here);
       rest = subst (λ left. Continues whole (counted a.text.now a.check.now left 0 a.vars.now a.place a.place) a.vars.now a.vars.now)
           all (continues_whole whole a.vars.now);
@@ -40,6 +42,7 @@ loop-done-preserved g c =
     let lies = l.invariant.reached in
     record {
       behind = omega (arith, l.invariant.behind, fits.low, m.span.ordered);
+      same = subst (AreFor c.behind-tries.result a.check.now) (sym c.bind.ensures) (c.behind-tries.ensures a.check.now l.vars c.look.ensures.same);
       reached = (
         c.began_at.ensures.low a.place (omega (arith, l.invariant.behind, fits.low)) lies.0,
         c.began_at.ensures.high (length a.text.now) (omega (arith, fits.high, m.span.ordered)) lies.1,

@@ -6,9 +6,10 @@ use Rattle.check_group.proofs.OrderLemmas.{order_drop}
 use Rattle.check_group.proofs.TriedLemmas.{ends_later, lowest_drop, tried_free, tried_on}
 use Rattle.check_group.proofs.group.place_member.Goals as goal
 
-pub loop-kind-init : goal.loop-kind-init
-loop-kind-init g c = record {
+pub loop-tries-init : goal.loop-tries-init
+loop-tries-init g c = record {
   behind = c.requires.later;
+  same = tt;
   within = c.requires.here;
   at = omega arith;
   passed = λ k d low. absurd (omega (arith, low));
@@ -27,41 +28,42 @@ returns-in-None-clause-free g c =
 pub returns-in-None-clause-value : goal.returns-in-None-clause-value
 returns-in-None-clause-value g c =
     let a = c.args in
-    let chain = c.loop-kind.invariant.chain in
-    tried_free (looked a.text.now a.vars.now a.check.now 0) a.ranges.now c.loop-kind.from chain.0 c.passed-at.result c.in-Ok.m
+    let chain = c.loop-tries.invariant.chain in
+    tried_free (looked a.text.now a.vars.now a.check.now 0) a.ranges.now c.loop-tries.from chain.0 c.passed-at.result c.in-Ok.m
     (sym c.in-Ok.is ∙ c.in_ok-kind.ensures.value) c.passed-at.ensures.before
     (c.in-None.ensures.value ∙ ap (lowest c.in-Ok.m.span) c.split_at.ensures.back)
     ∙ chain.2
 
-pub loop-kind-smaller : goal.loop-kind-smaller
-loop-kind-smaller g c =
+pub loop-tries-smaller : goal.loop-tries-smaller
+loop-tries-smaller g c =
     let a = c.args in
     let m = c.in-Ok.m in
     let range = c.in-Some.range in
-    let fits : Fits a.vars.now c.loop-kind.from (length a.text.now) m =
-    subst (λ met. IfOk met (Fits a.vars.now c.loop-kind.from (length a.text.now))) c.in-Ok.is c.in_ok-kind.ensures.fits in
+    let fits : Fits a.vars.now c.loop-tries.from (length a.text.now) m =
+    subst (λ met. IfOk met (Fits a.vars.now c.loop-tries.from (length a.text.now))) c.in-Ok.is c.in_ok-kind.ensures.fits in
     let ends : range.to ≤ length a.text.now =
     c.in-Some.ensures.within (length a.text.now)
     (subst (All (EndsBy (length a.text.now))) (sym c.split_at.ensures.back) (All-drop (EndsBy (length a.text.now)) c.passed-at.result a.ranges.now c.requires.ranges)) in
     omega (arith, fits.low, c.in-Some.ensures.behind, ends)
 
-pub loop-kind-preserved : goal.loop-kind-preserved
-loop-kind-preserved g c =
+pub loop-tries-preserved : goal.loop-tries-preserved
+loop-tries-preserved g c =
     let a = c.args in
     let back = c.split_at.ensures.back in
     let m = c.in-Ok.m in
     let range = c.in-Some.range in
-    let chain = c.loop-kind.invariant.chain in
-    let fits : Fits a.vars.now c.loop-kind.from (length a.text.now) m =
-    subst (λ met. IfOk met (Fits a.vars.now c.loop-kind.from (length a.text.now))) c.in-Ok.is c.in_ok-kind.ensures.fits in
+    let chain = c.loop-tries.invariant.chain in
+    let fits : Fits a.vars.now c.loop-tries.from (length a.text.now) m =
+    subst (λ met. IfOk met (Fits a.vars.now c.loop-tries.from (length a.text.now))) c.in-Ok.is c.in_ok-kind.ensures.fits in
     let ends : range.to ≤ length a.text.now =
     c.in-Some.ensures.within (length a.text.now)
     (subst (All (EndsBy (length a.text.now))) (sym back) (All-drop (EndsBy (length a.text.now)) c.passed-at.result a.ranges.now c.requires.ranges)) in
-    let on = tried_on (looked a.text.now a.vars.now a.check.now 0) a.ranges.now c.loop-kind.from chain.0 c.passed-at.result
+    let on = tried_on (looked a.text.now a.vars.now a.check.now 0) a.ranges.now c.loop-tries.from chain.0 c.passed-at.result
     (length a.text.now) m range (sym c.in-Ok.is ∙ c.in_ok-kind.ensures.value) c.passed-at.ensures.before
     (c.in-Some.ensures.value ∙ ap (lowest m.span) back) (omega (arith, fits.low, c.in-Some.ensures.behind)) ends chain.1 in
     record {
-      behind = omega (arith, c.loop-kind.invariant.behind, fits.low, c.in-Some.ensures.behind);
+      behind = omega (arith, c.loop-tries.invariant.behind, fits.low, c.in-Some.ensures.behind);
+      same = c.look.ensures.same;
       within = ends;
       at = c.passed-at.ensures.within;
       passed = ends_later m.span.from range.to (take c.passed-at.result a.ranges.now) (omega (arith, c.in-Some.ensures.behind))

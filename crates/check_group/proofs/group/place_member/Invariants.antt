@@ -1,11 +1,13 @@
 use Rattle.std.proofs.Common.{◌≡◌, ◌≤◌, ◌-◌, ◌+◌, ℕ, All, length, take}
 use Rattle.check_group.specs.Matches.{looked}
 use Rattle.check_group.specs.Group.{EndsBy, placed, tried}
+use Rattle.check_group.specs.Tries.{AreFor}
 use Rattle.check_group.proofs.group.place_member.Given as goal
 
-abbrev pub invariant-loop-kind : goal.invariant-loop-kind
-invariant-loop-kind g l = record {
+abbrev pub invariant-loop-tries : goal.invariant-loop-tries
+invariant-loop-tries g l = record {
   behind : l.place ≤ l.from;
+  same : AreFor l.tries l.check l.vars;
   within : l.from ≤ length l.text;
   at : l.at ≤ length l.ranges;
   passed : All (EndsBy l.from) (take l.at l.ranges);
@@ -13,5 +15,5 @@ invariant-loop-kind g l = record {
       × (tried (looked l.text l.vars l.check 0) l.ranges left l.from ≡ placed l.text l.vars l.ranges l.check l.place);
 }
 
-abbrev pub decreases-loop-kind : goal.decreases-loop-kind
-decreases-loop-kind g l = length l.text - l.from
+abbrev pub decreases-loop-tries : goal.decreases-loop-tries
+decreases-loop-tries g l = length l.text - l.from

@@ -1,0 +1,110 @@
+//! Directives that are sought again and again.
+ghost use Rattle.std.specs.Prelude.{◌≡◌, ◌≤◌, IfOk, length};
+ghost use Rattle.check_group.specs.Changes.{IsReady, Variables};
+ghost use Rattle.check_group.specs.Matches.{Fits, looked};
+ghost use Rattle.check_group.specs.Tries.{AreFor};
+ghost use Rattle.check_group.specs.declared.directive.Check.{Check};
+ghost use Rattle.pattern_scan.specs.Ready.{IsBuilt, IsReady as IsPrepared};
+ghost use Rattle.pattern_scan.specs.Seek.{ArePlaced, IsWithin, sought};
+ghost use Rattle.pattern_vars.specs.Vars.{bound_all};
+
+use crate::answer::{Met, answered, look};
+use crate::directive::Check;
+use crate::fault::FaultKind;
+use ere_auto::Steps;
+use pattern_scan::{Ready, Sought, plain_text, prepare};
+use pattern_vars::{Bindings, Vars};
+use std::alloc::Global;
+use std::sync::ledger::Ledger;
+use tt_base::NoMemory;
+
+/// How a directive is sought more than once: what depends on the variables alone is made for the first try, and kept.
+#[derive(Drop)]
+pub(crate) enum Tries {
+    /// Nothing is made yet.
+    Fresh,
+    /// There is nothing to make.
+    Plain,
+    Built(Box<Ready>),
+}
+
+/// Seeks the pattern of a directive that was made ready.
+#[inline(never)]
+fn sought_again<L: Ledger>(
+    alloc: Global,
+    ready: &mut Ready,
+    check: &Check,
+    vars: &Vars,
+    text: &[u8],
+    from: usize,
+    steps: &mut Steps<L>,
+) -> Result<Sought, NoMemory>
+    requires inside { from ≤ length text.now }
+    requires ready { IsReady vars.now check.now }
+    requires prepared { IsPrepared ready.old check.now.pattern vars.now check.now.line }
+    requires built { IsBuilt ready.old }
+    ensures value { IfOk result (λ answer. answer ≡ sought check.now.pattern vars.now text.now from check.now.line) }
+    ensures within { IfOk result (IsWithin from (length text.now)) }
+    ensures named { IfOk result (ArePlaced vars.now) }
+    ensures prepared { IsPrepared ready.new check.now.pattern vars.now check.now.line }
+    ensures built { IsBuilt ready.new }
+{
+    ready.seek(alloc, text, from, steps)
+}
+
+/// What is made for the tries of a directive.
+fn made(alloc: Global, check: &Check, vars: &Vars) -> Result<Tries, NoMemory>
+    requires { IsReady vars.now check.now }
+    ensures { IfOk result (λ tries. AreFor tries check.now vars.now) }
+{
+    if plain_text(&check.pattern).is_some() {
+        return Ok(Tries::Plain);
+    }
+    let ready = prepare(alloc, &check.pattern, vars, check.line)?;
+    match Box::new(alloc, ready) {
+        Ok(ready) => Ok(Tries::Built(ready)),
+        Err(_) => Err(NoMemory),
+    }
+}
+
+impl Tries {
+    /// The directive sought in the slice from an offset to the text's end, behind `done` matches of the same directive.
+    #[inline(always)]
+    pub(crate) fn look<L: Ledger>(
+        &mut self,
+        alloc: Global,
+        check: &Check,
+        vars: &Vars,
+        text: &[u8],
+        done: u32,
+        from: usize,
+        steps: &mut Steps<L>,
+    ) -> Result<Result<Met, FaultKind>, NoMemory>
+        requires inside { from ≤ length text.now }
+        requires ready { IsReady vars.now check.now }
+        requires same { AreFor self.old check.now vars.now }
+        ensures value { IfOk result (λ met. met ≡ looked text.now vars.now check.now done from) }
+        ensures fits { IfOk result (λ met. IfOk met (Fits vars.now from (length text.now))) }
+        ensures same { AreFor self.new check.now vars.now }
+    {
+        if let Tries::Fresh = self {
+            *self = made(alloc, check, vars)?;
+        }
+        match self {
+            Tries::Built(ready) => {
+                let answer = sought_again(alloc, ready, check, vars, text, from, steps)?;
+                Ok(answered(answer, FaultKind::NotFound { from, done }))
+            }
+            Tries::Plain | Tries::Fresh => look(alloc, check, vars, text, done, from, steps),
+        }
+    }
+
+    /// The same once a match has bound what it gives.
+    #[inline(always)]
+    pub(crate) fn behind(self, fresh: &Bindings) -> Tries
+        ensures { (check : Check) (vars : Variables) → AreFor self check vars
+            → AreFor result check (bound_all vars fresh.now) }
+    {
+        if fresh.is_empty() { self } else { Tries::Fresh }
+    }
+}

@@ -1,0 +1,16 @@
+-- Which windows a text has.
+-- Own rule: a window is four bytes, which stand for a number; its slot is a part of that number times a constant.
+use Rattle.std.specs.Prelude.{◌≡◌, ℕ, ◌+◌, ◌*◌, ◌/◌, ◌%◌, ◌^◌, ◌≤◌, Bool, true, false, List, length, slice_index_or}
+
+-- the slot of four bytes
+abbrev pub slot : ℕ → ℕ → ℕ → ℕ → ℕ
+slot a b c d = (a + 256 * b + 65536 * (c + 256 * d)) * 2654435761 % 2 ^ 32 / 16384
+
+-- the slot of the window at a place of a text
+unfoldable pub slot_at : List ℕ → ℕ → ℕ
+slot_at text at = slot (slice_index_or text at 0) (slice_index_or text (at + 1) 0) (slice_index_or text (at + 2) 0)
+    (slice_index_or text (at + 3) 0)
+
+-- the slot of each window of the text is marked
+abbrev pub Covers : List Bool → List ℕ → Type 0
+Covers marked text = (at : ℕ) → at + 4 ≤ length text → slice_index_or marked (slot_at text at) false ≡ true
