@@ -1,11 +1,6 @@
--- One of a list of features, and the whole of a word.
-use Rattle.std.proofs.Common.{◌≡◌, ◌↔◌, ℕ, ◌+◌, ◌<◌, ◌≤◌, suc, zero, List, [], ◌∷◌, length, drop, get_or, inl, inr, sym, ap, ◌∙◌, subst, arith, add-one, drop-cons, refl}
-use Rattle.std.specs.List.{Contains}
-use Rattle.ere_tree.specs.Tree.{Tree}
-use Rattle.ere_tree.specs.Derivation.{Spans}
-use Rattle.ere_places.specs.Places.{AreReached, LeadsInside}
-use Rattle.ere_places.specs.declared.window.Direction.TheVariants.{Ahead}
-use Rattle.bool_exprs.specs.Expr.{MatchesWhole, OneOf}
+-- One of a list of features.
+use Rattle.std.proofs.Common.{◌≡◌, ℕ, ◌+◌, ◌<◌, ◌≤◌, suc, zero, List, [], ◌∷◌, length, drop, get_or, inl, inr, sym, ap, ◌∙◌, subst, arith, add-one, drop-cons}
+use Rattle.bool_exprs.specs.Expr.{OneOf}
 
 -- the features from a place on
 from_here : (fs : List (List ℕ)) (i : ℕ) (f : List ℕ) → i < length fs → f ≡ get_or fs i f
@@ -39,17 +34,3 @@ none_left IsSuch [] zero over one = one
 none_left IsSuch [] (suc i) over one = one
 none_left IsSuch (f ∷ fs) zero over one = absurd (omega arith)
 none_left IsSuch (f ∷ fs) (suc i) over one = none_left IsSuch fs i (omega arith) one
-
--- a span that begins at the one place 0
-from_start : (word : List ℕ) (t : Tree) (p q : ℕ) → Contains (0 ∷ []) p → Spans word t p q → Spans word t 0 q
-from_start word t p q (zero, below, is) spans = subst (λ n. Spans word t n q) (sym is) spans
-from_start word t p q (suc k, below, is) spans = absurd (omega arith)
-
--- the places that a tree leads to from a word's start tell whether it spans the word
-pub whole_is : (word : List ℕ) (t : Tree) (found : List ℕ)
-    → AreReached (LeadsInside word t (record { low = 0; high = length word; direction = Ahead })) (0 ∷ []) found
-    → (Contains found (length word) ↔ MatchesWhole t word)
-whole_is word t found reached = (
-  λ has. let r = (reached (length word)).0 has in from_start word t r.0 (length word) r.1 r.2.0,
-  λ spans. (reached (length word)).1 (0, (0, omega arith, refl), (spans, (omega arith, omega arith))),
-)

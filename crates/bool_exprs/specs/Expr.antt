@@ -1,11 +1,11 @@
 -- Expressions over features as plain data, and when one holds.
 -- After LLVM Testing Infrastructure Guide, 'Constraining test execution', and LLVM Command Guide, lit: an identifier
 -- holds where it is a feature, and one with `{{ }}` parts where it matches a whole feature.
-use Rattle.std.specs.Prelude.{◌≡◌, ℕ, Bool, false, ◌||◌, List, [], ◌∷◌, length, IsTrue, ◌⊎◌}
+use Rattle.std.specs.Prelude.{◌≡◌, ℕ, Bool, false, ◌||◌, List, [], ◌∷◌, IsTrue, ◌⊎◌}
 use Rattle.ere_tree.specs.Tree.{Tree}
 use Rattle.ere_tree.specs.Shape.{has_refs}
 use Rattle.ere_tree.specs.View.{view}
-use Rattle.ere_tree.specs.Derivation.{Spans}
+use Rattle.ere_whole.specs.Whole.{MatchesWhole}
 use Rattle.bool_exprs.specs.declared.expr.BoolExpr.{BoolExpr}
 use Rattle.bool_exprs.specs.declared.expr.BoolExpr.TheOpen.{BoolExpr-F}
 use Rattle.bool_exprs.specs.declared.expr.BoolExpr.TheFolds.{fold-BoolExpr}
@@ -30,10 +30,6 @@ expr_step (BoolExpr-F.Or left right) = either left.value right.value
 -- an expression as plain data
 abbrev pub expr_of : BoolExpr → Expr
 expr_of = fold-BoolExpr Expr expr_step
-
--- the tree spans the whole word
-abbrev pub MatchesWhole : Tree → List ℕ → Type 0
-MatchesWhole tree word = Spans word tree 0 (length word)
 
 -- one of the features is such
 abbrev pub OneOf : (List ℕ → Type 0) → List (List ℕ) → Type 0

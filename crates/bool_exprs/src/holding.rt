@@ -1,15 +1,14 @@
 //! Whether an expression holds.
-ghost use Rattle.std.specs.Prelude.{◌≡◌, ◌↔◌, false, IfOk, IsTrue};
-ghost use Rattle.std.specs.List.{Contains};
+ghost use Rattle.std.specs.Prelude.{◌≡◌, ◌↔◌, false, IsTrue};
 ghost use Rattle.ere_tree.specs.Shape.{has_refs};
 ghost use Rattle.ere_tree.specs.View.{view};
-ghost use Rattle.bool_exprs.specs.Expr.{Holds, MatchesWhole, OneOf, expr_of, refers};
+ghost use Rattle.bool_exprs.specs.Expr.{Holds, OneOf, expr_of, refers};
+ghost use Rattle.ere_whole.specs.Whole.{MatchesWhole};
 
 use crate::expr::BoolExpr;
-use ere_places::{Direction, Window, image};
 use ere_tree::Ere;
-use std::alloc::Global;
-use tt_base::{Bytes, NoMemory};
+use ere_whole::matches_whole;
+use tt_base::Bytes;
 
 fn is_same(feature: &Bytes, name: &Bytes) -> bool
     ensures { IsTrue result ↔ (feature.now ≡ name.now) }
@@ -29,40 +28,17 @@ fn is_among(name: &Bytes, features: &[Bytes]) -> bool
     false
 }
 
-/// Whether a place is among these.
-fn is_place(places: &[usize], place: usize) -> bool
-    ensures { IsTrue result ↔ Contains places.now place }
-{
-    places.contains(&place)
-}
-
-/// Whether an expression matches a whole word.
-fn matches_whole(alloc: Global, ere: &Ere, word: &[u8]) -> Result<bool, NoMemory>
-    requires { has_refs (view ere.now) ≡ false }
-    ensures { IfOk result (λ yes. IsTrue yes ↔ MatchesWhole (view ere.now) word.now) }
-{
-    let window = Window {
-        direction: Direction::Ahead,
-        low: 0,
-        high: word.len(),
-    };
-    match image(alloc, ere, word, window, &[0]) {
-        Ok(ends) => Ok(is_place(ends.as_slice(), word.len())),
-        Err(_) => Err(NoMemory),
-    }
-}
-
 /// Whether one of the features is matched as a whole.
-fn matches_one(alloc: Global, ere: &Ere, features: &[Bytes]) -> Result<bool, NoMemory>
+fn matches_one(ere: &Ere, features: &[Bytes]) -> bool
     requires { has_refs (view ere.now) ≡ false }
-    ensures { IfOk result (λ yes. IsTrue yes ↔ OneOf (MatchesWhole (view ere.now)) features.now) }
+    ensures { IsTrue result ↔ OneOf (MatchesWhole (view ere.now)) features.now }
 {
     for feature in features {
-        if matches_whole(alloc, ere, feature.as_slice())? {
-            return Ok(true);
+        if matches_whole(ere, feature.as_slice()) {
+            return true;
         }
     }
-    Ok(false)
+    false
 }
 
 /// Whether a `Match` of an expression has references.
@@ -78,22 +54,16 @@ pub fn has_refs(expr: &BoolExpr) -> bool
 }
 
 /// Whether an expression holds over these features. No `Match` in it has references.
-pub fn holds(alloc: Global, expr: &BoolExpr, features: &[Bytes]) -> Result<bool, NoMemory>
+pub fn holds(expr: &BoolExpr, features: &[Bytes]) -> bool
     requires no_refs { refers (expr_of expr.now) ≡ false }
-    ensures exact { IfOk result (λ yes. IsTrue yes ↔ Holds features.now (expr_of expr.now)) }
+    ensures exact { IsTrue result ↔ Holds features.now (expr_of expr.now) }
 {
     match expr {
-        BoolExpr::Const(value) => Ok(*value),
-        BoolExpr::Name(name) => Ok(is_among(name, features)),
-        BoolExpr::Match(ere) => matches_one(alloc, ere, features),
-        BoolExpr::Not(inner) => Ok(!holds(alloc, inner, features)?),
-        BoolExpr::And(left, right) => {
-            let both = holds(alloc, left, features)? && holds(alloc, right, features)?;
-            Ok(both)
-        }
-        BoolExpr::Or(left, right) => {
-            let either = holds(alloc, left, features)? || holds(alloc, right, features)?;
-            Ok(either)
-        }
+        BoolExpr::Const(value) => *value,
+        BoolExpr::Name(name) => is_among(name, features),
+        BoolExpr::Match(ere) => matches_one(ere, features),
+        BoolExpr::Not(inner) => !holds(inner, features),
+        BoolExpr::And(left, right) => holds(left, features) && holds(right, features),
+        BoolExpr::Or(left, right) => holds(left, features) || holds(right, features),
     }
 }

@@ -1,6 +1,7 @@
 use Rattle.std.proofs.Common.{drop}
 use Rattle.ere_tree.specs.View.{view}
-use Rattle.bool_exprs.specs.Expr.{MatchesWhole, OneOf}
+use Rattle.ere_whole.specs.Whole.{MatchesWhole}
+use Rattle.bool_exprs.specs.Expr.{OneOf}
 use Rattle.bool_exprs.proofs.holding.matches_one.Given as goal
 
 abbrev pub invariant-loop-feature : goal.invariant-loop-feature

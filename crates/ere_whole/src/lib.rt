@@ -1,0 +1,10 @@
+//! Whether an expression without references matches a text as a whole. It takes no memory: places of the text are
+//! kept as bits, block by block.
+#![tactic(auto)]
+
+mod leaf;
+mod places;
+mod reach;
+mod whole;
+
+pub use whole::matches_whole;
