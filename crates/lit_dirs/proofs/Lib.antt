@@ -1,3 +1,4 @@
 pub mod LookLemmas
 pub mod NamedLemmas
 pub mod ReadLemmas
+pub mod MadeLemmas

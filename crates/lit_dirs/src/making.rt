@@ -1,84 +1,88 @@
 //! A test from its path and its suite.
-ghost use Rattle.std.specs.Prelude.{◌≡◌, ◌++◌, ◌∷◌, [], IfOk, codes};
-ghost use Rattle.lit_paths.specs.Paths.{inner_text_of, text_of};
+ghost use Rattle.std.specs.Prelude.{◌≡◌, ◌≢◌, ◌++◌, ◌∷◌, ℕ, [], IfOk, List, codes, true};
+ghost use Rattle.std.specs.List.{list_all};
+ghost use Rattle.tt_outside.specs.TreeMap.{is_part};
+ghost use Rattle.lit_paths.specs.Paths.{Parts, cut, dir_of, inner_text_of, slashed, text_of};
 ghost use Rattle.lit_suite.specs.Whole.{IsWhole};
-ghost use Rattle.lit_dirs.specs.Tests.{IsTestOf, exec_root_of, name_of, work_dir_of};
+ghost use Rattle.lit_dirs.specs.Tests.{IsTestOf, work_dir_of};
 
-use crate::additions::{add_pairs, add_texts, features_of, substitutions_of, tools_of};
-use lit_paths::{add_inner_text, copied, dir_of, joined, text_of, with_name};
+use crate::additions::{add_pairs, features_of, substitutions_of, tools_of};
+use lit_paths::{add_slashed, behind_path, chained, cut, cut_name, joined};
 use lit_suite::Suite;
 use std::alloc::Global;
 use tt_base::{Bytes, Items, NoMemory};
 use tt_outside::{Pair, Test};
 
-/// A path, and the parts behind it.
-fn extended(alloc: Global, dir: &[Bytes], rest: &[Bytes]) -> Result<Items<Bytes>, NoMemory>
-    ensures { IfOk result (λ path. path ≡ dir.now ++ rest.now) }
+/// The text of a path whose parts are written so, each behind a slash.
+fn whole_text(alloc: Global, text: Bytes) -> Result<Bytes, NoMemory>
+    ensures { (path : Parts) → text ≡ slashed path → IfOk result (λ whole. whole ≡ text_of path) }
 {
-    let mut path = copied(alloc, dir)?;
-    add_texts(alloc, &mut path, rest)?;
-    Ok(path)
-}
-
-/// The last part of a path.
-fn name_of(path: &[Bytes]) -> &[u8]
-    ensures { result.now ≡ name_of path.now }
-{
-    match path.last() {
-        Some(name) => name.as_slice(),
-        None => b"".as_slice(),
+    if text.is_empty() {
+        return Bytes::from_slice(alloc, b"/".as_slice());
     }
+    Ok(text)
 }
 
-fn exec_root_of(alloc: Global, root: &[Bytes], suite: &Suite) -> Result<Items<Bytes>, NoMemory>
-    ensures { IfOk result (λ path. path ≡ exec_root_of root.now suite.now.exec_root) }
+/// The path of the directory in which the commands of a test run, each part behind a slash. `dir` is that of the test
+/// file.
+fn work_dir_of(alloc: Global, root: &[Bytes], suite: &Suite, dir: &[u8]) -> Result<Bytes, NoMemory>
+    ensures { (below : Parts) → dir.now ≡ slashed root.now ++ slashed (dir_of below)
+        → IfOk result (λ text. text ≡ slashed (work_dir_of root.now suite.now below)) }
 {
     match &suite.exec_root {
-        Some(path) => joined(alloc, root, path.as_slice()),
-        None => copied(alloc, root),
+        Some(path) => {
+            let top = joined(alloc, root, path.as_slice())?;
+            let mut text = Bytes::new(alloc);
+            add_slashed(&mut text, top.as_slice())?;
+            text.append(behind_path(root, dir))?;
+            Ok(text)
+        }
+        None => Bytes::from_slice(alloc, dir),
     }
 }
 
-/// The directory in which the commands of a test run.
-fn work_dir_of(
-    alloc: Global,
-    root: &[Bytes],
-    suite: &Suite,
-    below: &[Bytes],
-) -> Result<Items<Bytes>, NoMemory>
-    ensures { IfOk result (λ path. path ≡ work_dir_of root.now suite.now below.now) }
+/// A path below a directory, from its parts each behind a slash.
+fn inner_text(text: &[u8]) -> &[u8]
+    ensures { (below : Parts) → text.now ≡ slashed below → result.now ≡ inner_text_of below }
 {
-    let top = exec_root_of(alloc, root, suite)?;
-    extended(alloc, top.as_slice(), dir_of(below))
-}
-
-/// How the paths of temporary files begin.
-fn temp_of(alloc: Global, temp_dir: &[Bytes], below: &[Bytes]) -> Result<Bytes, NoMemory>
-    ensures { IfOk result (λ temp. temp ≡ text_of (temp_dir.now ++ (name_of below.now ++ codes ".tmp") ∷ [])) }
-{
-    let mut name = Bytes::from_slice(alloc, name_of(below))?;
-    name.append(b".tmp".as_slice())?;
-    text_of(
-        alloc,
-        with_name(alloc, temp_dir, name.as_slice())?.as_slice(),
-    )
+    match text.split_first() {
+        Some((_, inner)) => inner,
+        None => text,
+    }
 }
 
 /// The name of a test: its suite's, and its path below the root.
-fn full_name(alloc: Global, suite: &[u8], below: &[Bytes]) -> Result<Bytes, NoMemory>
-    ensures { IfOk result (λ name. name ≡ suite.now ++ codes " :: " ++ inner_text_of below.now) }
+fn full_name(alloc: Global, suite: &[u8], inner: &[u8]) -> Result<Bytes, NoMemory>
+    ensures { IfOk result (λ name. name ≡ suite.now ++ codes " :: " ++ inner.now) }
 {
-    let mut name = Bytes::from_slice(alloc, suite)?;
-    name.append(b" :: ".as_slice())?;
-    add_inner_text(&mut name, below)?;
-    Ok(name)
+    chained(alloc, &[suite, b" :: ", inner])
 }
 
-/// The text of a path below a directory.
-fn text_below(alloc: Global, dir: &[Bytes], rest: &[Bytes]) -> Result<Bytes, NoMemory>
-    ensures { IfOk result (λ text. text ≡ text_of (dir.now ++ rest.now)) }
+/// The directory of temporary files, in that of the commands.
+#[tactic(auto, using(crate::proofs::MadeLemmas::temp_dir_text))]
+fn temp_dir_of(alloc: Global, work: &[u8]) -> Result<Bytes, NoMemory>
+    ensures { (dir : Parts) → work.now ≡ slashed dir → IfOk result (λ text. text ≡ text_of (dir ++ codes "Output" ∷ [])) }
 {
-    text_of(alloc, extended(alloc, dir, rest)?.as_slice())
+    chained(alloc, &[work, b"/Output"])
+}
+
+/// How the paths of temporary files begin.
+#[tactic(auto, using(crate::proofs::MadeLemmas::temp_text))]
+fn temp_of(alloc: Global, work: &[u8], name: &[u8]) -> Result<Bytes, NoMemory>
+    ensures { (dir : Parts) → work.now ≡ slashed dir
+        → IfOk result (λ temp. temp ≡ text_of ((dir ++ codes "Output" ∷ []) ++ (name.now ++ codes ".tmp") ∷ [])) }
+{
+    chained(alloc, &[work, b"/Output/", name, b".tmp"])
+}
+
+/// The parts of a path below the directory of a suite, if the suite has parts that may hold it.
+fn parts_below(alloc: Global, suite: &Suite, inner: &[u8]) -> Result<Items<Bytes>, NoMemory>
+    ensures { IfOk result (λ below. suite.now.parts ≢ [] → below ≡ cut inner.now) }
+{
+    if suite.parts.is_empty() {
+        return Ok(Items::new(alloc));
+    }
+    cut(alloc, inner)
 }
 
 /// Copies of pairs.
@@ -90,29 +94,27 @@ fn copied_pairs(alloc: Global, pairs: &[Pair]) -> Result<Items<Pair>, NoMemory>
     Ok(copy)
 }
 
-/// The test of a path below the directory of its suite.
+/// The test of a file below the directory of its suite.
 #[tactic(auto, using(crate::proofs::NamedLemmas::replacements_are_named))]
-pub fn test_of(
-    alloc: Global,
-    root: &[Bytes],
-    suite: &Suite,
-    below: &[Bytes],
-) -> Result<Test, NoMemory>
+pub fn test_of(alloc: Global, root: &[Bytes], suite: &Suite, path: Bytes) -> Result<Test, NoMemory>
     requires { IsWhole suite.now }
-    ensures { IfOk result (IsTestOf root.now suite.now below.now) }
+    ensures { (below : Parts) → path ≡ text_of (root.now ++ below) → list_all is_part below ≡ true → below ≢ []
+        → IfOk result (IsTestOf root.now suite.now below) }
 {
-    let work_dir = work_dir_of(alloc, root, suite, below)?;
-    let temp_dir = with_name(alloc, work_dir.as_slice(), b"Output".as_slice())?;
+    let inner = inner_text(behind_path(root, path.as_slice()));
+    let below = parts_below(alloc, suite, inner)?;
+    let (dir, name) = cut_name(path.as_slice());
+    let work = work_dir_of(alloc, root, suite, dir)?;
     Ok(Test {
-        name: full_name(alloc, suite.name.as_slice(), below)?,
-        path: text_below(alloc, root, below)?,
-        source_dir: text_below(alloc, root, dir_of(below))?,
-        work_dir: text_of(alloc, work_dir.as_slice())?,
-        temp_dir: text_of(alloc, temp_dir.as_slice())?,
-        temp: temp_of(alloc, temp_dir.as_slice(), below)?,
-        features: features_of(alloc, suite, below)?,
-        substitutions: substitutions_of(alloc, suite, below)?,
+        name: full_name(alloc, suite.name.as_slice(), inner)?,
+        source_dir: whole_text(alloc, Bytes::from_slice(alloc, dir)?)?,
+        temp_dir: temp_dir_of(alloc, work.as_slice())?,
+        temp: temp_of(alloc, work.as_slice(), name)?,
+        work_dir: whole_text(alloc, work)?,
+        features: features_of(alloc, suite, below.as_slice())?,
+        substitutions: substitutions_of(alloc, suite, below.as_slice())?,
         tools: tools_of(alloc, root, suite.tools.as_slice())?,
         environment: copied_pairs(alloc, suite.environment.as_slice())?,
+        path,
     })
 }

@@ -90,12 +90,7 @@ answers nodes words seen walk (Err TooMany) nested is gives =
     (is_clear nodes words seen walk is, (tests, are_tests nodes words seen walk tests nested is made, more))
 answers nodes words seen walk (Err NoMemory) nested is gives = tt
 answers nodes words seen walk (Err TreeFault) nested is gives = tt
-answers nodes words seen walk (Err (Missing path)) nested is gives = absurd gives
-answers nodes words seen walk (Err (PythonConfig path)) nested is gives = absurd gives
-answers nodes words seen walk (Err (NoSuite path)) nested is gives = absurd gives
-answers nodes words seen walk (Err (BadSuite path why)) nested is gives = absurd gives
-answers nodes words seen walk (Err (SuiteTooLarge path)) nested is gives = absurd gives
-answers nodes words seen walk (Err TooManyItems) nested is gives = absurd gives
+answers nodes words seen walk (Err fault) nested is gives = absurd gives
 
 -- ---- refusals
 
@@ -117,36 +112,23 @@ pub words_refused : (A B : Type 0) (nodes : List Node) (words early later : List
     → GivesWord {A = A} nodes early word next after (Err fault) → GivesWords {A = B} nodes words next after (Err fault)
 words_refused A B nodes words early later word seen next walk after (Missing path) is all gives =
     refused_word nodes words early later word seen walk (Missing path) is all gives
-words_refused A B nodes words early later word seen next walk after (PythonConfig path) is all gives =
-    refused_word nodes words early later word seen walk (PythonConfig path) is all gives
-words_refused A B nodes words early later word seen next walk after (NoSuite path) is all gives =
-    refused_word nodes words early later word seen walk (NoSuite path) is all gives
-words_refused A B nodes words early later word seen next walk after (BadSuite path why) is all gives =
-    refused_word nodes words early later word seen walk (BadSuite path why) is all gives
-words_refused A B nodes words early later word seen next walk after (SuiteTooLarge path) is all gives =
-    refused_word nodes words early later word seen walk (SuiteTooLarge path) is all gives
-words_refused A B nodes words early later word seen next walk after TooManyItems is all gives =
-    refused_word nodes words early later word seen walk TooManyItems is all gives
 words_refused A B nodes words early later word seen next walk after TooMany is all gives = not_too_many nodes early word
     gives
 words_refused A B nodes words early later word seen next walk after NoTests is all gives = no_tests nodes early word
     gives
 words_refused A B nodes words early later word seen next walk after TreeFault is all gives = tt
 words_refused A B nodes words early later word seen next walk after NoMemory is all gives = tt
+words_refused A B nodes words early later word seen next walk after fault is all gives =
+    refused_word nodes words early later word seen walk fault is all gives
 
 pub answers_refusal : (A : Type 0) (nodes : List Node) (words : List Parts) (seen : List Looked) (walk : Walk) (fault :
     DiscoverFault)
     → GivesWords {A = A} nodes words seen walk (Err fault) → AnswersTo nodes words (Err fault)
-answers_refusal A nodes words seen walk (Missing path) gives = gives
-answers_refusal A nodes words seen walk (PythonConfig path) gives = gives
-answers_refusal A nodes words seen walk (NoSuite path) gives = gives
-answers_refusal A nodes words seen walk (BadSuite path why) gives = gives
-answers_refusal A nodes words seen walk (SuiteTooLarge path) gives = gives
-answers_refusal A nodes words seen walk TooManyItems gives = gives
 answers_refusal A nodes words seen walk TooMany gives = absurd gives
 answers_refusal A nodes words seen walk NoTests gives = absurd gives
 answers_refusal A nodes words seen walk TreeFault gives = tt
 answers_refusal A nodes words seen walk NoMemory gives = tt
+answers_refusal A nodes words seen walk fault gives = gives
 
 -- ---- words one by one
 

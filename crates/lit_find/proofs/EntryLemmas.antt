@@ -9,65 +9,72 @@ use Rattle.std.specs.Ordering.{match_ordering, nat_cmp, ordering_then}
 use Rattle.std.specs.declared.cmp.Ordering.{Ordering}
 use Rattle.std.specs.declared.cmp.Ordering.TheVariants.{Less, Equal, Greater}
 use Rattle.std.proofs.lemmas.Map.Lookups.{exact_bytes}
-use Rattle.lit_paths.specs.Paths.{Parts, text_of}
-use Rattle.lit_find.specs.Entries.{KeysArePaths, KeysAreTexts, parts_of}
-use Rattle.lit_find.specs.Places.{IsBefore, parts_cmp, path_order, put, text_order}
+use Rattle.lit_paths.specs.Paths.{Parts, path_in, text_of}
+use Rattle.lit_find.specs.Entries.{KeysArePaths, KeysAreTexts, file_of, parts_of}
+use Rattle.lit_find.specs.Places.{IsBefore, parts_cmp, path_order, place_in, put, text_order}
 use Rattle.lit_find.specs.declared.place.Place.{Place}
 
 -- ---- any keys
 
-same_head : {A : Type 0} (x y : A) (xs ys : List A) → x ∷ xs ≡ y ∷ ys → x ≡ y
+pub same_head : {A : Type 0} (x y : A) (xs ys : List A) → x ∷ xs ≡ y ∷ ys → x ≡ y
 same_head x y xs ys h = cc
 
-same_tail : {A : Type 0} (x y : A) (xs ys : List A) → x ∷ xs ≡ y ∷ ys → xs ≡ ys
+pub same_tail : {A : Type 0} (x y : A) (xs ys : List A) → x ∷ xs ≡ y ∷ ys → xs ≡ ys
 same_tail x y xs ys h = cc
 
--- places put in by their keys, where each key is that of its place
-inserted : {K J : Type 0} (key : K → J) (of : Place → J) (cmp : J → J → Ordering) → (entries : List (K × Place)) (k : K)
-    (place : Place) → key k ≡ of place → map (λ e. key e.0) entries ≡ map (λ e. of e.1) entries
-    → map (λ e. e.1) (insert_entry (λ x y. cmp (key x) (key y)) entries k place)
-    ≡ put (λ x y. cmp (of x) (of y)) place (map (λ e. e.1) entries)
-inserted key of cmp [] k place here all = refl
-inserted key of cmp (e ∷ entries) k place here all =
-    let first = same_head (key e.0) (of e.1) (map (λ e. key e.0) entries) (map (λ e. of e.1) entries) all in
-    let rest = same_tail (key e.0) (of e.1) (map (λ e. key e.0) entries) (map (λ e. of e.1) entries) all in
-    by_order (cmp (key k) (key e.0)) (cmp (of place) (of e.1)) (λ i. cmp (here i) (first i))
-    (inserted key of cmp entries k place here rest)
+-- Entries are places: `to` gives that of one. Each is under the key of its place, `of`, and equal keys are of one place.
+
+-- places put in by their keys
+inserted : {K J V : Type 0} (key : K → J) (of : Place → J) (to : K × V → Place) (cmp : J → J → Ordering)
+    → ((x y : K) (v : V) → cmp (key x) (key y) ≡ Equal → to (y, v) ≡ to (x, v))
+    → (entries : List (K × V)) (k : K) (v : V) → key k ≡ of (to (k, v))
+    → map (λ e. key e.0) entries ≡ map (λ e. of (to e)) entries
+    → map to (insert_entry (λ x y. cmp (key x) (key y)) entries k v)
+    ≡ put (λ x y. cmp (of x) (of y)) (to (k, v)) (map to entries)
+inserted key of to cmp alike [] k v here all = refl
+inserted key of to cmp alike (e ∷ entries) k v here all =
+    let first = same_head (key e.0) (of (to e)) (map (λ e. key e.0) entries) (map (λ e. of (to e)) entries) all in
+    let rest = same_tail (key e.0) (of (to e)) (map (λ e. key e.0) entries) (map (λ e. of (to e)) entries) all in
+    by_order (cmp (key k) (key e.0)) (cmp (of (to (k, v))) (of (to e))) refl (λ i. cmp (here i) (first i))
+    (inserted key of to cmp alike entries k v here rest)
   where
-    by_order : (o p : Ordering) → o ≡ p
-        → map (λ e. e.1) (insert_entry (λ x y. cmp (key x) (key y)) entries k place)
-        ≡ put (λ x y. cmp (of x) (of y)) place (map (λ e. e.1) entries)
-        → map (λ e. e.1) (match_ordering o ((k, place) ∷ e ∷ entries) ((e.0, place) ∷ entries)
-        (e ∷ insert_entry (λ x y. cmp (key x) (key y)) entries k place))
-        ≡ match_ordering p (place ∷ e.1 ∷ map (λ e. e.1) entries) (place ∷ map (λ e. e.1) entries)
-        (e.1 ∷ put (λ x y. cmp (of x) (of y)) place (map (λ e. e.1) entries))
-    by_order Less Less same later = refl
-    by_order Equal Equal same later = refl
-    by_order Greater Greater same later = ap (λ xs. e.1 ∷ xs) later
-    by_order o p same later = absurd (cc)
+    by_order : (o p : Ordering) → cmp (key k) (key e.0) ≡ o → o ≡ p
+        → map to (insert_entry (λ x y. cmp (key x) (key y)) entries k v)
+        ≡ put (λ x y. cmp (of x) (of y)) (to (k, v)) (map to entries)
+        → map to (match_ordering o ((k, v) ∷ e ∷ entries) ((e.0, v) ∷ entries)
+        (e ∷ insert_entry (λ x y. cmp (key x) (key y)) entries k v))
+        ≡ match_ordering p (to (k, v) ∷ to e ∷ map to entries) (to (k, v) ∷ map to entries)
+        (to e ∷ put (λ x y. cmp (of x) (of y)) (to (k, v)) (map to entries))
+    by_order Less Less is same later = refl
+    by_order Equal Equal is same later = ap (λ x. x ∷ map to entries) (alike k e.0 v is)
+    by_order Greater Greater is same later = ap (λ xs. to e ∷ xs) later
+    by_order o p is same later = absurd (cc)
 
 -- each is still under its key
-keys_stay : {K J : Type 0} (key : K → J) (of : Place → J) (cmp : J → J → Ordering)
-    → ((x y : J) → cmp x y ≡ Equal → x ≡ y) → (entries : List (K × Place)) (k : K)
-    (place : Place) → key k ≡ of place → map (λ e. key e.0) entries ≡ map (λ e. of e.1) entries
-    → map (λ e. key e.0) (insert_entry (λ x y. cmp (key x) (key y)) entries k place)
-    ≡ map (λ e. of e.1) (insert_entry (λ x y. cmp (key x) (key y)) entries k place)
-keys_stay key of cmp exact [] k place here all = λ i. here i ∷ []
-keys_stay key of cmp exact (e ∷ entries) k place here all =
-    let first = same_head (key e.0) (of e.1) (map (λ e. key e.0) entries) (map (λ e. of e.1) entries) all in
-    let rest = same_tail (key e.0) (of e.1) (map (λ e. key e.0) entries) (map (λ e. of e.1) entries) all in
-    by_order (cmp (key k) (key e.0)) refl first rest (keys_stay key of cmp exact entries k place here rest)
+keys_stay : {K J V : Type 0} (key : K → J) (of : Place → J) (to : K × V → Place) (cmp : J → J → Ordering)
+    → ((x y : J) → cmp x y ≡ Equal → x ≡ y)
+    → ((x y : K) (v : V) → cmp (key x) (key y) ≡ Equal → to (y, v) ≡ to (x, v))
+    → (entries : List (K × V)) (k : K) (v : V) → key k ≡ of (to (k, v))
+    → map (λ e. key e.0) entries ≡ map (λ e. of (to e)) entries
+    → map (λ e. key e.0) (insert_entry (λ x y. cmp (key x) (key y)) entries k v)
+    ≡ map (λ e. of (to e)) (insert_entry (λ x y. cmp (key x) (key y)) entries k v)
+keys_stay key of to cmp exact alike [] k v here all = λ i. here i ∷ []
+keys_stay key of to cmp exact alike (e ∷ entries) k v here all =
+    let first = same_head (key e.0) (of (to e)) (map (λ e. key e.0) entries) (map (λ e. of (to e)) entries) all in
+    let rest = same_tail (key e.0) (of (to e)) (map (λ e. key e.0) entries) (map (λ e. of (to e)) entries) all in
+    by_order (cmp (key k) (key e.0)) refl first rest (keys_stay key of to cmp exact alike entries k v here rest)
   where
-    by_order : (o : Ordering) → cmp (key k) (key e.0) ≡ o → key e.0 ≡ of e.1
-        → map (λ e. key e.0) entries ≡ map (λ e. of e.1) entries
-        → map (λ e. key e.0) (insert_entry (λ x y. cmp (key x) (key y)) entries k place)
-        ≡ map (λ e. of e.1) (insert_entry (λ x y. cmp (key x) (key y)) entries k place)
-        → map (λ e. key e.0) (match_ordering o ((k, place) ∷ e ∷ entries) ((e.0, place) ∷ entries)
-        (e ∷ insert_entry (λ x y. cmp (key x) (key y)) entries k place))
-        ≡ map (λ e. of e.1) (match_ordering o ((k, place) ∷ e ∷ entries) ((e.0, place) ∷ entries)
-        (e ∷ insert_entry (λ x y. cmp (key x) (key y)) entries k place))
+    by_order : (o : Ordering) → cmp (key k) (key e.0) ≡ o → key e.0 ≡ of (to e)
+        → map (λ e. key e.0) entries ≡ map (λ e. of (to e)) entries
+        → map (λ e. key e.0) (insert_entry (λ x y. cmp (key x) (key y)) entries k v)
+        ≡ map (λ e. of (to e)) (insert_entry (λ x y. cmp (key x) (key y)) entries k v)
+        → map (λ e. key e.0) (match_ordering o ((k, v) ∷ e ∷ entries) ((e.0, v) ∷ entries)
+        (e ∷ insert_entry (λ x y. cmp (key x) (key y)) entries k v))
+        ≡ map (λ e. of (to e)) (match_ordering o ((k, v) ∷ e ∷ entries) ((e.0, v) ∷ entries)
+        (e ∷ insert_entry (λ x y. cmp (key x) (key y)) entries k v))
     by_order Less is first rest later = λ i. here i ∷ first i ∷ rest i
-    by_order Equal is first rest later = λ i. (sym (exact _ _ is) ∙ here) i ∷ rest i
+    by_order Equal is first rest later =
+        λ i. (sym (exact _ _ is) ∙ here ∙ ap of (sym (alike k e.0 v is))) i ∷ rest i
     by_order Greater is first rest later = λ i. first i ∷ later i
 
 -- what holds behind a call that was done, and behind one that left all as it was
@@ -77,18 +84,23 @@ either_way (Err fault) p q from_p from_q = from_q q
 
 -- ---- texts as keys
 
-pub file_put : (entries : List (Vec ℕ Global × Place)) (key : Vec ℕ Global) (place : Place)
-    → key.items ≡ text_of place.path → KeysAreTexts entries
-    → map (λ e. e.1) (insert_entry (λ x y. slice_cmp nat_cmp x.items y.items) entries key place)
-    ≡ put text_order place (map (λ e. e.1) entries)
-file_put entries key place here all =
-    inserted (λ k. k.items) (λ one. text_of one.path) (slice_cmp nat_cmp) entries key place here all
+one_file : (x y : Vec ℕ Global) (suite : ℕ) → slice_cmp nat_cmp x.items y.items ≡ Equal
+    → file_of (y, suite) ≡ file_of (x, suite)
+one_file x y suite is = ap (λ text. place_in text suite) (sym (exact_bytes x.items y.items is))
 
-pub texts_stay : (entries : List (Vec ℕ Global × Place)) (key : Vec ℕ Global) (place : Place)
-    → key.items ≡ text_of place.path → KeysAreTexts entries
-    → KeysAreTexts (insert_entry (λ x y. slice_cmp nat_cmp x.items y.items) entries key place)
-texts_stay entries key place here all =
-    keys_stay (λ k. k.items) (λ one. text_of one.path) (slice_cmp nat_cmp) exact_bytes entries key place here all
+pub file_put : (entries : List (Vec ℕ Global × ℕ)) (key : Vec ℕ Global) (suite : ℕ)
+    → key.items ≡ text_of (path_in key.items) → KeysAreTexts entries
+    → map file_of (insert_entry (λ x y. slice_cmp nat_cmp x.items y.items) entries key suite)
+    ≡ put text_order (place_in key.items suite) (map file_of entries)
+file_put entries key suite here all =
+    inserted (λ k. k.items) (λ one. text_of one.path) file_of (slice_cmp nat_cmp) one_file entries key suite here all
+
+pub texts_stay : (entries : List (Vec ℕ Global × ℕ)) (key : Vec ℕ Global) (suite : ℕ)
+    → key.items ≡ text_of (path_in key.items) → KeysAreTexts entries
+    → KeysAreTexts (insert_entry (λ x y. slice_cmp nat_cmp x.items y.items) entries key suite)
+texts_stay entries key suite here all =
+    keys_stay (λ k. k.items) (λ one. text_of one.path) file_of (slice_cmp nat_cmp) exact_bytes one_file entries key suite
+    here all
 
 -- ---- lists of parts as keys
 
@@ -123,13 +135,13 @@ pub dir_put : (entries : List (Vec (Vec ℕ Global) Global × Place)) (key : Vec
     → map (λ e. e.1) (insert_entry vec_cmp entries key place) ≡ put path_order place (map (λ e. e.1) entries)
 dir_put entries key place here all =
     ap (λ cmp. map (λ e. e.1) (insert_entry cmp entries key place)) vec_cmp_is
-    ∙ inserted parts_of (λ one. one.path) parts_cmp entries key place here all
+    ∙ inserted parts_of (λ one. one.path) (λ e. e.1) parts_cmp (λ x y v is. refl) entries key place here all
 
 pub paths_stay : (entries : List (Vec (Vec ℕ Global) Global × Place)) (key : Vec (Vec ℕ Global) Global) (place : Place)
     → parts_of key ≡ place.path → KeysArePaths entries → KeysArePaths (insert_entry vec_cmp entries key place)
 paths_stay entries key place here all =
     ap (λ cmp. map (λ e. parts_of e.0) (insert_entry cmp entries key place)) vec_cmp_is
-    ∙ keys_stay parts_of (λ one. one.path) parts_cmp exact_parts entries key place here all
+    ∙ keys_stay parts_of (λ one. one.path) (λ e. e.1) parts_cmp exact_parts (λ x y v is. refl) entries key place here all
     ∙ sym (ap (λ cmp. map (λ e. e.1.path) (insert_entry cmp entries key place)) vec_cmp_is)
 
 -- the first entry's place stands before the others

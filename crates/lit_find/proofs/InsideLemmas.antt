@@ -21,6 +21,7 @@ use Rattle.lit_find.specs.Discovery.{IsTest, IsWalked, has_suffix, is_passed}
 use Rattle.lit_find.specs.Sorting.{is_dir, is_entered, is_file, is_kept, place_of}
 use Rattle.lit_find.specs.Walk.{IsDirIn, IsRooted, IsTestIn, IsUnder, own_or, root_at, root_in, root_of}
 use Rattle.lit_find.proofs.ChildLemmas.{listed_right, listed_whole}
+use Rattle.lit_find.proofs.PathLemmas.{name_behind}
 use Rattle.lit_find.proofs.ReachLemmas.{dir_of_push, one_part, open_push, parts_both}
 
 -- ---- its suite
@@ -73,7 +74,7 @@ dir_in nodes dir root items item parts lists near within entered =
 pub test_in : (nodes : List Node) (dir : Parts) (root : Rooted) (items : List Item) (item : Item)
     → list_all is_part dir ≡ true
     → Lists nodes (text_of dir) items → nearest nodes dir ≡ Some root → Contains items item
-    → is_kept root.suite (dir ++ item.name ∷ []) item ≡ true → IsTestIn nodes dir item.name
+    → is_kept root.suite dir item ≡ true → IsTestIn nodes dir item.name
 test_in nodes dir root items item parts lists near within kept =
     let listed = listed_right nodes dir items item parts lists within in
     let passed = passing.is_passed root.suite item.name in
@@ -107,7 +108,7 @@ dir_item nodes dir root items part parts lists near inside =
 pub test_item : (nodes : List Node) (dir : Parts) (root : Rooted) (items : List Item) (part : List ℕ)
     → list_all is_part dir ≡ true
     → Lists nodes (text_of dir) items → nearest nodes dir ≡ Some root → IsTestIn nodes dir part
-    → (item : Item) × Contains items item × (is_kept root.suite (dir ++ item.name ∷ []) item ≡ true)
+    → (item : Item) × Contains items item × (is_kept root.suite dir item ≡ true)
     × (text_of (dir ++ part ∷ []) ≡ text_of (dir ++ item.name ∷ []))
 test_item nodes dir root items part parts lists near inside =
     let (item, within, named, kind) = listed_whole nodes dir items part File parts lists inside.named inside.kind in
@@ -141,6 +142,7 @@ pub rooted_in : (nodes : List Node) (seen : List Looked) (dir : Parts) (root : R
     → list_all is_part dir ≡ true → root_at seen number ≡ Some root → nearest nodes dir ≡ root_at seen number
     → IsTestIn nodes dir item.name → IsRooted nodes seen (place_of number dir item)
 rooted_in nodes seen dir root number item parts at near inside = record {
+  some = name_behind dir item.name;
   parts = parts_both dir (item.name ∷ []) parts (one_part item.name inside.named);
   has = λ none. absurd (cc);
   suite = ap (nearest nodes) (dir_of_push dir item.name) ∙ near;

@@ -2,6 +2,7 @@ pub mod ChildLemmas
 pub mod EntryLemmas
 pub mod InsideLemmas
 pub mod OrderLemmas
+pub mod PathLemmas
 pub mod PlaceLemmas
 pub mod ReachLemmas
 pub mod RoomLemmas

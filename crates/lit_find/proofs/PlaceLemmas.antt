@@ -8,11 +8,12 @@ use Rattle.std.proofs.lemmas.List.Elements.{All-cons, All-head, All-tail, Contai
 use Rattle.tt_outside.specs.declared.tree.Item.{Item}
 use Rattle.lit_paths.specs.Paths.{Parts, text_of}
 use Rattle.lit_suite.specs.declared.suite_file.Suite.{Suite}
-use Rattle.lit_find.specs.Places.{path_order, put, text_order}
-use Rattle.lit_find.specs.Sorting.{is_entered, is_kept, place_of, with_dir, with_dirs, with_file, with_files}
+use Rattle.lit_find.specs.Places.{path_order, place_in, put, text_order}
+use Rattle.lit_find.specs.Sorting.{is_entered, is_kept, place_of, text_in, with_dir, with_dirs, with_file, with_files}
 use Rattle.lit_find.specs.Walk.{HasPath, HasText}
 use Rattle.lit_find.specs.declared.place.Place.{Place}
 use Rattle.lit_find.proofs.EntryLemmas.{exact_parts}
+use Rattle.lit_find.proofs.PathLemmas.{name_told}
 use Rattle.std.proofs.lemmas.Map.Lookups.{exact_bytes}
 
 -- ---- lists
@@ -110,7 +111,7 @@ pub all_dirs : (P : Place → Type 0) (suite : Suite) (number : ℕ) (dir : Part
     → All P (with_dirs suite number dir items places)
 all_dirs P suite number dir [] places each all = all
 all_dirs P suite number dir (item ∷ items) places each all =
-    all_dirs P suite number dir items (with_dir suite (place_of number dir item) item places)
+    all_dirs P suite number dir items (with_dir suite number dir item places)
     (λ one within. each one (later_in item one items within))
     (by_test (is_entered suite item) refl)
   where
@@ -121,26 +122,29 @@ all_dirs P suite number dir (item ∷ items) places each all =
 
 pub all_files : (P : Place → Type 0) (suite : Suite) (number : ℕ) (dir : Parts) (items : List Item) (places : List
     Place)
-    → ((item : Item) → Contains items item → is_kept suite (dir ++ item.name ∷ []) item ≡ true
-    → P (place_of number dir item))
+    → ((item : Item) → Contains items item → is_kept suite dir item ≡ true → P (place_in (text_in dir item) number))
     → All P places → All P (with_files suite number dir items places)
 all_files P suite number dir [] places each all = all
 all_files P suite number dir (item ∷ items) places each all =
-    all_files P suite number dir items (with_file suite (place_of number dir item) item places)
+    all_files P suite number dir items (with_file suite number dir item places)
     (λ one within. each one (later_in item one items within))
-    (by_test (is_kept suite (dir ++ item.name ∷ []) item) refl)
+    (by_test (is_kept suite dir item) refl)
   where
-    by_test : (b : Bool) → is_kept suite (dir ++ item.name ∷ []) item ≡ b
-        → All P (cond b (put text_order (place_of number dir item) places) places)
-    by_test true is = all_put P text_order (place_of number dir item) places (each item (first_in item items) is) all
+    by_test : (b : Bool) → is_kept suite dir item ≡ b
+        → All P (cond b (put text_order (place_in (text_in dir item) number) places) places)
+    by_test true is =
+        all_put P text_order (place_in (text_in dir item) number) places (each item (first_in item items) is) all
     by_test false is = all
 
 -- the paths that were there, and those of the items
-dir_has : (suite : Suite) (place : Place) (item : Item) (places : List Place) (path : Parts)
-    → ((path ≡ place.path) × (is_entered suite item ≡ true)) ⊎ HasPath places path
-    → HasPath (with_dir suite place item places) path
-dir_has suite place item places path h = by_test (is_entered suite item) refl h
+dir_has : (suite : Suite) (number : ℕ) (dir : Parts) (item : Item) (places : List Place) (path : Parts)
+    → ((path ≡ dir ++ item.name ∷ []) × (is_entered suite item ≡ true)) ⊎ HasPath places path
+    → HasPath (with_dir suite number dir item places) path
+dir_has suite number dir item places path h = by_test (is_entered suite item) refl h
   where
+    place : Place
+    place = place_of number dir item
+
     by_test : (b : Bool) → is_entered suite item ≡ b → ((path ≡ place.path) × (is_entered suite item ≡ true))
         ⊎ HasPath places path
         → HasPath (cond b (put path_order place places) places) path
@@ -158,58 +162,62 @@ pub dirs_have : (suite : Suite) (number : ℕ) (dir : Parts) (items : List Item)
 dirs_have suite number dir [] places path (inl (item, within, entered, is)) = absurd (none_in item within)
 dirs_have suite number dir [] places path (inr had) = had
 dirs_have suite number dir (one ∷ items) places path (inl (item, within, entered, is)) =
-    let rest = with_dir suite (place_of number dir one) one places in
+    let rest = with_dir suite number dir one places in
     elim (cons_cases one item items within) [
       | inl same ↦ dirs_have suite number dir items rest path
-          (inr (dir_has suite (place_of number dir one) one places path
+          (inr (dir_has suite number dir one places path
           (inl (is ∙ ap (λ x. dir ++ x.name ∷ []) same, ap (is_entered suite) (sym same) ∙ entered))))
       | inr later ↦ dirs_have suite number dir items rest path (inl (item, later, entered, is))
     ]
 dirs_have suite number dir (one ∷ items) places path (inr had) =
-    dirs_have suite number dir items (with_dir suite (place_of number dir one) one places) path
-    (inr (dir_has suite (place_of number dir one) one places path (inr had)))
+    dirs_have suite number dir items (with_dir suite number dir one places) path
+    (inr (dir_has suite number dir one places path (inr had)))
 
-file_has : (suite : Suite) (place : Place) (item : Item) (places : List Place) (text : List ℕ)
-    → ((text ≡ text_of place.path) × (is_kept suite place.path item ≡ true)) ⊎ HasText places text
-    → HasText (with_file suite place item places) text
-file_has suite place item places text h = by_test (is_kept suite place.path item) refl h
+file_has : (suite : Suite) (number : ℕ) (dir : Parts) (item : Item) (places : List Place) (text : List ℕ)
+    → ((text ≡ text_in dir item) × (is_kept suite dir item ≡ true)) ⊎ HasText places text
+    → HasText (with_file suite number dir item places) text
+file_has suite number dir item places text h = by_test (is_kept suite dir item) refl h
   where
-    by_test : (b : Bool) → is_kept suite place.path item ≡ b
-        → ((text ≡ text_of place.path) × (is_kept suite place.path item ≡ true)) ⊎ HasText places text
+    place : Place
+    place = place_in (text_in dir item) number
+
+    by_test : (b : Bool) → is_kept suite dir item ≡ b
+        → ((text ≡ text_in dir item) × (is_kept suite dir item ≡ true)) ⊎ HasText places text
         → HasText (cond b (put text_order place places) places) text
     by_test true is (inl same) = put_has (λ one. text_of one.path) text_order
-        (λ one other h. exact_bytes (text_of one.path) (text_of other.path) h) place places text (inl same.0)
+        (λ one other h. exact_bytes (text_of one.path) (text_of other.path) h) place places text
+        (inl (same.0 ∙ sym (name_told dir item.name)))
     by_test true is (inr had) = put_has (λ one. text_of one.path) text_order
         (λ one other h. exact_bytes (text_of one.path) (text_of other.path) h) place places text (inr had)
     by_test false is (inl same) = absurd (true≢false (sym same.1 ∙ is))
     by_test false is (inr had) = had
 
 pub files_have : (suite : Suite) (number : ℕ) (dir : Parts) (items : List Item) (places : List Place) (text : List ℕ)
-    → ((item : Item) × Contains items item × (is_kept suite (dir ++ item.name ∷ []) item ≡ true)
-    × (text ≡ text_of (dir ++ item.name ∷ []))) ⊎ HasText places text
+    → ((item : Item) × Contains items item × (is_kept suite dir item ≡ true) × (text ≡ text_in dir item))
+    ⊎ HasText places text
     → HasText (with_files suite number dir items places) text
 files_have suite number dir [] places text (inl (item, within, kept, is)) = absurd (none_in item within)
 files_have suite number dir [] places text (inr had) = had
 files_have suite number dir (one ∷ items) places text (inl (item, within, kept, is)) =
-    let rest = with_file suite (place_of number dir one) one places in
+    let rest = with_file suite number dir one places in
     elim (cons_cases one item items within) [
       | inl same ↦ files_have suite number dir items rest text
-          (inr (file_has suite (place_of number dir one) one places text
+          (inr (file_has suite number dir one places text
           (inl (
-            is ∙ ap (λ x. text_of (dir ++ x.name ∷ [])) same,
-            ap (λ x. is_kept suite (dir ++ x.name ∷ []) x) (sym same) ∙ kept,
+            is ∙ ap (text_in dir) same,
+            ap (is_kept suite dir) (sym same) ∙ kept,
           ))))
       | inr later ↦ files_have suite number dir items rest text (inl (item, later, kept, is))
     ]
 files_have suite number dir (one ∷ items) places text (inr had) =
-    files_have suite number dir items (with_file suite (place_of number dir one) one places) text
-    (inr (file_has suite (place_of number dir one) one places text (inr had)))
+    files_have suite number dir items (with_file suite number dir one places) text
+    (inr (file_has suite number dir one places text (inr had)))
 
 pub dirs_length : (suite : Suite) (number : ℕ) (dir : Parts) (items : List Item) (places : List Place)
     → length (with_dirs suite number dir items places) ≤ length places + length items
 dirs_length suite number dir [] places = omega arith
 dirs_length suite number dir (item ∷ items) places =
-    let later = dirs_length suite number dir items (with_dir suite (place_of number dir item) item places) in
+    let later = dirs_length suite number dir items (with_dir suite number dir item places) in
     let one = by_test (is_entered suite item) in
     omega arith
   where

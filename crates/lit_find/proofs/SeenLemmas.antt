@@ -49,7 +49,7 @@ pub rooted_longer : (nodes : List Node) (old new : List Looked) (place : Place) 
     → IsRooted nodes new place
 rooted_longer nodes old new place longer is =
     let same = root_longer old new place.suite longer is.has in
-    record { parts = is.parts; has = λ none. is.has (sym same ∙ none); suite = is.suite ∙ sym same }
+    record { some = is.some; parts = is.parts; has = λ none. is.has (sym same ∙ none); suite = is.suite ∙ sym same }
 
 pub walked_longer : (old new : List Looked) (walk : Walk) (dir : Parts) → Extends old new → Walked old walk dir
     → Walked new walk dir

@@ -9,14 +9,16 @@ use Rattle.lit_look.specs.Looks.{IsNumberOf}
 use Rattle.lit_look.specs.Suites.{Rooted}
 use Rattle.lit_look.specs.declared.seen.Looked.{Looked}
 use Rattle.lit_find.specs.Discovery.{IsTest, IsWalked}
-use Rattle.lit_find.specs.Places.{IsBefore}
-use Rattle.lit_find.specs.Sorting.{place_of, with_dirs, with_files}
+use Rattle.lit_find.specs.Places.{IsBefore, place_in}
+use Rattle.lit_find.specs.Sorting.{place_of, text_in, with_dirs, with_files}
 use Rattle.lit_find.specs.Walk.{HasPath, HasText, IsDirIn, IsRooted, IsTestIn, IsThrough, IsUnder, IsWalk, Walked, own_or}
 use Rattle.lit_find.specs.declared.place.Place.{Place}
 use Rattle.lit_find.specs.declared.visit.Walk.{Walk}
 use Rattle.lit_find.proofs.InsideLemmas.{dir_in, dir_item, rooted_in, test_below, test_in, test_item, under_it, walked_below}
 use Rattle.lit_find.proofs.OrderLemmas.{before_before, before_below}
 use Rattle.lit_find.proofs.PlaceLemmas.{all_dirs, all_files, cons_cases, dirs_have, files_have}
+use Rattle.lit_find.proofs.PathLemmas.{name_behind, path_in_word}
+use Rattle.lit_find.proofs.ReachLemmas.{one_part, parts_both}
 use Rattle.lit_find.proofs.StepLemmas.{IsAtPlace, IsOf, is_of, marked_before, marked_below, marked_here, marked_only}
 
 -- what holds of each place that is before the walk, and of each that the directory lists
@@ -36,8 +38,15 @@ pub all_found : (P : Place → Type 0) (nodes : List Node) (seen : List Looked) 
     → ((item : Item) → IsTestIn nodes dir item.name → P (place_of number dir item)) → All P new
 all_found P nodes seen dir number root items old new of is all each =
     subst (All P) (sym is) (all_files P root.suite number dir items old
-    (λ item within kept. each item (test_in nodes dir root items item of.parts of.lists (of.near
+    (λ item within kept. at_path item (test_in nodes dir root items item of.parts of.lists (of.near
     ∙ of.root_is) within kept)) all)
+  where
+    at_path : (item : Item) → IsTestIn nodes dir item.name → P (place_in (text_in dir item) number)
+    at_path item inside =
+        subst (λ path. P (record { path = path; suite = number }))
+        (sym (path_in_word (dir ++ item.name ∷ []) (parts_both dir (item.name ∷ []) of.parts (one_part item.name
+        inside.named)) (name_behind dir item.name)))
+        (each item inside)
 
 -- what is there: what was, and what stands in the directory
 pub has_before : (nodes : List Node) (seen : List Looked) (dir : Parts) (number : ℕ) (root : Rooted) (items : List Item)

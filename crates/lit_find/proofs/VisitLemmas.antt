@@ -68,15 +68,9 @@ pub visit_refused : (A : Type 0) (nodes : List Node) (words : List Parts) (word 
     → GivesVisit {A = A} nodes words word place.path first old new after (Err fault)
 visit_refused A nodes words word first old new place before after (Missing path) is gives =
     gives.1 (its_kind nodes words word first old place before is).kind
-visit_refused A nodes words word first old new place before after (PythonConfig path) is gives = gives
-visit_refused A nodes words word first old new place before after (NoSuite path) is gives = gives
-visit_refused A nodes words word first old new place before after (BadSuite path why) is gives = gives
-visit_refused A nodes words word first old new place before after (SuiteTooLarge path) is gives = gives
-visit_refused A nodes words word first old new place before after TooMany is gives = gives
-visit_refused A nodes words word first old new place before after TooManyItems is gives = gives
-visit_refused A nodes words word first old new place before after NoTests is gives = gives
 visit_refused A nodes words word first old new place before after TreeFault is gives = tt
 visit_refused A nodes words word first old new place before after NoMemory is gives = tt
+visit_refused A nodes words word first old new place before after fault is gives = gives
 
 -- ---- the refusal of a walk
 
@@ -142,19 +136,7 @@ pub walk_refused : (A B : Type 0) (nodes : List Node) (words : List Parts) (word
     → GivesVisit {A = A} nodes words word place.path first old new after (Err fault)
     → GivesWalk {A = B} nodes words word first new after (Err fault)
 walk_refused A B nodes words word first old new place before after (Missing path) nested parts is least gives = gives
-walk_refused A B nodes words word first old new place before after (PythonConfig path) nested parts is least gives =
-    refused_here nodes words word first old place before (PythonConfig path) nested parts is least gives
-walk_refused A B nodes words word first old new place before after (NoSuite path) nested parts is least gives =
-    refused_here nodes words word first old place before (NoSuite path) nested parts is least gives
-walk_refused A B nodes words word first old new place before after (BadSuite path why) nested parts is least gives =
-    refused_here nodes words word first old place before (BadSuite path why) nested parts is least gives
-walk_refused A B nodes words word first old new place before after (SuiteTooLarge path) nested parts is least gives =
-    refused_here nodes words word first old place before (SuiteTooLarge path) nested parts is least gives
-walk_refused A B nodes words word first old new place before after TooMany nested parts is least gives =
-    refused_here nodes words word first old place before TooMany nested parts is least gives
-walk_refused A B nodes words word first old new place before after TooManyItems nested parts is least gives =
-    refused_here nodes words word first old place before TooManyItems nested parts is least gives
-walk_refused A B nodes words word first old new place before after NoTests nested parts is least gives =
-    refused_here nodes words word first old place before NoTests nested parts is least gives
 walk_refused A B nodes words word first old new place before after TreeFault nested parts is least gives = tt
 walk_refused A B nodes words word first old new place before after NoMemory nested parts is least gives = tt
+walk_refused A B nodes words word first old new place before after fault nested parts is least gives =
+    refused_here nodes words word first old place before fault nested parts is least gives

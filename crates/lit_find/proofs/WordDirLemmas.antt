@@ -143,22 +143,10 @@ word_walked A nodes words word first new walk (Ok done) nested parts kind suite 
     walk_ends nodes words word first new walk nested parts gives.0 gives.1 seen suite places
 word_walked A nodes words word first new walk (Err (Missing path)) nested parts kind suite seen places gives = absurd
     gives
-word_walked A nodes words word first new walk (Err (PythonConfig path)) nested parts kind suite seen places gives =
-    down_refused nodes words word first (PythonConfig path) kind suite seen gives
-word_walked A nodes words word first new walk (Err (NoSuite path)) nested parts kind suite seen places gives =
-    down_refused nodes words word first (NoSuite path) kind suite seen gives
-word_walked A nodes words word first new walk (Err (BadSuite path why)) nested parts kind suite seen places gives =
-    down_refused nodes words word first (BadSuite path why) kind suite seen gives
-word_walked A nodes words word first new walk (Err (SuiteTooLarge path)) nested parts kind suite seen places gives =
-    down_refused nodes words word first (SuiteTooLarge path) kind suite seen gives
-word_walked A nodes words word first new walk (Err TooMany) nested parts kind suite seen places gives =
-    down_refused nodes words word first TooMany kind suite seen gives
-word_walked A nodes words word first new walk (Err TooManyItems) nested parts kind suite seen places gives =
-    down_refused nodes words word first TooManyItems kind suite seen gives
-word_walked A nodes words word first new walk (Err NoTests) nested parts kind suite seen places gives =
-    down_refused nodes words word first NoTests kind suite seen gives
 word_walked A nodes words word first new walk (Err TreeFault) nested parts kind suite seen places gives = tt
 word_walked A nodes words word first new walk (Err NoMemory) nested parts kind suite seen places gives = tt
+word_walked A nodes words word first new walk (Err fault) nested parts kind suite seen places gives =
+    down_refused nodes words word first fault kind suite seen gives
 
 -- a directory on the way up is refused
 dir_refused : (nodes : List Node) (words : List Parts) (word : Parts) (old : List Looked) (walk : Walk) (fault :
@@ -205,8 +193,6 @@ pub nearest_refused : (A : Type 0) (nodes : List Node) (words : List Parts) (wor
     (walk after : Walk) (fault : DiscoverFault) → IsCoveredBut nodes words word old walk
     → GivesNearest nodes word word old new (Err fault) → GivesWord {A = A} nodes words word next after (Err fault)
 nearest_refused A nodes words word old new next walk after (Missing path) is gives = absurd gives
-nearest_refused A nodes words word old new next walk after (PythonConfig path) is gives =
-    dir_refused nodes words word old walk (PythonConfig path) is gives
 nearest_refused A nodes words word old new next walk after (NoSuite path) is gives =
     let start = starts_at nodes word Dir is.is_dir in
     inr (
@@ -219,18 +205,10 @@ nearest_refused A nodes words word old new next walk after (NoSuite path) is giv
         ap (λ text. NoSuite text) gives.0,
       )),
     )
-nearest_refused A nodes words word old new next walk after (BadSuite path why) is gives =
-    dir_refused nodes words word old walk (BadSuite path why) is gives
-nearest_refused A nodes words word old new next walk after (SuiteTooLarge path) is gives =
-    dir_refused nodes words word old walk (SuiteTooLarge path) is gives
-nearest_refused A nodes words word old new next walk after TooMany is gives = dir_refused nodes words word old walk
-    TooMany is gives
-nearest_refused A nodes words word old new next walk after TooManyItems is gives =
-    dir_refused nodes words word old walk TooManyItems is gives
-nearest_refused A nodes words word old new next walk after NoTests is gives = dir_refused nodes words word old walk
-    NoTests is gives
 nearest_refused A nodes words word old new next walk after TreeFault is gives = tt
 nearest_refused A nodes words word old new next walk after NoMemory is gives = tt
+nearest_refused A nodes words word old new next walk after fault is gives =
+    dir_refused nodes words word old walk fault is gives
 
 pub has_suite : (nodes : List Node) (word : Parts) (seen : List Looked) (number : ℕ) → IsNearest nodes word seen number
     → nearest nodes word ≢ None

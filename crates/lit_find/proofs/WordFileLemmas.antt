@@ -109,7 +109,7 @@ file_added nodes words word old new number walk found parts kind some is longer 
         below = current.below;
         under = current.under;
         rooted = subst (All (IsRooted nodes new)) (sym same) (all_put (IsRooted nodes new) text_order place walk.found
-            (record { parts = parts; has = root.0; suite = root.1 }) current.rooted);
+            (record { some = some; parts = parts; has = root.0; suite = root.1 }) current.rooted);
         closed = current.closed;
         kept = λ dir part w inside. stays (text_of (dir ++ part ∷ [])) (inr (current.kept dir part w inside));
       };
@@ -188,22 +188,12 @@ pub file_nearest_refused : (A : Type 0) (nodes : List Node) (words : List Parts)
     → GivesNearest nodes (dir_of word) word old new (Err fault)
     → GivesWord {A = A} nodes words word next after (Err fault)
 file_nearest_refused A nodes words word old new next walk after (Missing path) kind some is gives = absurd gives
-file_nearest_refused A nodes words word old new next walk after (PythonConfig path) kind some is gives =
-    file_refused nodes words word old walk (PythonConfig path) kind some is gives
 file_nearest_refused A nodes words word old new next walk after (NoSuite path) kind some is gives =
     no_suite nodes words word old new walk path kind some is gives
-file_nearest_refused A nodes words word old new next walk after (BadSuite path why) kind some is gives =
-    file_refused nodes words word old walk (BadSuite path why) kind some is gives
-file_nearest_refused A nodes words word old new next walk after (SuiteTooLarge path) kind some is gives =
-    file_refused nodes words word old walk (SuiteTooLarge path) kind some is gives
-file_nearest_refused A nodes words word old new next walk after TooMany kind some is gives =
-    file_refused nodes words word old walk TooMany kind some is gives
-file_nearest_refused A nodes words word old new next walk after TooManyItems kind some is gives =
-    file_refused nodes words word old walk TooManyItems kind some is gives
-file_nearest_refused A nodes words word old new next walk after NoTests kind some is gives =
-    file_refused nodes words word old walk NoTests kind some is gives
 file_nearest_refused A nodes words word old new next walk after TreeFault kind some is gives = tt
 file_nearest_refused A nodes words word old new next walk after NoMemory kind some is gives = tt
+file_nearest_refused A nodes words word old new next walk after fault kind some is gives =
+    file_refused nodes words word old walk fault kind some is gives
 
 -- a file at `/`
 pub root_file : (A : Type 0) (nodes : List Node) (words : List Parts) (word : Parts) (next : List Looked) (after : Walk)

@@ -128,22 +128,10 @@ pub look_refused : (A : Type 0) (nodes : List Node) (words : List Parts) (word :
     → GivesWord {A = A} nodes words word next after (Err fault)
 look_refused A nodes words word old new next walk after (Missing path) is gives =
     inl (gives.1, inl gives.2, ap (λ text. Missing text) gives.0)
-look_refused A nodes words word old new next walk after (PythonConfig path) is gives =
-    first_refused nodes words word old walk (PythonConfig path) is gives
-look_refused A nodes words word old new next walk after (NoSuite path) is gives =
-    first_refused nodes words word old walk (NoSuite path) is gives
-look_refused A nodes words word old new next walk after (BadSuite path why) is gives =
-    first_refused nodes words word old walk (BadSuite path why) is gives
-look_refused A nodes words word old new next walk after (SuiteTooLarge path) is gives =
-    first_refused nodes words word old walk (SuiteTooLarge path) is gives
-look_refused A nodes words word old new next walk after TooMany is gives =
-    first_refused nodes words word old walk TooMany is gives
-look_refused A nodes words word old new next walk after TooManyItems is gives =
-    first_refused nodes words word old walk TooManyItems is gives
-look_refused A nodes words word old new next walk after NoTests is gives =
-    first_refused nodes words word old walk NoTests is gives
 look_refused A nodes words word old new next walk after TreeFault is gives = tt
 look_refused A nodes words word old new next walk after NoMemory is gives = tt
+look_refused A nodes words word old new next walk after fault is gives =
+    first_refused nodes words word old walk fault is gives
 
 -- ---- its suite
 

@@ -3,6 +3,7 @@
 use Rattle.std.specs.Prelude.{◌≡◌, ℕ, List, map, Vec}
 use Rattle.std.specs.declared.alloc.Global.{Global}
 use Rattle.lit_paths.specs.Paths.{text_of}
+use Rattle.lit_find.specs.Places.{place_in}
 use Rattle.lit_find.specs.declared.place.Place.{Place}
 
 -- the parts of a key
@@ -13,6 +14,10 @@ parts_of key = map (λ part. part.items) key.items
 abbrev pub KeysArePaths : List (Vec (Vec ℕ Global) Global × Place) → Type 0
 KeysArePaths entries = map (λ entry. parts_of entry.0) entries ≡ map (λ entry. entry.1.path) entries
 
--- each place is under the text of its path
-abbrev pub KeysAreTexts : List (Vec ℕ Global × Place) → Type 0
-KeysAreTexts entries = map (λ entry. entry.0.items) entries ≡ map (λ entry. text_of entry.1.path) entries
+-- a file: the text of its path, and the number of its suite
+abbrev pub file_of : Vec ℕ Global × ℕ → Place
+file_of entry = place_in entry.0.items entry.1
+
+-- each file is under the text of its path
+abbrev pub KeysAreTexts : List (Vec ℕ Global × ℕ) → Type 0
+KeysAreTexts entries = map (λ entry. entry.0.items) entries ≡ map (λ entry. text_of (file_of entry).path) entries

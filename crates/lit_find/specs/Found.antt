@@ -1,6 +1,6 @@
 -- What a discovery answers.
 -- After LLVM Command Guide, lit, 'TEST DISCOVERY'. Own rule: each file is one test, and tests stand in byte order.
-use Rattle.std.specs.Prelude.{◌≡◌, ℕ, ◌<◌, ◌≤◌, true, List, [], ◌++◌, map, length, All, Option, None, Some, Result, Ok, Err, ⊤}
+use Rattle.std.specs.Prelude.{◌≡◌, ◌≢◌, ℕ, ◌<◌, ◌≤◌, true, List, [], ◌++◌, map, length, All, Option, None, Some, Result, Ok, Err, ⊤}
 use Rattle.std.specs.Cmp.Lexicographic.{slice_cmp}
 use Rattle.std.specs.Ordering.{nat_cmp}
 use Rattle.std.specs.List.{Any, list_all}
@@ -27,11 +27,12 @@ pub record IsRight (nodes : List Node) (words : List Parts) (test : Test) : Type
   pub passes : IsTest nodes words (rooted.root ++ below)
   pub made : IsTestOf rooted.root rooted.suite below test
 
--- a test of a place: the number of its suite is that of a directory, and the rest of its path stands below
-abbrev pub IsMadeOf : List Looked → Place → Test → Type 0
-IsMadeOf seen place test =
-    (rooted : Rooted) × (root_at seen place.suite ≡ Some rooted)
-    × ((below : Parts) → place.path ≡ rooted.root ++ below → IsTestOf rooted.root rooted.suite below test)
+-- a test of a file's text: the number of its suite is that of a directory, and the rest of its path stands below
+abbrev pub IsMadeOf : List Looked → List ℕ → ℕ → Test → Type 0
+IsMadeOf seen text suite test =
+    (rooted : Rooted) × (root_at seen suite ≡ Some rooted)
+    × ((below : Parts) → text ≡ text_of (rooted.root ++ below) → list_all is_part below ≡ true → below ≢ []
+    → IsTestOf rooted.root rooted.suite below test)
 
 -- these are the tests of some places, in byte order
 pub record AreMade (nodes : List Node) (words : List Parts) (places : List Place) (tests : List Test) : Type 0 where

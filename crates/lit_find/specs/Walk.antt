@@ -111,6 +111,7 @@ pub record IsUnder (nodes : List Node) (seen : List Looked) (place : Place) : Ty
 
 -- a test, with its suite
 pub record IsRooted (nodes : List Node) (seen : List Looked) (place : Place) : Type 0 where
+  pub some : place.path ≢ []
   pub parts : list_all is_part place.path ≡ true
   pub has : root_at seen place.suite ≢ None
   pub suite : nearest nodes (dir_of place.path) ≡ root_at seen place.suite

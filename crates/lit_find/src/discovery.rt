@@ -58,9 +58,9 @@ fn add_words<T: Tree>(
 }
 
 /// The tests that were found, if there are some and not too many.
-fn tests_of(alloc: Global, found: &Found, seen: &Seen) -> Result<Items<Test>, DiscoverFault>
-    ensures tests { (nodes : List Node) (words : List Parts) → All (IsRooted nodes seen.now) found.now
-        → All (λ place. IsTest nodes words place.path) found.now → GivesTests nodes words found.now result }
+fn tests_of(alloc: Global, found: Found, seen: &Seen) -> Result<Items<Test>, DiscoverFault>
+    ensures tests { (nodes : List Node) (words : List Parts) → All (IsRooted nodes seen.now) found
+        → All (λ place. IsTest nodes words place.path) found → GivesTests nodes words found result }
     ensures calm { result ≢ Err DiscoverFault.TreeFault }
 {
     let Ok(tests) = found.tests(alloc, seen) else {
@@ -98,7 +98,7 @@ pub fn discover<T: Tree>(
         pending: Pending::new(alloc),
     };
     match add_words(alloc, tree, &mut seen, &mut walk, base.as_slice(), paths) {
-        Ok(()) => tests_of(alloc, &walk.found, &seen),
+        Ok(()) => tests_of(alloc, walk.found, &seen),
         Err(fault) => Err(fault),
     }
 }

@@ -1,37 +1,39 @@
 //! The tests that a discovery has found.
-ghost use Rattle.std.specs.Prelude.{◌≡◌, All, IfOk, List, OnOk, []};
+ghost use Rattle.std.specs.Prelude.{◌≡◌, ◌≢◌, All, IfOk, List, OnOk, [], true};
+ghost use Rattle.std.specs.List.{list_all};
+ghost use Rattle.tt_outside.specs.TreeMap.{is_part};
 ghost use Rattle.lit_find.specs.Discovery.{IsTest};
 ghost use Rattle.lit_find.specs.Found.{AreMade, IsMadeOf};
-ghost use Rattle.lit_find.specs.Places.{put, text_order};
+ghost use Rattle.lit_find.specs.Places.{place_in, put, text_order};
 ghost use Rattle.lit_find.specs.Walk.{IsRooted};
 ghost use Rattle.lit_look.specs.Seen.{HasWhole};
-ghost use Rattle.lit_paths.specs.Paths.{Parts};
+ghost use Rattle.lit_paths.specs.Paths.{Parts, path_in, text_of};
 ghost use Rattle.tt_outside.specs.declared.tree.Node.{Node};
 
-use crate::place::Place;
 use lit_dirs::test_of;
 use lit_look::{Looked, Seen};
 use lit_paths::text_of;
 use std::alloc::Global;
 use std::collections::BTreeMap;
 use std::marker::Model;
-use tt_base::{Items, NoMemory};
+use tt_base::{Bytes, Items, NoMemory};
 use tt_outside::Test;
 
 /// Files, each once, in byte order of their paths.
 #[derive(Drop, Debug)]
 pub(crate) struct Found {
-    held: BTreeMap<Vec<u8>, Place>,
+    /// The number of its suite, under the text of each path.
+    held: BTreeMap<Vec<u8>, usize>,
 }
 
 impl Model for Found {
     ghost use Rattle.std.specs.Prelude.{List, map};
-    ghost use Rattle.lit_find.specs.Entries.{KeysAreTexts};
+    ghost use Rattle.lit_find.specs.Entries.{KeysAreTexts, file_of};
     ghost use Rattle.lit_find.specs.declared.place.Place.{Place};
 
     ghost Value = { List Place };
 
-    ghost view = { λ found. map (λ entry. entry.1) found.held.entries };
+    ghost view = { λ found. map file_of found.held.entries };
 
     ghost invariant = { λ found. KeysAreTexts found.held.entries };
 }
@@ -47,42 +49,60 @@ impl Found {
     }
 
     /// Adds a file.
-    pub(crate) fn put(&mut self, alloc: Global, place: Place) -> Result<(), NoMemory>
-        ensures { OnOk result (self.new ≡ put text_order place self.old) }
+    pub(crate) fn put(&mut self, text: Bytes, suite: usize) -> Result<(), NoMemory>
+        requires path { text_of (path_in text) ≡ text }
+        ensures { OnOk result (self.new ≡ put text_order (place_in text suite) self.old) }
     {
-        let key = text_of(alloc, place.path.as_slice())?.into_vec();
-        match self.held.insert(key, place) {
+        let key = text.into_vec();
+        match self.held.insert(key, suite) {
             Ok(_) => Ok(()),
             Err(_) => Err(NoMemory),
         }
     }
 
+    /// Adds the file of a path.
+    #[tactic(auto, using(crate::proofs::PathLemmas::path_in_word))]
+    pub(crate) fn put_path(
+        &mut self,
+        alloc: Global,
+        path: Items<Bytes>,
+        suite: usize,
+    ) -> Result<(), NoMemory>
+        requires parts { list_all is_part path ≡ true }
+        requires some { path ≢ [] }
+        ensures { OnOk result (self.new ≡ put text_order (record { path = path; suite = suite }) self.old) }
+    {
+        let text = text_of(alloc, path.as_slice())?;
+        self.put(text, suite)
+    }
+
     /// The tests of these files, in their order.
-    pub(crate) fn tests(&self, alloc: Global, seen: &Seen) -> Result<Items<Test>, NoMemory>
-        ensures { (nodes : List Node) (words : List Parts) → All (IsRooted nodes seen.now) self.now
-            → All (λ place. IsTest nodes words place.path) self.now → IfOk result (AreMade nodes words self.now) }
+    pub(crate) fn tests(self, alloc: Global, seen: &Seen) -> Result<Items<Test>, NoMemory>
+        ensures { (nodes : List Node) (words : List Parts) → All (IsRooted nodes seen.now) self
+            → All (λ place. IsTest nodes words place.path) self → IfOk result (AreMade nodes words self) }
     {
         let looks = seen.as_slice();
-        let mut tests = Items::new(alloc);
-        for (_, place) in &self.held {
-            tests.push(test_at(alloc, looks, place)?)?;
+        let Ok(room) = Vec::with_capacity(alloc, self.held.len()) else {
+            return Err(NoMemory);
+        };
+        let mut tests = Items::from_vec(room);
+        for (text, suite) in self.held {
+            tests.push(test_at(alloc, looks, Bytes::from_vec(text), suite)?)?;
         }
         Ok(tests)
     }
 }
 
-/// The test of a file.
-fn test_at(alloc: Global, looks: &[Looked], place: &Place) -> Result<Test, NoMemory>
+/// The test of a file. `number` is that of its suite.
+fn test_at(alloc: Global, looks: &[Looked], path: Bytes, number: usize) -> Result<Test, NoMemory>
     requires { All HasWhole looks.now }
-    ensures { IfOk result (IsMadeOf looks.now place.now) }
+    ensures { IfOk result (IsMadeOf looks.now path number) }
 {
-    let Some(looked) = looks.get(place.suite) else {
+    let Some(looked) = looks.get(number) else {
         return Err(NoMemory);
     };
     let Some(suite) = &looked.suite else {
         return Err(NoMemory);
     };
-    let path = place.path.as_slice();
-    let above = looked.dir.len().min(path.len());
-    test_of(alloc, looked.dir.as_slice(), suite, &path[above..])
+    test_of(alloc, looked.dir.as_slice(), suite, path)
 }

@@ -70,7 +70,7 @@ fn add_file<T: Tree>(
     }
     match nearest(alloc, tree, seen, dir_of(word.as_slice()), word.as_slice()) {
         Ok(suite) => {
-            match walk.found.put(alloc, Place { path: word, suite }) {
+            match walk.found.put_path(alloc, word, suite) {
                 Ok(()) => Ok(()),
                 Err(_) => Err(DiscoverFault::NoMemory),
             }

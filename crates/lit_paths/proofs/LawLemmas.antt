@@ -1,12 +1,12 @@
 -- The laws of paths: where the path of a name is written, that a text tells its path, and that joined paths are normal.
 -- A text is cut at its slashes, which gives the parts back: that is `cut_gives_parts`, the hard one.
-use Rattle.std.proofs.Common.{◌≡◌, ◌==◌, ℕ, Bool, true, List, [], ◌∷◌, ◌++◌, refl, sym, ◌∙◌, ap, append-nil, append_assoc}
-use Rattle.std.specs.List.{list_all, slice_split}
+use Rattle.std.proofs.Common.{◌≡◌, ◌==◌, ℕ, Bool, true, List, [], ◌∷◌, ◌++◌, false, cond, refl, sym, ◌∙◌, ap, append-nil, append_assoc, arith}
+use Rattle.std.specs.List.{list_all, onto_first, slice_split}
 use Rattle.std.proofs.lemmas.Grind.{flat_map-append}
 use Rattle.std.proofs.lemmas.List.Splits.{slice_split_none, slice_split_at}
 use Rattle.tt_outside.specs.TreeMap.{is_part}
-use Rattle.lit_paths.specs.Laws.{NamesStandBelow, TextsTellPaths}
-use Rattle.lit_paths.specs.Paths.{Parts, slashed}
+use Rattle.lit_paths.specs.Laws.{NamesStandBelow, PathsAreInTexts, TextsTellPaths}
+use Rattle.lit_paths.specs.Paths.{Parts, cut, path_in, slashed, text_of}
 use Rattle.lit_paths.proofs.PartLemmas.{first_is_part, rest_are_parts, no_slash, no_part_is_empty}
 
 abbrev is_slash : ℕ → Bool
@@ -56,3 +56,29 @@ texts_tell_paths [] (other ∷ others) h k same =
     absurd (root_is_alone other others (first_is_part other others k) (sym same))
 texts_tell_paths (part ∷ path) [] h k same = absurd (root_is_alone part path (first_is_part part path h) same)
 texts_tell_paths (part ∷ path) (other ∷ others) h k same = same_parts part other path others h k same
+
+-- ---- a text is that of the path in it
+
+cut_once : (b : Bool) (x : ℕ) (parts : Parts) (text : List ℕ) → is_slash x ≡ b → slashed parts ≡ 47 ∷ text
+    → slashed (cond b ([] ∷ parts) (onto_first x parts)) ≡ 47 ∷ x ∷ text
+cut_once true x parts text e h = let is : x ≡ 47 = grind arith in λ i. 47 ∷ (h ∙ ap (λ y. y ∷ text) (sym is)) i
+cut_once false x [] text e h = absurd (cc)
+cut_once false x (part ∷ parts) text e h = λ i. 47 ∷ x ∷ same_tail 47 47 (part ++ slashed parts) text h i
+
+slashed_cut : (text : List ℕ) → slashed (cut text) ≡ 47 ∷ text
+slashed_cut [] = refl
+slashed_cut (x ∷ text) = cut_once (is_slash x) x (cut text) text refl (slashed_cut text)
+
+text_slashed : (parts : Parts) (text : List ℕ) → slashed parts ≡ 47 ∷ text → text_of parts ≡ 47 ∷ text
+text_slashed [] text h = absurd (cc)
+text_slashed (part ∷ parts) text h = h
+
+pub text_of_path_in : (text : List ℕ) → text_of (path_in (47 ∷ text)) ≡ 47 ∷ text
+text_of_path_in text = text_slashed (cut text) text (slashed_cut text)
+
+pub path_in_text_of : (part : List ℕ) (path : Parts) → list_all is_part (part ∷ path) ≡ true
+    → path_in (text_of (part ∷ path)) ≡ part ∷ path
+path_in_text_of part path h = cut_gives_parts part path (first_is_part part path h) (rest_are_parts part path h)
+
+pub paths_are_in_texts : PathsAreInTexts
+paths_are_in_texts = (text_of_path_in, path_in_text_of)

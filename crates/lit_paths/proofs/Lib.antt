@@ -1,4 +1,5 @@
 pub mod AboveLemmas
+pub mod CutLemmas
 pub mod LawLemmas
 pub mod NormalLemmas
 pub mod PartLemmas

@@ -1,6 +1,9 @@
 -- What the tests on parts of paths say.
-use Rattle.std.proofs.Common.{◌≡◌, ◌==◌, ℕ, Bool, true, false, not, ◌&&◌, ◌||◌, List, [], ◌∷◌, refl, sym, ◌∙◌, ap, true≢false}
+use Rattle.std.proofs.Common.{◌≡◌, ◌==◌, ℕ, Bool, true, false, not, ◌&&◌, ◌||◌, List, [], ◌∷◌, Option, None, map, refl, sym, ◌∙◌, ap, true≢false}
 use Rattle.std.proofs.lemmas.List.Elements.{All-nil, All-cons}
+use Rattle.std.proofs.lemmas.Iterator.{YieldsList}
+use Rattle.std.proofs.lemmas.Iterator.Consumers.{YieldsList-end}
+use Rattle.std.specs.Iterator.{Yields}
 use Rattle.std.specs.Str.{bytes_eq}
 use Rattle.std.specs.List.{All, list_all, list_any}
 use Rattle.std.proofs.lemmas.Bool.{false≢true}
@@ -50,3 +53,9 @@ rest_are_parts part path h = and_right (is_part part) (list_all is_part path) h
 
 pub no_part_is_empty : is_part [] ≡ true → ⊥
 no_part_is_empty h = false≢true h
+
+-- what is yielded to the end is all
+pub all_yielded : {S A B : Type 0} {steps : S → Option A → S → Type 0} {s : S} (v : A → B) (all : List B) (xs : List A)
+    (t : S) → Yields steps s xs t → (r : Option A) (u : S) → r ≡ None → steps t r u → YieldsList steps v s all
+    → map v xs ≡ all
+all_yielded v all xs t y r u is last chain = (YieldsList-end chain xs t y r u is last).0

@@ -1,7 +1,7 @@
 -- Paths as lists of their parts.
 -- Own rule: a path is joined to a directory unless it begins with `/`; empty parts and `.` are dropped, and `..` takes
 -- away the part before it, if there is one.
-use Rattle.std.specs.Prelude.{ℕ, ◌==◌, ◌-◌, Bool, true, false, ◌||◌, codes, if◌then◌else◌, List, [], ◌∷◌, ◌++◌, length, take, Option, None, Some}
+use Rattle.std.specs.Prelude.{ℕ, ◌==◌, ◌-◌, Bool, true, false, ◌||◌, codes, if◌then◌else◌, List, [], ◌∷◌, ◌++◌, length, drop, take, Option, None, Some}
 use Rattle.std.specs.List.{flat_map, fold, slice_split}
 use Rattle.std.specs.Str.{bytes_eq}
 use Rattle.tt_base.specs.Occurrence.{begins_with}
@@ -24,6 +24,14 @@ text_of (part ∷ path) = slashed (part ∷ path)
 abbrev pub inner_text_of : Parts → List ℕ
 inner_text_of [] = []
 inner_text_of (part ∷ path) = part ++ slashed path
+
+-- the parts of a text between its slashes
+abbrev pub cut : List ℕ → Parts
+cut text = slice_split (λ byte. byte == 47) text
+
+-- the path that is written so: a text that begins with `/` is that of the path which it tells
+abbrev pub path_in : List ℕ → Parts
+path_in text = cut (drop 1 text)
 
 -- ---- parts of paths
 

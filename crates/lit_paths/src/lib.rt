@@ -7,5 +7,8 @@ mod reading;
 mod writing;
 
 pub use laws::law_of_paths;
-pub use reading::{joined, read_path};
-pub use writing::{add_inner_text, copied, dir_of, is_above, text_of, with_name};
+pub use reading::{cut, joined, read_path};
+pub use writing::{
+    add_slashed, behind_path, chained, copied, cut_name, dir_of, front_of, is_above, text_of,
+    with_name,
+};

@@ -2,7 +2,7 @@
 ghost use Rattle.std.specs.Prelude.{◌≡◌, ◌==◌, IfOk, OnOk, true};
 ghost use Rattle.std.specs.List.{fold, list_all, slice_split};
 ghost use Rattle.tt_outside.specs.TreeMap.{is_part};
-ghost use Rattle.lit_paths.specs.Paths.{joined, parts_of, with_part};
+ghost use Rattle.lit_paths.specs.Paths.{cut, joined, parts_of, with_part};
 
 use crate::writing::copied;
 use std::alloc::Global;
@@ -44,6 +44,17 @@ pub fn read_path(alloc: Global, text: &[u8]) -> Result<Items<Bytes>, NoMemory>
     let mut path = Vec::new(alloc);
     add_parts(alloc, &mut path, text)?;
     Ok(Items::from_vec(path))
+}
+
+/// The parts of a text between its slashes.
+pub fn cut(alloc: Global, text: &[u8]) -> Result<Items<Bytes>, NoMemory>
+    ensures { IfOk result (λ parts. parts ≡ cut text.now) }
+{
+    let mut parts = Items::new(alloc);
+    for part in text.split(|byte| *byte == b'/') {
+        parts.push(Bytes::from_slice(alloc, part)?)?;
+    }
+    Ok(parts)
 }
 
 /// A text as a path, joined to a directory unless it begins with `/`.

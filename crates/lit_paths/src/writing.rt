@@ -1,7 +1,9 @@
 //! How a path is written, and what stands beside it.
-ghost use Rattle.std.specs.Prelude.{◌≡◌, ◌++◌, ◌∷◌, IfOk, OnOk, []};
-ghost use Rattle.lit_paths.specs.Paths.{dir_of, inner_text_of, is_above, slashed, text_of};
+ghost use Rattle.std.specs.Prelude.{◌≡◌, ◌==◌, ◌++◌, ◌∷◌, ℕ, All, false, IfOk, List, OnOk, []};
+ghost use Rattle.std.specs.List.{flat_map};
+ghost use Rattle.lit_paths.specs.Paths.{Parts, dir_of, is_above, slashed, text_of};
 
+use memchr::memrchr;
 use std::alloc::Global;
 use tt_base::{Bytes, Items, NoMemory};
 
@@ -35,8 +37,28 @@ pub fn dir_of(path: &[Bytes]) -> &[Bytes]
     }
 }
 
+/// How much room texts need.
+fn room_for(texts: &[&[u8]]) -> usize {
+    let mut room = 0usize;
+    for text in texts {
+        room = room.saturating_add(text.len());
+    }
+    room
+}
+
+/// Texts, one behind the other, with no more room than they need.
+pub fn chained(alloc: Global, texts: &[&[u8]]) -> Result<Bytes, NoMemory>
+    ensures { IfOk result (λ text. text ≡ flat_map (λ one. one.now) texts.now) }
+{
+    let mut chain = Bytes::with_capacity(alloc, room_for(texts))?;
+    for text in texts {
+        chain.append(text)?;
+    }
+    Ok(chain)
+}
+
 /// Adds each part to a text, with a slash before it.
-fn add_slashed(text: &mut Bytes, path: &[Bytes]) -> Result<(), NoMemory>
+pub fn add_slashed(text: &mut Bytes, path: &[Bytes]) -> Result<(), NoMemory>
     ensures { OnOk result (text.new ≡ text.old ++ slashed path.now) }
 {
     for part in path {
@@ -58,16 +80,35 @@ pub fn text_of(alloc: Global, path: &[Bytes]) -> Result<Bytes, NoMemory>
     Ok(text)
 }
 
-/// Adds the bytes of a path that is told below a directory.
-pub fn add_inner_text(text: &mut Bytes, path: &[Bytes]) -> Result<(), NoMemory>
-    ensures { OnOk result (text.new ≡ text.old ++ inner_text_of path.now) }
+/// What stands before the names in a directory.
+pub fn front_of(alloc: Global, dir: &[Bytes]) -> Result<Bytes, NoMemory>
+    ensures { IfOk result (λ front. front ≡ slashed dir.now ++ 47 ∷ []) }
 {
-    match path.split_first() {
-        Some((first, rest)) => {
-            text.append(first.as_slice())?;
-            add_slashed(text, rest)
-        }
-        None => Ok(()),
+    let mut front = Bytes::new(alloc);
+    add_slashed(&mut front, dir)?;
+    front.append(b"/".as_slice())?;
+    Ok(front)
+}
+
+/// What a text has behind a path, if it begins so.
+pub fn behind_path<'a>(path: &[Bytes], text: &'a [u8]) -> &'a [u8]
+    ensures { (rest : List ℕ) → text.now ≡ slashed path.now ++ rest → result.now ≡ rest }
+{
+    let mut rest = text;
+    for part in path {
+        rest = &rest[rest.len().min(part.as_slice().len() + 1)..];
+    }
+    rest
+}
+
+/// A text before its last slash and behind it.
+pub fn cut_name(text: &[u8]) -> (&[u8], &[u8])
+    ensures { (front name : List ℕ) → text.now ≡ front ++ 47 ∷ name → All (λ byte. (byte == 47) ≡ false) name
+        → (result.0.now ≡ front) × (result.1.now ≡ name) }
+{
+    match memrchr(b'/', text) {
+        Some(at) => (&text[..at], &text[at + 1..]),
+        None => (text, b"".as_slice()),
     }
 }
 

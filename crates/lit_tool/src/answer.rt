@@ -1,5 +1,5 @@
 //! What is written of a run, and its status.
-ghost use Rattle.std.specs.Prelude.{◌≡◌, ◌≤◌, IfOk};
+ghost use Rattle.std.specs.Prelude.{◌≡◌, ◌≤◌, ◌++◌, IfOk, OnOk};
 ghost use Rattle.lit_tool.specs.Answer.{answer_to, line_of, row_of, shown_text, status_of};
 
 use crate::message::{text_of, unplaced};
@@ -34,18 +34,18 @@ fn shown_text(alloc: Global, tests: &[Test]) -> Result<Bytes, NoMemory>
 {
     let mut text = Bytes::from_slice(alloc, b"-- Available Tests --\n")?;
     for test in tests {
-        text.append(line_of(alloc, test)?.as_slice())?;
+        add_line(&mut text, test)?;
     }
     Ok(text)
 }
 
-fn line_of(alloc: Global, test: &Test) -> Result<Bytes, NoMemory>
-    ensures { IfOk result (λ line. line ≡ line_of test.now) }
+/// Adds the line of a test.
+fn add_line(text: &mut Bytes, test: &Test) -> Result<(), NoMemory>
+    ensures { OnOk result (text.new ≡ text.old ++ line_of test.now) }
 {
-    let mut line = Bytes::from_slice(alloc, b"  ")?;
-    line.append(test.name.as_slice())?;
-    line.append(b"\n")?;
-    Ok(line)
+    text.append(b"  ")?;
+    text.append(test.name.as_slice())?;
+    text.append(b"\n")
 }
 
 fn row_of(alloc: Global, stop: &Stop) -> Result<Answer, NoMemory>

@@ -13,8 +13,8 @@ nearest-requires g c = record {
       ∙ parts_dir c.args.word c.requires.parts;
 }
 
-pub returns-in-Ok-put-clause-gives : goal.returns-in-Ok-put-clause-gives
-returns-in-Ok-put-clause-gives g c = λ nodes words told nested is kind.
+pub returns-in-Ok-put_path-clause-gives : goal.returns-in-Ok-put_path-clause-gives
+returns-in-Ok-put_path-clause-gives g c = λ nodes words told nested is kind.
     let word = c.args.word in
     let some : word ≢ [] = λ none. true≢false (sym (c.if-is_empty.ensures.1 none)) in
     let at = c.dir_of.ensures ∙ ap dir_of c.as_slice-2.ensures in
@@ -23,8 +23,8 @@ returns-in-Ok-put-clause-gives g c = λ nodes words told nested is kind.
     (subst (λ dir. GivesNearest nodes dir c.as_slice-3.result.now c.args.seen.now c.nearest.new.seen (Ok c.in-Ok.suite))
     at (c.in-Ok.ensures.gives nodes told is.current.looks nested
     (ap (kind_of nodes) at ∙ dir_is_dir nodes word nested c.requires.parts some kind))) in
-    file_added nodes words word c.args.seen.now c.nearest.new.seen c.in-Ok.suite c.args.walk.now c.put.new.self
-    c.requires.parts kind some is c.in-Ok.ensures.extends near.0 near.1 c.in-Ok-put.ensures
+    file_added nodes words word c.args.seen.now c.nearest.new.seen c.in-Ok.suite c.args.walk.now c.put_path.new.self
+    c.requires.parts kind some is c.in-Ok.ensures.extends near.0 near.1 c.in-Ok-put_path.ensures
 
 pub returns-in-Err-clause-gives : goal.returns-in-Err-clause-gives
 returns-in-Err-clause-gives g c = λ nodes words told nested is kind.

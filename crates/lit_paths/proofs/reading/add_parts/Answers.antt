@@ -1,16 +1,10 @@
-use Rattle.std.proofs.Common.{◌≡◌, ◌==◌, ◌∙◌, Option, None, List, map, ap, rules, tests}
-use Rattle.std.specs.Iterator.{Yields}
+use Rattle.std.proofs.Common.{◌==◌, ◌∙◌, ap, rules, tests}
 use Rattle.std.specs.List.{fold}
-use Rattle.std.proofs.lemmas.Iterator.{YieldsList}
-use Rattle.std.proofs.lemmas.Iterator.Consumers.{YieldsList-at, YieldsList-end}
+use Rattle.std.proofs.lemmas.Iterator.Consumers.{YieldsList-at}
 use Rattle.std.proofs.lemmas.Iterator.Splits.{YieldsList-from_slice_split}
 use Rattle.lit_paths.specs.Paths.{with_part}
+use Rattle.lit_paths.proofs.PartLemmas.{all_yielded}
 use Rattle.lit_paths.proofs.reading.add_parts.Goals as goal
-
-all_yielded : {S A B : Type 0} {steps : S → Option A → S → Type 0} {s : S} (v : A → B) (all : List B) (xs : List A)
-    (t : S) → Yields steps s xs t → (r : Option A) (u : S) → r ≡ None → steps t r u → YieldsList steps v s all
-    → map v xs ≡ all
-all_yielded v all xs t y r u is last chain = (YieldsList-end chain xs t y r u is last).0
 
 pub returns : goal.returns
 returns c =

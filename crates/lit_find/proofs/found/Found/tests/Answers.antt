@@ -1,29 +1,35 @@
-use Rattle.std.proofs.Common.{◌≡◌, map, rules, sym, ap, ◌∙◌, subst, List}
+use Rattle.std.proofs.Common.{◌≡◌, ◌++◌, ◌∷◌, List, [], map, sym, ◌∙◌, subst, append-nil}
 use Rattle.std.specs.List.{AllZip}
-use Rattle.std.proofs.lemmas.List.{map_push}
-use Rattle.std.proofs.lemmas.Map.Iter.{iter_end}
+use Rattle.std.proofs.lemmas.List.{map-id}
+use Rattle.std.proofs.lemmas.Map.Iter.{rest_so_far}
+use Rattle.std.specs.Prelude.{Vec, ℕ}
+use Rattle.std.specs.declared.alloc.Global.{Global}
 use Rattle.lit_find.specs.Found.{IsMadeOf}
-use Rattle.lit_find.proofs.TestLemmas.{map_twice, tests_are_made, zip_push}
-use Rattle.lit_find.specs.declared.place.Place.{Place}
+use Rattle.lit_find.proofs.TestLemmas.{IsOf, tests_are_made, zip_push}
 use Rattle.lit_look.specs.declared.seen.Looked.{Looked}
-use Rattle.std.specs.Map.Iter.{deref_pair}
 use Rattle.lit_find.proofs.found.Found.tests.Goals as goal
 
-pub loop-place-preserved : goal.loop-place-preserved
-loop-place-preserved c =
-    let M = λ (xs : List Looked). IsMadeOf xs c.in-Some.place.now c.in_ok-test_at.field-0 in
-    let P = λ (xs : List Place). AllZip (IsMadeOf c.args.seen.now) xs c.push.new.self in
-    subst P (sym (map_push (λ e. e.1.now) c.loop-place.yielded (c.in-Some.field-0-0, c.in-Some.place)))
-    (rw c.in_ok-push.ensures.ok (zip_push (IsMadeOf c.args.seen.now) (map (λ e. e.1.now) c.loop-place.yielded)
-    c.loop-place.tests c.in-Some.place.now c.in_ok-test_at.field-0 c.loop-place.invariant
-    (subst M c.as_slice-looks.ensures.same c.in_ok-test_at.ensures)))
+pub loop-text-preserved : goal.loop-text-preserved
+loop-text-preserved c =
+    let entry : Vec ℕ Global × ℕ = (c.in-Some.text, c.in-Some.suite) in
+    let test = c.in_ok-test_at.field-0 in
+    let made : IsOf c.args.seen.now entry test =
+    subst (λ (xs : List Looked). IsMadeOf xs c.in-Some.text.items c.in-Some.suite test) c.as_slice-looks.ensures.same
+    (subst (λ text. IsMadeOf c.as_slice-looks.result.now text c.in-Some.suite test) c.from_vec.ensures
+    c.in_ok-test_at.ensures) in
+    subst (λ tests. AllZip (IsOf c.args.seen.now) (c.loop-text.yielded ++ entry ∷ []) tests)
+    (sym c.in_ok-push.ensures.ok)
+    (zip_push (IsOf c.args.seen.now) c.loop-text.yielded c.loop-text.tests entry test c.loop-text.invariant made)
 
 pub returns : goal.returns
 returns c = λ nodes words are_rooted are_tests.
     let entries = c.self.inside.held.entries in
-    let whole : map deref_pair c.loop-place.yielded ≡ entries = search (rules, iter_end) in
-    let places = sym (map_twice deref_pair (λ e. e.1) c.loop-place.yielded) ∙ ap (λ es. map (λ e. e.1) es) whole
-    ∙ c.self.view_is in
-    tests_are_made nodes words c.args.seen.now entries c.args.self.now c.loop-place.tests c.self.invariant
-    c.into_iter-place-iterator.ensures.into_iter_gives.5 c.self.view_is are_rooted are_tests
-    (subst (λ (xs : List Place). AllZip (IsMadeOf c.args.seen.now) xs c.loop-place.tests) places c.loop-place.invariant)
+    let so_far = rest_so_far (λ x. x) c.loop-text.yielded c.into_iter-text-iterator.result c.loop-text.text-iterator
+    c.loop-text.yielded_by in
+    let rest : map (λ x. x) c.loop-text.yielded ++ c.loop-text.text-iterator ≡ c.loop-text.yielded ++ [] =
+    λ i. map-id c.loop-text.yielded i ++ c.in-None.ensures.steps.0 i in
+    let whole : c.loop-text.yielded ≡ entries =
+    sym (append-nil c.loop-text.yielded) ∙ sym rest ∙ sym so_far ∙ c.into_iter-text-iterator.ensures.into_iter_gives.0 in
+    tests_are_made nodes words c.args.seen.now entries c.args.self c.loop-text.tests c.self.invariant
+    c.into_iter-text-iterator.ensures.into_iter_gives.5 c.self.view_is are_rooted are_tests
+    (subst (λ es. AllZip (IsOf c.args.seen.now) es c.loop-text.tests) whole c.loop-text.invariant)
