@@ -1,6 +1,7 @@
 //! What the automaton finds, and how far it is shown the slice.
 ghost use Rattle.std.specs.Prelude.{◌≡◌, ◌<◌};
 
+use crate::shown::ends_of;
 use ere_auto::{Auto, Steps};
 use ere_tree::{Cap, parse};
 use std::alloc::Global;
@@ -51,33 +52,35 @@ fn search(
     )
 }
 
+/// An expression, a text, and the span that is found in it.
+const SPANS: [(&str, &str, &str); 19] = [
+    ("b|abc|a", "abcd", "0-3"),
+    ("abc|b", "abc", "0-3"),
+    ("abcd|b", "abce", "1-2"),
+    ("a*b", "aaaa", "none"),
+    ("", "x", "0-0"),
+    ("x*", "ax", "0-0"),
+    ("x+", "axxa", "1-3"),
+    ("^b", "a\nb", "2-3"),
+    ("^b", "ab", "none"),
+    ("a$", "a\nb", "0-1"),
+    ("a$", "ab\nca", "4-5"),
+    ("^$", "", "0-0"),
+    ("^$", "a\n", "2-2"),
+    ("(a|ab)(c|bcd)", "abcd", "0-4"),
+    ("[0-9]{2,3}", "1 12345", "2-5"),
+    ("(a{2}){2}", "aaaaa", "0-4"),
+    ("a{0}b", "ab", "1-2"),
+    ("(a*)*b", "aaab", "0-4"),
+    ("[^a]", "a\nb", "2-3"),
+];
+
 #[test]
 fn the_leftmost_longest_span_is_found(rt: HostRuntime) -> Result<(), Fail> {
-    let cases: [(&str, &str, Option<(usize, usize)>); 19] = [
-        ("b|abc|a", "abcd", Some((0, 3))),
-        ("abc|b", "abc", Some((0, 3))),
-        ("abcd|b", "abce", Some((1, 2))),
-        ("a*b", "aaaa", None),
-        ("", "x", Some((0, 0))),
-        ("x*", "ax", Some((0, 0))),
-        ("x+", "axxa", Some((1, 3))),
-        ("^b", "a\nb", Some((2, 3))),
-        ("^b", "ab", None),
-        ("a$", "a\nb", Some((0, 1))),
-        ("a$", "ab\nca", Some((4, 5))),
-        ("^$", "", Some((0, 0))),
-        ("^$", "a\n", Some((2, 2))),
-        ("(a|ab)(c|bcd)", "abcd", Some((0, 4))),
-        ("[0-9]{2,3}", "1 12345", Some((2, 5))),
-        ("(a{2}){2}", "aaaaa", Some((0, 4))),
-        ("a{0}b", "ab", Some((1, 2))),
-        ("(a*)*b", "aaab", Some((0, 4))),
-        ("[^a]", "a\nb", Some((2, 3))),
-    ];
-    for (pattern, text, span) in cases {
+    for (pattern, text, due) in SPANS {
         let found = search(rt.alloc(), pattern, text, 0)?;
-        let told = found.0.map(|cap| (cap.from, cap.to));
-        assert_eq!(rt; told, span, "{pattern} in {text:?}");
+        let told = ends_of(rt.alloc(), found.0)?;
+        assert!(rt; told.as_str() == due, "{pattern} in {text:?}: {told}");
     }
     Ok(())
 }
@@ -94,24 +97,23 @@ fn no_more_is_shown_once_the_span_is_known(rt: HostRuntime) -> Result<(), Fail> 
     ];
     for (pattern, text, begin, count) in cases {
         let found = search(rt.alloc(), pattern, text, begin)?;
-        assert_eq!(rt; found.1, count, "{pattern} in {text:?}");
+        assert!(rt; found.1 == count, "{pattern} in {text:?}");
     }
     Ok(())
 }
 
 #[test]
 fn starts_before_the_place_do_not_count(rt: HostRuntime) -> Result<(), Fail> {
-    let cases: [(&str, &str, usize, Option<(usize, usize)>); 5] = [
-        ("b+", "bbab", 0, Some((0, 2))),
-        ("b+", "bbab", 1, Some((1, 2))),
-        ("b+", "bbab", 2, Some((3, 4))),
-        ("^b", "a\nb", 2, Some((2, 3))),
-        ("b", "ab", 3, None),
-    ];
-    for (pattern, text, begin, span) in cases {
+    for (pattern, text, begin, due) in [
+        ("b+", "bbab", 0, "0-2"),
+        ("b+", "bbab", 1, "1-2"),
+        ("b+", "bbab", 2, "3-4"),
+        ("^b", "a\nb", 2, "2-3"),
+        ("b", "ab", 3, "none"),
+    ] {
         let found = search(rt.alloc(), pattern, text, begin)?;
-        let told = found.0.map(|cap| (cap.from, cap.to));
-        assert_eq!(rt; told, span, "{pattern} in {text:?} from {begin}");
+        let told = ends_of(rt.alloc(), found.0)?;
+        assert!(rt; told.as_str() == due, "{pattern} in {text:?} from {begin}");
     }
     Ok(())
 }

@@ -1,7 +1,8 @@
 //! The captures beside the slow program, on small expressions and texts.
+use crate::shown::read;
 use ere_captures::{captures, spans};
 use ere_slow::slow_hit;
-use ere_tree::parse;
+use ere_tree::{Caps, Ere};
 use std::alloc::Global;
 use std::process::Abort;
 use std::test::Fail;
@@ -27,27 +28,39 @@ const TEXTS: [&str; 14] = [
     "", "a", "b", "ab", "ba", "aab", "abab", "bba", "aaaa", "abba", "a\nb", "babab", "aabb", "bbbb",
 ];
 
-fn compare(rt: &impl Abort, alloc: Global, expression: &str, text: &str) -> Result<u32, Fail> {
-    let ere = parse(alloc, expression.as_bytes(), false)
-        .ok()
-        .ok_or("no expression")?;
-    let slice = text.as_bytes();
-    let Some(hit) = slow_hit(alloc, &ere, slice, 0)? else {
-        return Ok(0);
-    };
-    if ere.has_refs() || hit.from > hit.to || hit.to > slice.len() {
+/// The captures of a span of the text.
+fn captured(alloc: Global, ere: &Ere, text: &[u8], from: usize, to: usize) -> Result<Caps, Fail> {
+    if ere.has_refs() || from > to || to > text.len() {
         return Err(Fail::from("no part of the text"));
     }
-    if !spans(alloc, &ere, slice, hit.from, hit.to)? {
+    if !spans(alloc, ere, text, from, to)? {
         return Err(Fail::from("no span"));
     }
-    let found = captures(alloc, &ere, slice, hit.from, hit.to, 0)?;
-    assert_eq!(rt;
-        found.as_slice(),
-        hit.groups.as_slice(),
-        "of {expression:?} in {text:?}"
-    );
-    Ok(1)
+    Ok(captures(alloc, ere, text, from, to, 0)?)
+}
+
+/// Whether the expression is found in the text. The captures are those of the hit.
+fn compare(rt: &impl Abort, alloc: Global, ere: &Ere, text: &str) -> Result<bool, Fail> {
+    let Some(hit) = slow_hit(alloc, ere, text.as_bytes(), 0)? else {
+        return Ok(false);
+    };
+    let found = captured(alloc, ere, text.as_bytes(), hit.from, hit.to)?;
+    let are_same = found.as_slice() == hit.groups.as_slice();
+    assert!(rt; are_same, "of {ere:?} in {text:?}");
+    Ok(true)
+}
+
+/// In how many texts the expression is found that two pieces make.
+fn count_of(rt: &impl Abort, alloc: Global, first: &str, second: &str) -> Result<u32, Fail> {
+    let both = format!(in alloc; "{first}{second}")?;
+    let ere = read(alloc, both.as_str())?;
+    let mut count: u32 = 0;
+    for text in TEXTS {
+        if compare(rt, alloc, &ere, text)? {
+            count = count.saturating_add(1);
+        }
+    }
+    Ok(count)
 }
 
 #[test]
@@ -55,11 +68,7 @@ fn captures_are_those_of_the_most_preferred_derivation(rt: HostRuntime) -> Resul
     let mut count: u32 = 0;
     for first in PIECES {
         for second in PIECES {
-            for text in TEXTS {
-                let both = format!(in rt.alloc(); "{first}{second}")?;
-                let found = compare(&rt, rt.alloc(), both.as_str(), text)?;
-                count = count.saturating_add(found);
-            }
+            count = count.saturating_add(count_of(&rt, rt.alloc(), first, second)?);
         }
     }
     assert!(rt; count > 1_000, "{count} hits");

@@ -1,10 +1,11 @@
 //! Hits with their captures: rows by hand, and small expressions beside the list of all derivations.
 ghost use Rattle.std.specs.Prelude.{◌≡◌, ◌<◌, ◌≤◌, length};
 
+use crate::shown::{are_same, in_words, read};
 use ere_auto::Steps;
 use ere_match::find;
 use ere_slow::slow_hit;
-use ere_tree::{Cap, Ere, Hit, parse};
+use ere_tree::{Ere, Hit, parse};
 use std::alloc::Global;
 use std::marker::Brand;
 use std::process::Abort;
@@ -35,56 +36,34 @@ fn found(alloc: Global, ere: &Ere, text: &[u8], from: usize) -> Result<Option<Hi
     found_by::<Brand>(alloc, ere, text, from, Blank::new(1))
 }
 
-/// A span with what three groups hold.
-type Row = (usize, usize, [Option<(usize, usize)>; 3]);
+/// What is found in the text from a place on, in words.
+fn told(alloc: Global, pattern: &str, text: &str, from: usize) -> Result<String, Fail> {
+    let ere = read(alloc, pattern)?;
+    let hit = found(alloc, &ere, text.as_bytes(), from)?;
+    in_words(alloc, &hit)
+}
+
+/// An expression, a text, where the search begins, and the hit with its groups.
+const HITS: [(&str, &str, usize, &str); 12] = [
+    ("(a|ab)(c|bcd)(d*)", "abcd", 0, "0-4 0-2 2-3 3-4"),
+    ("(a?){3}", "a", 0, "0-1 1-1"),
+    ("(a*)*", "", 0, "0-0 none"),
+    ("(a*)+", "", 0, "0-0 0-0"),
+    ("$", "a\nb", 0, "1-1"),
+    ("^b", "ab", 1, "1-2"),
+    ("b|abc|a", "abcd", 0, "0-3"),
+    ("(b)+", "xabb", 2, "2-4 3-4"),
+    ("a*b", "aaaaaaaa", 0, "none"),
+    ("x((a*)(a*))b\\3", "xaabaa", 0, "0-6 1-3 1-1 1-3"),
+    ("(a)|(b)\\1", "b", 0, "none"),
+    ("(a|ab)(b*)\\2c", "abbc", 0, "0-4 0-1 1-2"),
+];
 
 #[test]
 fn groups_hold_what_the_preferred_way_sets(rt: HostRuntime) -> Result<(), Fail> {
-    let cases: [(&str, &str, usize, Option<Row>); 12] = [
-        (
-            "(a|ab)(c|bcd)(d*)",
-            "abcd",
-            0,
-            Some((0, 4, [Some((0, 2)), Some((2, 3)), Some((3, 4))])),
-        ),
-        ("(a?){3}", "a", 0, Some((0, 1, [Some((1, 1)), None, None]))),
-        ("(a*)*", "", 0, Some((0, 0, [None, None, None]))),
-        ("(a*)+", "", 0, Some((0, 0, [Some((0, 0)), None, None]))),
-        ("$", "a\nb", 0, Some((1, 1, [None, None, None]))),
-        ("^b", "ab", 1, Some((1, 2, [None, None, None]))),
-        ("b|abc|a", "abcd", 0, Some((0, 3, [None, None, None]))),
-        ("(b)+", "xabb", 2, Some((2, 4, [Some((3, 4)), None, None]))),
-        ("a*b", "aaaaaaaa", 0, None),
-        (
-            "x((a*)(a*))b\\3",
-            "xaabaa",
-            0,
-            Some((0, 6, [Some((1, 3)), Some((1, 1)), Some((1, 3))])),
-        ),
-        ("(a)|(b)\\1", "b", 0, None),
-        (
-            "(a|ab)(b*)\\2c",
-            "abbc",
-            0,
-            Some((0, 4, [Some((0, 1)), Some((1, 2)), None])),
-        ),
-    ];
-    for (pattern, text, from, row) in cases {
-        let ere = parse(rt.alloc(), pattern.as_bytes(), false)?;
-        let hit = found(rt.alloc(), &ere, text.as_bytes(), from)?;
-        let span = hit.as_ref().map(|hit| (hit.from, hit.to));
-        assert_eq!(rt;
-            span,
-            row.map(|row| (row.0, row.1)),
-            "{pattern} in {text:?}"
-        );
-        let (Some(hit), Some(row)) = (hit, row) else {
-            continue;
-        };
-        for (group, cap) in hit.groups.as_slice().iter().enumerate() {
-            let told = cap.map(|cap| (cap.from, cap.to));
-            assert_eq!(rt; Some(&told), row.2.get(group), "group {group} of {pattern}");
-        }
+    for (pattern, text, from, due) in HITS {
+        let told = told(rt.alloc(), pattern, text, from)?;
+        assert!(rt; told.as_str() == due, "{pattern} in {text:?}: {told}");
     }
     Ok(())
 }
@@ -122,24 +101,25 @@ fn all_spelled(alloc: Global, pieces: &[&str], most: u32) -> Result<Vec<Vec<u8>>
 }
 
 /// Whether the expression is found in the text. The hit and its groups are those of the list.
-fn agree(rt: &impl Abort, alloc: Global, ere: &Ere, text: &[u8]) -> Result<u32, Fail> {
-    match (found(alloc, ere, text, 0)?, slow_hit(alloc, ere, text, 0)?) {
-        (None, None) => Ok(0),
-        (Some(hit), Some(listed)) => {
-            assert_eq!(rt;
-                (hit.from, hit.to),
-                (listed.from, listed.to),
-                "{ere:?} in {text:?}"
-            );
-            assert_eq!(rt;
-                hit.groups.as_slice(),
-                listed.groups.as_slice(),
-                "{ere:?} in {text:?}"
-            );
-            Ok(1)
+fn agree(rt: &impl Abort, alloc: Global, ere: &Ere, text: &[u8]) -> Result<bool, Fail> {
+    let hit = found(alloc, ere, text, 0)?;
+    let listed = slow_hit(alloc, ere, text, 0)?;
+    assert!(rt; are_same(&hit, &listed), "{ere:?} in {text:?}");
+    Ok(hit.is_some())
+}
+
+/// In how many of the texts the expression is found; in none where it is refused.
+fn hits_in(rt: &impl Abort, alloc: Global, pattern: &[u8], texts: &[Vec<u8>]) -> Result<u32, Fail> {
+    let Ok(ere) = parse(alloc, pattern, false) else {
+        return Ok(0);
+    };
+    let mut hits: u32 = 0;
+    for text in texts {
+        if agree(rt, alloc, &ere, text.as_slice())? {
+            hits = hits.saturating_add(1);
         }
-        _ => Err(Fail::from("one of the two finds nothing")),
     }
+    Ok(hits)
 }
 
 #[test]
@@ -147,12 +127,8 @@ fn small_expressions_are_found_as_the_list_has_them(rt: HostRuntime) -> Result<(
     let texts = all_spelled(rt.alloc(), &LETTERS, 2)?;
     let mut hits: u32 = 0;
     for pattern in all_spelled(rt.alloc(), &TOKENS, 3)? {
-        let Ok(ere) = parse(rt.alloc(), pattern.as_slice(), false) else {
-            continue;
-        };
-        for text in &texts {
-            hits = hits.saturating_add(agree(&rt, rt.alloc(), &ere, text.as_slice())?);
-        }
+        let found = hits_in(&rt, rt.alloc(), pattern.as_slice(), texts.as_slice())?;
+        hits = hits.saturating_add(found);
     }
     assert!(rt; hits > 5_000, "{hits} hits");
     Ok(())

@@ -1,6 +1,7 @@
 //! What a search finds, and how many steps it takes.
 ghost use Rattle.std.specs.Prelude.{◌≡◌, ◌<◌, ◌≤◌, length};
 
+use crate::shown::ends_of;
 use ere_auto::Steps;
 use ere_match::Search;
 use ere_tree::{Cap, parse};
@@ -42,29 +43,42 @@ fn spans(alloc: Global, pattern: &str, text: &str, from: usize) -> Result<[Optio
     )
 }
 
+/// The span that a search finds, and then finds again.
+fn found_twice(alloc: Global, pattern: &str, text: &str, from: usize) -> Result<String, Fail> {
+    let [first, second] = spans(alloc, pattern, text, from)?;
+    if first == second {
+        ends_of(alloc, first)
+    } else {
+        Ok(String::from_str(alloc, "two spans")?)
+    }
+}
+
+/// An expression, a text, where the search begins, and the span that is found in the slice from there on.
+const SPANS: [(&str, &str, usize, &str); 14] = [
+    ("b|abc|a", "abcd", 0, "0-3"),
+    ("a*b", "aaaaaaaa", 0, "none"),
+    ("^b", "ab", 1, "0-1"),
+    ("needle [0-9]+", "a needle, needle 12.", 0, "10-19"),
+    ("x(needle)y", "needle xneedley", 0, "7-15"),
+    ("(ab)+c", "ababx ababc", 0, "6-11"),
+    ("[a-z]+ needle", "a\nbc needle", 0, "2-11"),
+    (".* needle", "ab needle", 0, "0-9"),
+    ("needle", "needl", 0, "none"),
+    ("a|needle", "xa", 0, "1-2"),
+    ("", "abc", 3, "0-0"),
+    ("c$", "abc", 1, "1-2"),
+    ("(needle)*x", "x", 0, "0-1"),
+    ("([0-9a-f]{8}){8}x", "0123456789abcdef", 0, "none"),
+];
+
 #[test]
 fn a_kept_search_finds_the_span_again(rt: HostRuntime) -> Result<(), Fail> {
-    let cases: [(&str, &str, usize, Option<(usize, usize)>); 14] = [
-        ("b|abc|a", "abcd", 0, Some((0, 3))),
-        ("a*b", "aaaaaaaa", 0, None),
-        ("^b", "ab", 1, Some((0, 1))),
-        ("needle [0-9]+", "a needle, needle 12.", 0, Some((10, 19))),
-        ("x(needle)y", "needle xneedley", 0, Some((7, 15))),
-        ("(ab)+c", "ababx ababc", 0, Some((6, 11))),
-        ("[a-z]+ needle", "a\nbc needle", 0, Some((2, 11))),
-        (".* needle", "ab needle", 0, Some((0, 9))),
-        ("needle", "needl", 0, None),
-        ("a|needle", "xa", 0, Some((1, 2))),
-        ("", "abc", 3, Some((0, 0))),
-        ("c$", "abc", 1, Some((1, 2))),
-        ("(needle)*x", "x", 0, Some((0, 1))),
-        ("([0-9a-f]{8}){8}x", "0123456789abcdef", 0, None),
-    ];
-    for (pattern, text, from, span) in cases {
-        for found in spans(rt.alloc(), pattern, text, from)? {
-            let told = found.map(|cap| (cap.from, cap.to));
-            assert_eq!(rt; told, span, "{pattern} in {text:?} from {from}");
-        }
+    for (pattern, text, from, due) in SPANS {
+        let told = found_twice(rt.alloc(), pattern, text, from)?;
+        assert!(rt;
+            told.as_str() == due,
+            "{pattern} in {text:?} from {from}: {told}"
+        );
     }
     Ok(())
 }

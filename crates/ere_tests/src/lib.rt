@@ -15,8 +15,12 @@ mod parsing;
 #[cfg(test)]
 mod places;
 #[cfg(test)]
+mod shown;
+#[cfg(test)]
 mod slow;
 #[cfg(test)]
 mod table;
 #[cfg(test)]
 mod tree;
+#[cfg(test)]
+mod whole;

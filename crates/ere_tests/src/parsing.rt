@@ -1,7 +1,7 @@
 //! Texts with their trees or their faults, and hostile texts.
+use crate::shown::read;
 use ere_tree::{ByteSet, Ere, EreFail, EreFault, EreList, parse};
 use std::alloc::Global;
-use std::process::Abort;
 use std::test::Fail;
 
 /// The bytes of the set, or how many there are of more than 13.
@@ -22,60 +22,83 @@ fn show_set(alloc: Global, set: &ByteSet, out: &mut String) -> Result<(), Fail> 
     Ok(())
 }
 
+fn put(out: &mut String, text: &str) -> Result<(), Fail> {
+    Ok(out.push_str(text)?)
+}
+
+fn put_bytes(out: &mut String, bytes: &[u8]) -> Result<(), Fail> {
+    for byte in bytes {
+        out.push(char::from(*byte))?;
+    }
+    Ok(())
+}
+
+fn put_bounds(alloc: Global, least: u32, most: Option<u32>, out: &mut String) -> Result<(), Fail> {
+    put(out, format!(in alloc; "{least}-{most:?}")?.as_str())
+}
+
+fn put_group(alloc: Global, number: u32, out: &mut String) -> Result<(), Fail> {
+    put(out, format!(in alloc; "#{number}")?.as_str())
+}
+
+fn put_ref(alloc: Global, number: u32, fold: bool, out: &mut String) -> Result<(), Fail> {
+    put(out, format!(in alloc; "ref {number} {fold}")?.as_str())
+}
+
 #[cycle(show)]
 fn show(alloc: Global, ere: &Ere, out: &mut String) -> Result<(), Fail> {
     match ere {
-        Ere::Empty => out.push_str("empty")?,
-        Ere::Plain(run) => {
-            for byte in run.as_slice() {
-                out.push(char::from(*byte))?;
-            }
-        }
-        Ere::Set(set) => show_set(alloc, set, out)?,
-        Ere::LineStart => out.push('^')?,
-        Ere::LineEnd => out.push('$')?,
-        Ere::Cat(parts) => show_all(alloc, "cat", parts, out)?,
-        Ere::Alt(branches) => show_all(alloc, "alt", branches, out)?,
+        Ere::Empty => put(out, "empty"),
+        Ere::Plain(run) => put_bytes(out, run.as_slice()),
+        Ere::Set(set) => show_set(alloc, set, out),
+        Ere::LineStart => put(out, "^"),
+        Ere::LineEnd => put(out, "$"),
+        Ere::Cat(parts) => show_all(alloc, "cat", parts, out),
+        Ere::Alt(branches) => show_all(alloc, "alt", branches, out),
         Ere::Repeat { inner, least, most } => {
-            out.push_str(format!(in alloc; "{least}-{most:?}(")?.as_str())?;
-            show(alloc, inner, out)?;
-            out.push(')')?;
+            put_bounds(alloc, *least, *most, out)?;
+            show_inner(alloc, inner, out)
         }
         Ere::Group { number, inner } => {
-            out.push_str(format!(in alloc; "#{number}(")?.as_str())?;
-            show(alloc, inner, out)?;
-            out.push(')')?;
+            put_group(alloc, *number, out)?;
+            show_inner(alloc, inner, out)
         }
-        Ere::Ref { number, fold } => {
-            out.push_str(format!(in alloc; "ref {number} {fold}")?.as_str())?;
-        }
+        Ere::Ref { number, fold } => put_ref(alloc, *number, *fold, out),
     }
-    Ok(())
+}
+
+#[cycle(show)]
+fn show_inner(alloc: Global, ere: &Ere, out: &mut String) -> Result<(), Fail> {
+    put(out, "(")?;
+    show(alloc, ere, out)?;
+    put(out, ")")
 }
 
 #[cycle(show)]
 fn show_all(alloc: Global, name: &str, list: &EreList, out: &mut String) -> Result<(), Fail> {
-    out.push_str(name)?;
-    out.push('(')?;
+    put(out, name)?;
+    put(out, "(")?;
     for one in list.as_slice() {
-        out.push(' ')?;
+        put(out, " ")?;
         show(alloc, one, out)?;
     }
-    out.push_str(" )")?;
-    Ok(())
+    put(out, " )")
+}
+
+/// A tree as a text.
+fn shown(alloc: Global, ere: &Ere) -> Result<String, Fail> {
+    let mut out = String::new(alloc);
+    show(alloc, ere, &mut out)?;
+    Ok(out)
 }
 
 /// The tree of a text, or its fault.
 fn told(alloc: Global, text: &[u8], fold: bool) -> Result<String, Fail> {
-    let mut out = String::new(alloc);
     match parse(alloc, text, fold) {
-        Ok(ere) => show(alloc, &ere, &mut out)?,
-        Err(EreFail::Bad(EreFault { at, kind })) => {
-            out.push_str(format!(in alloc; "{kind:?} {at}")?.as_str())?;
-        }
-        Err(EreFail::NoMemory) => out.push_str("no memory")?,
+        Ok(ere) => shown(alloc, &ere),
+        Err(EreFail::Bad(EreFault { at, kind })) => Ok(format!(in alloc; "{kind:?} {at}")?),
+        Err(EreFail::NoMemory) => Err(Fail::from("no memory")),
     }
-    Ok(out)
 }
 
 /// A text and its tree in each line.
@@ -165,16 +188,10 @@ a[b => UnclosedBracket 1
 ((a{255}){255}){255} => TooLarge 0
 ((a{255}){255}){255}( => UnclosedGroup 20";
 
-fn check_lines(rt: &impl Abort, alloc: Global, lines: &str, fold: bool) -> Result<(), Fail> {
-    for line in lines.lines() {
-        let (text, wanted) = line.split_once(" => ").ok_or("a line without an arrow")?;
-        assert_eq!(rt;
-            told(alloc, text.as_bytes(), fold)?.as_str(),
-            wanted,
-            "of {text:?}"
-        );
-    }
-    Ok(())
+/// Whether the text before the arrow of a row is read as what is behind it.
+fn is_read(alloc: Global, row: &str, fold: bool) -> Result<bool, Fail> {
+    let (text, due) = row.split_once(" => ").ok_or("a row without an arrow")?;
+    Ok(told(alloc, text.as_bytes(), fold)?.as_str() == due)
 }
 
 /// A text and its tree where letters match in either case in each line.
@@ -192,40 +209,46 @@ a{2,1} => BadBound 1";
 
 #[test]
 fn texts_are_read_as_their_trees(rt: HostRuntime) -> Result<(), Fail> {
-    check_lines(&rt, rt.alloc(), READ, false)
+    for row in READ.lines() {
+        assert!(rt; is_read(rt.alloc(), row, false)?, "{row}");
+    }
+    Ok(())
 }
 
 #[test]
 fn letters_are_read_in_either_case(rt: HostRuntime) -> Result<(), Fail> {
-    check_lines(&rt, rt.alloc(), READ_IN_EITHER_CASE, true)
+    for row in READ_IN_EITHER_CASE.lines() {
+        assert!(rt; is_read(rt.alloc(), row, true)?, "{row}");
+    }
+    Ok(())
 }
 
 /// The tree of a text, changed so that letters match in either case.
 fn folded(alloc: Global, text: &str) -> Result<String, Fail> {
-    let ere = parse(alloc, text.as_bytes(), false)
-        .ok()
-        .ok_or("an expression")?;
-    let mut out = String::new(alloc);
-    show(alloc, &ere.folded(alloc)?, &mut out)?;
-    Ok(out)
+    let ere = read(alloc, text)?;
+    let folded = ere.folded(alloc)?;
+    shown(alloc, &folded)
 }
+
+/// Whether the text before the arrow of a row is changed into what is behind it.
+fn is_folded(alloc: Global, row: &str) -> Result<bool, Fail> {
+    let (text, due) = row.split_once(" => ").ok_or("a row without an arrow")?;
+    Ok(folded(alloc, text)?.as_str() == due)
+}
+
+/// A text and its changed tree in each line.
+const FOLDED: &str = "a => [Aa]
+ab-1 => cat( [Aa] [Bb] -1 )
+12 => 12
+^[a-c]|(Z)*$ => alt( cat( ^ [ABCabc] ) cat( 0-None(#1([Zz])) $ ) )
+[^a] => [255]
+(a)\\1 => cat( #1([Aa]) ref 1 true )
+() => #1(empty)";
 
 #[test]
 fn an_expression_is_changed_to_either_case(rt: HostRuntime) -> Result<(), Fail> {
-    let cases = [
-        ("a", "[Aa]"),
-        ("ab-1", "cat( [Aa] [Bb] -1 )"),
-        ("12", "12"),
-        (
-            "^[a-c]|(Z)*$",
-            "alt( cat( ^ [ABCabc] ) cat( 0-None(#1([Zz])) $ ) )",
-        ),
-        ("[^a]", "[255]"),
-        ("(a)\\1", "cat( #1([Aa]) ref 1 true )"),
-        ("()", "#1(empty)"),
-    ];
-    for (text, wanted) in cases {
-        assert_eq!(rt; folded(rt.alloc(), text)?.as_str(), wanted, "of {text:?}");
+    for row in FOLDED.lines() {
+        assert!(rt; is_folded(rt.alloc(), row)?, "{row}");
     }
     Ok(())
 }
@@ -239,44 +262,66 @@ fn repeated(alloc: Global, piece: &str, count: usize) -> Result<String, Fail> {
     Ok(text)
 }
 
+/// The number of groups of so many copies of a text.
+fn groups_of(alloc: Global, piece: &str, count: usize) -> Result<u32, Fail> {
+    let text = repeated(alloc, piece, count)?;
+    Ok(read(alloc, text.as_str())?.groups())
+}
+
+/// The size of so many copies of a text, with another text behind them.
+fn size_of(alloc: Global, piece: &str, count: usize, end: &str, fold: bool) -> Result<u64, Fail> {
+    let mut text = repeated(alloc, piece, count)?;
+    text.push_str(end)?;
+    Ok(parse(alloc, text.as_bytes(), fold)?.size())
+}
+
 #[test]
 fn long_expressions_are_read(rt: HostRuntime) -> Result<(), Fail> {
     let alloc = rt.alloc();
-    let groups = parse(alloc, repeated(alloc, "(a)", 1_000)?.as_bytes(), false);
-    assert_eq!(rt; groups.ok().ok_or("groups")?.groups(), 1_000);
-    let parts = parse(alloc, repeated(alloc, "a*", 2_000)?.as_bytes(), true);
-    assert_eq!(rt; parts.ok().ok_or("parts")?.size(), 4_000);
-    let mut text = repeated(alloc, "ab|", 2_000)?;
-    text.push('c')?;
-    let branches = parse(alloc, text.as_bytes(), false);
-    assert_eq!(rt; branches.ok().ok_or("branches")?.size(), 4_002);
+    assert_eq!(rt; groups_of(alloc, "(a)", 1_000)?, 1_000);
+    assert_eq!(rt; size_of(alloc, "a*", 2_000, "", true)?, 4_000);
+    assert_eq!(rt; size_of(alloc, "ab|", 2_000, "c", false)?, 4_002);
     Ok(())
 }
 
 #[test]
 fn the_first_fault_is_told_with_its_place(rt: HostRuntime) -> Result<(), Fail> {
-    check_lines(&rt, rt.alloc(), REFUSED, false)
+    for row in REFUSED.lines() {
+        assert!(rt; is_read(rt.alloc(), row, false)?, "{row}");
+    }
+    Ok(())
+}
+
+/// What is told of so many copies of a text.
+fn told_of(alloc: Global, piece: &str, count: usize) -> Result<String, Fail> {
+    let text = repeated(alloc, piece, count)?;
+    told(alloc, text.as_bytes(), false)
+}
+
+/// Whether a letter in so many groups is read.
+fn nest_is_read(alloc: Global, depth: usize) -> Result<bool, Fail> {
+    let mut text = repeated(alloc, "(", depth)?;
+    text.push('a')?;
+    text.push_str(repeated(alloc, ")", depth)?.as_str())?;
+    Ok(parse(alloc, text.as_bytes(), false).is_ok())
+}
+
+/// Reads a byte, and each pair of bytes that begins with it.
+fn read_pairs(alloc: Global, first: u8) {
+    let _one = parse(alloc, &[first], false);
+    for second in 0..=255 {
+        let _pair = parse(alloc, &[first, second], false);
+    }
 }
 
 #[test]
 fn hostile_texts_are_answered(rt: HostRuntime) -> Result<(), Fail> {
     let alloc = rt.alloc();
-    let opens = vec![in alloc; b'('; 100_000]?;
-    assert_eq!(rt; told(alloc, &opens, false)?.as_str(), "TooDeep 250");
-    let mut nested = vec![in alloc; b'('; 250]?;
-    nested.push(b'a')?;
-    nested.extend_from_slice(&vec![in alloc; b')'; 250]?)?;
-    assert!(rt; parse(alloc, &nested, false).is_ok());
-    let brackets = vec![in alloc; b'['; 65_536]?;
-    assert_eq!(rt;
-        told(alloc, &brackets, false)?.as_str(),
-        "UnclosedBracket 0"
-    );
+    assert_eq!(rt; told_of(alloc, "(", 100_000)?.as_str(), "TooDeep 250");
+    assert!(rt; nest_is_read(alloc, 250)?);
+    assert_eq!(rt; told_of(alloc, "[", 65_536)?.as_str(), "UnclosedBracket 0");
     for first in 0..=255 {
-        for second in 0..=255 {
-            let _one = parse(alloc, &[first], false);
-            let _pair = parse(alloc, &[first, second], false);
-        }
+        read_pairs(alloc, first);
     }
     Ok(())
 }

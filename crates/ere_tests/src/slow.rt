@@ -1,85 +1,39 @@
 //! Worked examples of what is found where, and in how many ways.
+use crate::shown::{in_words, read};
 use ere_slow::{derivations, slow_hit};
-use ere_tree::{ByteRun, Ere, EreList, Hit, parse};
+use ere_tree::{ByteRun, Ere, EreList};
 use std::alloc::{AllocError, Global};
-use std::process::Abort;
 use std::test::Fail;
 
-/// A span and what groups 1 to 3 hold.
-type Found = ((usize, usize), [Option<(usize, usize)>; 3]);
-
-/// What a group holds, where there are so many.
-fn held(hit: &Hit, index: usize) -> Option<(usize, usize)> {
-    match hit.groups.as_slice().get(index) {
-        Some(Some(cap)) => Some((cap.from, cap.to)),
-        _ => None,
-    }
+/// How many derivations there are in the text from its start on, and the hit in words.
+fn told(alloc: Global, ere: &Ere, text: &str) -> Result<String, Fail> {
+    let ways = derivations(alloc, ere, text.as_bytes(), 0)?.len();
+    let hit = slow_hit(alloc, ere, text.as_bytes(), 0)?;
+    let words = in_words(alloc, &hit)?;
+    Ok(format!(in alloc; "{ways} ways, {words}")?)
 }
 
-/// Where the expression is found in the text from its start on, and how many derivations it has there.
-fn check(
-    rt: &impl Abort,
-    alloc: Global,
-    ere: &Ere,
-    text: &str,
-    found: Option<Found>,
-    ways: usize,
-) -> Result<(), Fail> {
-    let text = text.as_bytes();
-    assert_eq!(rt;
-        derivations(alloc, ere, text, 0)?.len(),
-        ways,
-        "the ways of {ere:?}"
-    );
-    let hit = slow_hit(alloc, ere, text, 0)?;
-    let told = hit.map(|hit| (
-        (hit.from, hit.to),
-        [held(&hit, 0), held(&hit, 1), held(&hit, 2)],
-    ));
-    assert_eq!(rt; told, found, "the hit of {ere:?}");
-    Ok(())
-}
+/// An expression, a text, the number of derivations at its start, and the hit with its groups.
+const WAYS: [(&str, &str, &str); 11] = [
+    ("(a|ab)(c|bcd)(d*)", "abcd", "3 ways, 0-4 0-2 2-3 3-4"),
+    ("x((a*)(a*))b\\3", "xaabaa", "3 ways, 0-6 1-3 1-1 1-3"),
+    ("(a?){3}", "a", "4 ways, 0-1 1-1"),
+    ("(a*)*", "", "1 ways, 0-0 none"),
+    ("(a*)+", "", "1 ways, 0-0 0-0"),
+    ("(a|ab)(b*)\\2c", "abbc", "1 ways, 0-4 0-1 1-2"),
+    ("(a)|(b)\\1", "b", "0 ways, none"),
+    ("(a)\\1", "aA", "0 ways, none"),
+    ("$", "a\nb", "0 ways, 1-1"),
+    ("^b", "b", "1 ways, 0-1"),
+    ("^b", "ab", "0 ways, none"),
+];
 
 #[test]
 fn the_whole_way_is_chosen_together(rt: HostRuntime) -> Result<(), Fail> {
-    let cases = [
-        (
-            "(a|ab)(c|bcd)(d*)",
-            "abcd",
-            Some(((0, 4), [Some((0, 2)), Some((2, 3)), Some((3, 4))])),
-            3,
-        ),
-        (
-            "x((a*)(a*))b\\3",
-            "xaabaa",
-            Some(((0, 6), [Some((1, 3)), Some((1, 1)), Some((1, 3))])),
-            3,
-        ),
-        (
-            "(a?){3}",
-            "a",
-            Some(((0, 1), [Some((1, 1)), None, None])),
-            4,
-        ),
-        ("(a*)*", "", Some(((0, 0), [None, None, None])), 1),
-        ("(a*)+", "", Some(((0, 0), [Some((0, 0)), None, None])), 1),
-        (
-            "(a|ab)(b*)\\2c",
-            "abbc",
-            Some(((0, 4), [Some((0, 1)), Some((1, 2)), None])),
-            1,
-        ),
-        ("(a)|(b)\\1", "b", None, 0),
-        ("(a)\\1", "aA", None, 0),
-        ("$", "a\nb", Some(((1, 1), [None, None, None])), 0),
-        ("^b", "b", Some(((0, 1), [None, None, None])), 1),
-        ("^b", "ab", None, 0),
-    ];
-    for (expression, text, found, ways) in cases {
-        let ere = parse(rt.alloc(), expression.as_bytes(), false)
-            .ok()
-            .ok_or("no expression")?;
-        check(&rt, rt.alloc(), &ere, text, found, ways)?;
+    for (expression, text, due) in WAYS {
+        let ere = read(rt.alloc(), expression)?;
+        let told = told(rt.alloc(), &ere, text)?;
+        assert!(rt; told.as_str() == due, "{expression} in {text:?}: {told}");
     }
     Ok(())
 }
@@ -100,34 +54,31 @@ fn twice(alloc: Global) -> Result<Ere, AllocError> {
 #[test]
 fn a_reference_may_match_in_either_case(rt: HostRuntime) -> Result<(), Fail> {
     let ere = twice(rt.alloc())?;
-    check(
-        &rt,
-        rt.alloc(),
-        &ere,
-        "aA",
-        Some(((0, 2), [Some((0, 1)), None, None])),
-        1,
-    )
+    let told = told(rt.alloc(), &ere, "aA")?;
+    assert_eq!(rt; told.as_str(), "1 ways, 0-2 0-1");
+    Ok(())
+}
+
+/// What is found in the text from a place on, in words.
+fn told_from(alloc: Global, expression: &str, text: &str, from: usize) -> Result<String, Fail> {
+    let ere = read(alloc, expression)?;
+    let hit = slow_hit(alloc, &ere, text.as_bytes(), from)?;
+    in_words(alloc, &hit)
 }
 
 #[test]
 fn a_search_speaks_of_the_slice_that_begins_there(rt: HostRuntime) -> Result<(), Fail> {
-    let cases = [
-        ("^b", "ab", 1, Some((1, 2))),
-        ("^b", "ab", 0, None),
-        ("a*$", "aab", 2, Some((3, 3))),
-        ("()", "ab", 2, Some((2, 2))),
-        ("a", "ab", 1, None),
-    ];
-    for (expression, text, from, found) in cases {
-        let ere = parse(rt.alloc(), expression.as_bytes(), false)
-            .ok()
-            .ok_or("no expression")?;
-        let hit = slow_hit(rt.alloc(), &ere, text.as_bytes(), from)?;
-        assert_eq!(rt;
-            hit.map(|hit| (hit.from, hit.to)),
-            found,
-            "of {expression:?} in {text:?} from {from}"
+    for (expression, text, from, due) in [
+        ("^b", "ab", 1, "1-2"),
+        ("^b", "ab", 0, "none"),
+        ("a*$", "aab", 2, "3-3"),
+        ("()", "ab", 2, "2-2 2-2"),
+        ("a", "ab", 1, "none"),
+    ] {
+        let told = told_from(rt.alloc(), expression, text, from)?;
+        assert!(rt;
+            told.as_str() == due,
+            "{expression} in {text:?} from {from}"
         );
     }
     Ok(())

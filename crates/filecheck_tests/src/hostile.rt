@@ -1,10 +1,8 @@
 //! Check files that end early or ask for too much, and streams that are full.
 use crate::rows::{Row, first_other};
-use crate::runs::{Objects, told};
+use crate::runs::{AMPLE, told, told_in};
 use std::alloc::Global;
 use std::test::Fail;
-use tt_base::Bytes;
-use tt_outside::MemSink;
 
 fn cut_files() -> [Row; 5] {
     [
@@ -44,7 +42,7 @@ fn cut_files() -> [Row; 5] {
 #[test]
 fn check_files_that_are_cut_are_refused(rt: HostRuntime) -> Result<(), Fail> {
     let other = first_other(rt.alloc(), cut_files().as_slice())?;
-    assert_eq!(rt; other, None);
+    assert!(rt; other.is_none(), "{other:?}");
     Ok(())
 }
 
@@ -60,49 +58,82 @@ fn recalls(alloc: Global, count: u8) -> Result<String, Fail> {
     Ok(line)
 }
 
+/// Whether what is told of so many recalled texts begins so.
+fn tells(alloc: Global, count: u8, input: &str, front: &[u8]) -> Result<bool, Fail> {
+    let checks = recalls(alloc, count)?;
+    let told = told(alloc, "t.txt", checks.as_str(), input)?;
+    Ok(told.as_slice().starts_with(front))
+}
+
 #[test]
 fn nine_texts_are_recalled_on_a_line(rt: HostRuntime) -> Result<(), Fail> {
     let alloc = rt.alloc();
-    let nine = told(
-        alloc,
-        "t.txt",
-        recalls(alloc, 9)?.as_str(),
-        "xxxxxxxxxxxxxxxxxx",
-    )?;
-    assert!(rt; nine.as_slice() == b"0 ".as_slice());
-    let ten = told(alloc, "t.txt", recalls(alloc, 10)?.as_str(), "x")?;
-    let front = b"2 t.txt:1:8: error: more than nine references\n".as_slice();
-    assert!(rt; ten.as_slice().starts_with(front));
+    assert!(rt; tells(alloc, 9, "xxxxxxxxxxxxxxxxxx", b"0 ")?);
+    let refusal = b"2 t.txt:1:8: error: more than nine references\n";
+    assert!(rt; tells(alloc, 10, "x", refusal.as_slice())?);
     Ok(())
 }
 
-/// The status of a run with a body of so many bytes.
-fn status_of(alloc: Global, length: usize) -> Result<u8, Fail> {
-    let mut line = Bytes::from_slice(alloc, b"CHECK: ")?;
+/// The status, as a digit, of a run with a body of so many bytes.
+fn status_of(alloc: Global, length: usize) -> Result<Option<u8>, Fail> {
+    let mut line = String::from_str(alloc, "CHECK: ")?;
     for _ in 0..length {
-        line.append(b"a")?;
+        line.push_str("a")?;
     }
-    let text = String::from_utf8(line.into_vec())?;
-    let mut objects = Objects::new(alloc, text.as_str(), "b")?;
-    objects.err = MemSink::new(alloc, 1 << 18)?;
-    Ok(objects.run(alloc, "t.txt")?)
+    let told = told_in(alloc, "t.txt", line.as_str(), "b", (1 << 18, AMPLE))?;
+    Ok(told.as_slice().first().copied())
 }
 
 #[test]
 fn a_body_has_up_to_65536_bytes(rt: HostRuntime) -> Result<(), Fail> {
-    let alloc = rt.alloc();
-    assert_eq!(rt; status_of(alloc, 65_536)?, 1);
-    assert_eq!(rt; status_of(alloc, 65_537)?, 2);
+    assert_eq!(rt; status_of(rt.alloc(), 65_536)?, Some(b'1'));
+    assert_eq!(rt; status_of(rt.alloc(), 65_537)?, Some(b'2'));
     Ok(())
 }
 
 #[test]
 fn what_out_does_not_take_is_told_once(rt: HostRuntime) -> Result<(), Fail> {
+    let told = told_in(rt.alloc(), "--generate=3", "", "", (AMPLE, 10))?;
+    let due = b"3 filecheck: error: cannot write\ngenerated:";
+    assert_eq!(rt; told.as_slice(), due.as_slice());
+    Ok(())
+}
+
+/// Twenty NOTs of eight bytes, and one of two.
+fn many_nots(alloc: Global) -> Result<String, Fail> {
+    let mut checks = String::new(alloc);
+    for at in 10..30 {
+        checks.push_str(format!(in alloc; "CHECK-NOT: needle{at}\n")?.as_str())?;
+    }
+    checks.push_str("CHECK-NOT: zq\n")?;
+    Ok(checks)
+}
+
+/// Lines of 88,000 bytes, and one more.
+fn long_region(alloc: Global, last: &str) -> Result<String, Fail> {
+    let mut text = String::new(alloc);
+    for _ in 0..8000 {
+        text.push_str("x haystack\n")?;
+    }
+    text.push_str(last)?;
+    Ok(text)
+}
+
+/// Whether what is told of many NOTs in a long region with this last line begins so.
+fn tells_of_nots(alloc: Global, last: &str, front: &[u8]) -> Result<bool, Fail> {
+    let checks = many_nots(alloc)?;
+    let text = long_region(alloc, last)?;
+    let told = told(alloc, "t.txt", checks.as_str(), text.as_str())?;
+    Ok(told.as_slice().starts_with(front))
+}
+
+#[test]
+fn each_of_many_nots_is_sought_in_a_long_region(rt: HostRuntime) -> Result<(), Fail> {
     let alloc = rt.alloc();
-    let mut objects = Objects::new(alloc, "", "")?;
-    objects.out = MemSink::new(alloc, 10)?;
-    assert_eq!(rt; objects.run(alloc, "--generate=3")?, 3);
-    assert!(rt; objects.out.as_slice() == b"generated:".as_slice());
-    assert!(rt; objects.err.as_slice() == b"filecheck: error: cannot write\n".as_slice());
+    assert!(rt; tells_of_nots(alloc, "needle7 z q\n", b"0 ")?);
+    let long = b"1 t.txt:8:12: error: CHECK-NOT: excluded string found in input\n";
+    assert!(rt; tells_of_nots(alloc, "needle17\n", long.as_slice())?);
+    let short = b"1 t.txt:21:12: error: CHECK-NOT: excluded string found in input\n";
+    assert!(rt; tells_of_nots(alloc, "zq\n", short.as_slice())?);
     Ok(())
 }

@@ -1,5 +1,5 @@
 //! Runs whose input and whose messages move a byte at a time.
-use crate::runs::{Objects, ROW_MESSAGE};
+use crate::runs::{NEVER, ROW_MESSAGE, files_of, told_of};
 use std::alloc::Global;
 use std::test::Fail;
 use tt_base::Bytes;
@@ -16,30 +16,37 @@ const REALISTIC: &str = "; RUN: llc < %s | FileCheck %s
 
 /// What is told where each read and each write moves one byte.
 fn told_in_pieces(alloc: Global, checks: &str, input: &str) -> Result<Bytes, Fail> {
-    let mut objects = Objects::new(alloc, checks, "")?;
-    objects.input = MemSource::in_pieces(alloc, input.as_bytes(), 1)?;
-    objects.out = MemSink::in_pieces(alloc, 1, 100)?;
-    objects.err = MemSink::in_pieces(alloc, 1, 1000)?;
-    objects.told(alloc, "t.txt")
+    let mut files = files_of(alloc, checks, NEVER)?;
+    let mut input = MemSource::in_pieces(alloc, input.as_bytes(), 1)?;
+    let mut out = MemSink::in_pieces(alloc, 1, 100)?;
+    let mut err = MemSink::in_pieces(alloc, 1, 1000)?;
+    told_of(alloc, "t.txt", &mut files, &mut input, &mut out, &mut err)
 }
+
+/// Whether what is told begins and ends so.
+fn tells(alloc: Global, checks: &str, input: &str, front: &str, back: &str) -> Result<bool, Fail> {
+    let told = told_in_pieces(alloc, checks, input)?;
+    let bytes = told.as_slice();
+    Ok(bytes.starts_with(front.as_bytes()) && bytes.ends_with(back.as_bytes()))
+}
+
+/// Whether exactly this is told.
+fn tells_only(alloc: Global, checks: &str, input: &str, due: &str) -> Result<bool, Fail> {
+    Ok(told_in_pieces(alloc, checks, input)?.as_slice() == due.as_bytes())
+}
+
+const FOUND: &str = "main:\n\tmov r4, #1\n\tadd r4, r4, #22\n\tret\n";
+
+const EXCLUDED: &str = "main:\n\tmov r4, #1\n\tadd r4, r4, #22\n\tcall f\n\tret\n";
 
 #[test]
 fn a_byte_at_a_time_tells_the_same(rt: HostRuntime) -> Result<(), Fail> {
     let alloc = rt.alloc();
-    let found = told_in_pieces(alloc, "CHECK: foo", "foo\n")?;
-    assert_eq!(rt; found.as_slice(), b"0 ".as_slice());
-    let missed = told_in_pieces(alloc, "CHECK: foo\n", "bar\n")?;
+    assert!(rt; tells_only(alloc, "CHECK: foo", "foo\n", "0 ")?);
     let due = format!(in alloc; "1 {ROW_MESSAGE}")?;
-    assert_eq!(rt; missed.as_slice(), due.as_bytes());
-    let realistic = "main:\n\tmov r4, #1\n\tadd r4, r4, #22\n\tret\n";
-    let found = told_in_pieces(alloc, REALISTIC, realistic)?;
-    assert_eq!(rt; found.as_slice(), b"0 ".as_slice());
-    let excluded = "main:\n\tmov r4, #1\n\tadd r4, r4, #22\n\tcall f\n\tret\n";
-    let told = told_in_pieces(alloc, REALISTIC, excluded)?;
-    assert!(rt; told.as_slice().starts_with(b"1 t.txt:5:"));
-    assert!(rt;
-        told.as_slice()
-            .ends_with(b"<stdin>:4:2: note: found here\n call f\n ^\n")
-    );
+    assert!(rt; tells_only(alloc, "CHECK: foo\n", "bar\n", due.as_str())?);
+    assert!(rt; tells_only(alloc, REALISTIC, FOUND, "0 ")?);
+    let back = "<stdin>:4:2: note: found here\n call f\n ^\n";
+    assert!(rt; tells(alloc, REALISTIC, EXCLUDED, "1 t.txt:5:", back)?);
     Ok(())
 }

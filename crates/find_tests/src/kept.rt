@@ -3,11 +3,11 @@ use ere_tree::{Ere, parse};
 use lit_select::select;
 use std::alloc::Global;
 use std::test::Fail;
-use tt_base::{Bytes, Items};
+use tt_base::{Bytes, Items, NoMemory};
 use tt_outside::Test;
 
 /// A test of this name.
-fn named(alloc: Global, name: &[u8]) -> Result<Test, Fail> {
+fn named(alloc: Global, name: &[u8]) -> Result<Test, NoMemory> {
     Ok(Test {
         name: Bytes::from_slice(alloc, name)?,
         path: Bytes::new(alloc),
@@ -23,7 +23,7 @@ fn named(alloc: Global, name: &[u8]) -> Result<Test, Fail> {
 }
 
 /// Four tests.
-fn all(alloc: Global) -> Result<Items<Test>, Fail> {
+fn all(alloc: Global) -> Result<Items<Test>, NoMemory> {
     let mut tests = Items::new(alloc);
     for name in ["s :: a.txt", "s :: b.txt", "s :: ab/aa.t", "s :: ab/ba.t"] {
         tests.push(named(alloc, name.as_bytes())?)?;
@@ -42,31 +42,36 @@ fn asked(alloc: Global, word: &str) -> Result<Option<Ere>, Fail> {
     }
 }
 
-/// The names that are kept, one behind the other.
-fn kept(alloc: Global, keep: &str, drop: &str) -> Result<Bytes, Fail> {
-    let keep = asked(alloc, keep)?;
-    let drop = asked(alloc, drop)?;
+/// The names of tests, one behind the other.
+fn names_of(alloc: Global, tests: &[Test]) -> Result<Bytes, NoMemory> {
     let mut text = Bytes::new(alloc);
-    for test in select(alloc, all(alloc)?, &keep, &drop)?.as_slice() {
+    for test in tests {
         text.append(b"|".as_slice())?;
         text.append(test.name.as_slice())?;
     }
     Ok(text)
 }
 
+/// The names that are kept, one behind the other.
+fn kept(alloc: Global, keep: &str, drop: &str) -> Result<Bytes, Fail> {
+    let keep = asked(alloc, keep)?;
+    let drop = asked(alloc, drop)?;
+    let kept = select(alloc, all(alloc)?, &keep, &drop)?;
+    Ok(names_of(alloc, kept.as_slice())?)
+}
+
 #[test]
 fn tests_are_kept_and_then_dropped(rt: HostRuntime) -> Result<(), Fail> {
-    let rows = [
+    for (keep, drop, due) in [
         ("", "", "|s :: a.txt|s :: b.txt|s :: ab/aa.t|s :: ab/ba.t"),
         ("txt$", "", "|s :: a.txt|s :: b.txt"),
         ("", "a", "|s :: b.txt"),
         ("ab/", "^s :: ab/b", "|s :: ab/aa.t"),
         ("(a)\\1", "", "|s :: ab/aa.t"),
         ("zz", "", ""),
-    ];
-    for (keep, drop, due) in rows {
-        let text = kept(rt.alloc(), keep, drop)?;
-        assert_eq!(rt; text.as_slice(), due.as_bytes(), "{keep} {drop}");
+    ] {
+        let kept = kept(rt.alloc(), keep, drop)?;
+        assert!(rt; kept.as_slice() == due.as_bytes(), "{keep} {drop}: {due}");
     }
     Ok(())
 }

@@ -12,4 +12,6 @@ mod paths;
 #[cfg(test)]
 mod tests_made;
 #[cfg(test)]
+mod trees;
+#[cfg(test)]
 mod wide;

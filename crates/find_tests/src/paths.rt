@@ -30,7 +30,7 @@ fn texts_read_as_normal_paths(rt: HostRuntime) -> Result<(), Fail> {
     ];
     for (dir, text, due) in rows {
         let path = shown(rt.alloc(), dir, text)?;
-        assert_eq!(rt; path.as_slice(), due.as_bytes(), "{text}");
+        assert!(rt; path.as_slice() == due.as_bytes(), "{text}: {due}");
     }
     Ok(())
 }
@@ -45,7 +45,7 @@ fn a_path_lies_below_the_directories_above_it(rt: HostRuntime) -> Result<(), Fai
         ("/a/b", "/a", false),
     ];
     for (dir, path, due) in rows {
-        assert_eq!(rt; lies_below(rt.alloc(), dir, path)?, due, "{path}");
+        assert!(rt; lies_below(rt.alloc(), dir, path)? == due, "{path}");
     }
     Ok(())
 }

@@ -7,6 +7,7 @@ use lit_paths::read_path;
 use lit_suite::{Suite, read_suite};
 use std::alloc::Global;
 use std::test::Fail;
+use tt_base::Bytes;
 use tt_outside::Test;
 
 const SUITE: &str =
@@ -29,8 +30,9 @@ fn suite_of(alloc: Global) -> Result<Suite, Fail>
 fn made(alloc: Global, below: &str) -> Result<Test, Fail> {
     let suite = suite_of(alloc)?;
     let root = read_path(alloc, b"/w/s".as_slice())?;
-    let below = read_path(alloc, below.as_bytes())?;
-    Ok(test_of(alloc, root.as_slice(), &suite, below.as_slice())?)
+    let mut path = Bytes::from_slice(alloc, b"/w/s/".as_slice())?;
+    path.append(below.as_bytes())?;
+    Ok(test_of(alloc, root.as_slice(), &suite, path)?)
 }
 
 /// What a test has under a name.
@@ -98,13 +100,22 @@ fn a_part_adds_to_the_tests_below_it(rt: HostRuntime) -> Result<(), Fail> {
     Ok(())
 }
 
+/// Whether a test and its copy are the same.
+fn is_its_copy(alloc: Global, test: &Test) -> Result<bool, Fail> {
+    let copy = test.copy(alloc)?;
+    Ok(test.same(&copy))
+}
+
+/// Whether a test is that of a path.
+fn is_made_of(alloc: Global, test: &Test, below: &str) -> Result<bool, Fail> {
+    let other = made(alloc, below)?;
+    Ok(test.same(&other))
+}
+
 #[test]
 fn a_copy_of_a_test_is_equal_and_another_test_is_not(rt: HostRuntime) -> Result<(), Fail> {
-    let alloc = rt.alloc();
-    let test = made(alloc, "a.t")?;
-    let copy = test.copy(alloc)?;
-    assert!(rt; test.same(&copy));
-    let other = made(alloc, "x/b.t")?;
-    assert!(rt; !test.same(&other));
+    let test = made(rt.alloc(), "a.t")?;
+    assert!(rt; is_its_copy(rt.alloc(), &test)?);
+    assert!(rt; !is_made_of(rt.alloc(), &test, "x/b.t")?);
     Ok(())
 }

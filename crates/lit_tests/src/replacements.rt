@@ -22,51 +22,63 @@ fn expanded(alloc: Global, line: &str, list: &Texts, suite: usize) -> Result<Byt
     expand(alloc, line.as_bytes(), list, suite, 3)
 }
 
+/// Names and their values; the first pair is the suite's.
+const PAIRS: [(&str, &str); 3] = [
+    ("tool", "cc %s"),
+    ("%s", "/w/demo/a.txt"),
+    ("%t", "/w/demo/Output/a.txt.tmp"),
+];
+
+/// Lines, and what they become on line 3.
+const BECOME: [(&str, &str); 9] = [
+    (
+        "tool > %t.o %%s %(line+2)",
+        "cc /w/demo/a.txt > /w/demo/Output/a.txt.tmp.o %s 5",
+    ),
+    ("%%%s", "%/w/demo/a.txt"),
+    ("%%%%tool", "%%cc /w/demo/a.txt"),
+    ("%(line) %(line-2) %(line-3)", "3 1 0"),
+    ("%(line-5) %(line+999999999)", "-2 1000000002"),
+    (
+        "%(line+1234567890) %(line+) %(line+1",
+        "%(line+1234567890) %(line+) %(line+1",
+    ),
+    ("%(line+%(line))", "6"),
+    ("%", "%"),
+    ("", ""),
+];
+
+/// Whether a line becomes this.
+fn becomes(alloc: Global, list: &Texts, line: &str, due: &str) -> Result<bool, ExpandFail> {
+    Ok(expanded(alloc, line, list, 1)?.as_slice() == due.as_bytes())
+}
+
 #[test]
 fn each_name_gives_way_to_its_value_in_turn(rt: HostRuntime) -> Result<(), ExpandFail> {
-    let alloc = rt.alloc();
-    let told = [
-        ("tool", "cc %s"),
-        ("%s", "/w/demo/a.txt"),
-        ("%t", "/w/demo/Output/a.txt.tmp"),
-    ];
-    let list = texts(alloc, &told)?;
-    let cases = [
-        (
-            "tool > %t.o %%s %(line+2)",
-            "cc /w/demo/a.txt > /w/demo/Output/a.txt.tmp.o %s 5",
-        ),
-        ("%%%s", "%/w/demo/a.txt"),
-        ("%%%%tool", "%%cc /w/demo/a.txt"),
-        ("%(line) %(line-2) %(line-3)", "3 1 0"),
-        ("%(line-5) %(line+999999999)", "-2 1000000002"),
-        (
-            "%(line+1234567890) %(line+) %(line+1",
-            "%(line+1234567890) %(line+) %(line+1",
-        ),
-        ("%(line+%(line))", "6"),
-        ("%", "%"),
-        ("", ""),
-    ];
-    for (line, due) in cases {
-        let made = expanded(alloc, line, &list, 1)?;
-        assert_eq!(rt; made.as_slice(), due.as_bytes(), "{line}");
+    let list = texts(rt.alloc(), &PAIRS)?;
+    for (line, due) in BECOME {
+        assert!(rt; becomes(rt.alloc(), &list, line, due)?, "{line}: {due}");
     }
     Ok(())
 }
 
+/// A long value, and an empty one.
+fn long_texts(alloc: Global, length: usize) -> Result<Texts, ExpandFail> {
+    let long = "a".repeat(alloc, length).or(Err(ExpandFail::NoMemory))?;
+    Ok(texts(alloc, &[("%s", long.as_str()), ("%e", "")])?)
+}
+
+/// Whether a line becomes too long.
+fn is_too_long(alloc: Global, list: &Texts, line: &str) -> bool {
+    expanded(alloc, line, list, 0).err() == Some(ExpandFail::TooLong)
+}
+
 #[test]
 fn a_line_has_up_to_a_mebibyte(rt: HostRuntime) -> Result<(), ExpandFail> {
-    let alloc = rt.alloc();
-    let long = "a".repeat(alloc, 1 << 19).or(Err(ExpandFail::NoMemory))?;
-    let list = texts(alloc, &[("%s", long.as_str()), ("%e", "")])?;
-    assert_eq!(rt; expanded(alloc, "%s%s", &list, 0)?.len(), 1 << 20);
-    let cases = ["%s%s%e.", "%s%%%s", "%s%s%%"];
-    for line in cases {
-        assert!(rt;
-            expanded(alloc, line, &list, 0).err() == Some(ExpandFail::TooLong),
-            "{line}"
-        );
+    let list = long_texts(rt.alloc(), 1 << 19)?;
+    assert!(rt; expanded(rt.alloc(), "%s%s", &list, 0)?.len() == 1 << 20);
+    for line in ["%s%s%e.", "%s%%%s", "%s%s%%"] {
+        assert!(rt; is_too_long(rt.alloc(), &list, line), "{line}");
     }
     Ok(())
 }

@@ -1,8 +1,7 @@
 //! Numeric blocks with what is read of them or their faults, values of expressions, and hostile blocks.
-use num_base::{EvalFault, Expr, Format, Numbers, eval};
-use num_exprs::{Named, NumFail, NumFault, NumKind, parse_block, read_block};
+use num_base::{Expr, Format, Numbers, Op, eval};
+use num_exprs::{Named, NumBlock, NumFail, NumKind, parse_block, read_block};
 use std::alloc::Global;
-use std::process::Abort;
 use std::test::Fail;
 
 fn add_bytes(out: &mut String, bytes: &[u8]) -> Result<(), Fail> {
@@ -12,21 +11,32 @@ fn add_bytes(out: &mut String, bytes: &[u8]) -> Result<(), Fail> {
     Ok(())
 }
 
+fn put(out: &mut String, text: &str) -> Result<(), Fail> {
+    Ok(out.push_str(text)?)
+}
+
+fn put_number(alloc: Global, value: i128, out: &mut String) -> Result<(), Fail> {
+    put(out, format!(in alloc; "{value}")?.as_str())
+}
+
+fn put_op(alloc: Global, op: Op, out: &mut String) -> Result<(), Fail> {
+    put(out, format!(in alloc; "{op:?}(")?.as_str())
+}
+
 #[cycle(show)]
 fn show(alloc: Global, expr: &Expr, out: &mut String) -> Result<(), Fail> {
     match expr {
-        Expr::Literal(value) => out.push_str(format!(in alloc; "{value}")?.as_str())?,
-        Expr::Line => out.push_str("@LINE")?,
-        Expr::Name(name) => add_bytes(out, name.as_slice())?,
+        Expr::Literal(value) => put_number(alloc, *value, out),
+        Expr::Line => put(out, "@LINE"),
+        Expr::Name(name) => add_bytes(out, name.as_slice()),
         Expr::Binary { op, left, right } => {
-            out.push_str(format!(in alloc; "{op:?}(")?.as_str())?;
+            put_op(alloc, *op, out)?;
             show(alloc, left, out)?;
-            out.push(' ')?;
+            put(out, " ")?;
             show(alloc, right, out)?;
-            out.push(')')?;
+            put(out, ")")
         }
     }
-    Ok(())
 }
 
 fn show_format(alloc: Global, format: Format, out: &mut String) -> Result<(), Fail> {
@@ -36,271 +46,335 @@ fn show_format(alloc: Global, format: Format, out: &mut String) -> Result<(), Fa
         digits,
     } = format;
     let mark = if alternate { "#" } else { "" };
-    out.push_str(format!(in alloc; "%{mark}{digits}{kind:?} ")?.as_str())?;
+    put(out, format!(in alloc; "%{mark}{digits}{kind:?} ")?.as_str())
+}
+
+/// The format and the defined name of a block, where it has them.
+fn show_front(alloc: Global, block: &NumBlock, out: &mut String) -> Result<(), Fail> {
+    if let Some(format) = block.format {
+        show_format(alloc, format, out)?;
+    }
+    if let Some(name) = &block.defines {
+        add_bytes(out, name.as_slice())?;
+        put(out, ": ")?;
+    }
     Ok(())
+}
+
+/// A block as a text.
+fn shown(alloc: Global, block: &NumBlock) -> Result<String, Fail> {
+    let mut out = String::new(alloc);
+    show_front(alloc, block, &mut out)?;
+    match &block.expr {
+        Some(expr) => show(alloc, expr, &mut out)?,
+        None => put(&mut out, "none")?,
+    }
+    Ok(out)
 }
 
 /// A block, or its fault.
 fn told(alloc: Global, bytes: &[u8]) -> Result<String, Fail> {
-    let mut out = String::new(alloc);
     match parse_block(alloc, bytes) {
-        Ok(block) => {
-            if let Some(format) = block.format {
-                show_format(alloc, format, &mut out)?;
-            }
-            if let Some(name) = &block.defines {
-                add_bytes(&mut out, name.as_slice())?;
-                out.push_str(": ")?;
-            }
-            match &block.expr {
-                Some(expr) => show(alloc, expr, &mut out)?,
-                None => out.push_str("none")?,
-            }
-        }
-        Err(NumFail::Bad { at, kind }) => {
-            out.push_str(format!(in alloc; "{kind:?} {at}")?.as_str())?;
-        }
-        Err(NumFail::NoMemory) => out.push_str("no memory")?,
+        Ok(block) => shown(alloc, &block),
+        Err(NumFail::Bad { at, kind }) => Ok(format!(in alloc; "{kind:?} {at}")?),
+        Err(NumFail::NoMemory) => Ok(String::from_str(alloc, "no memory")?),
     }
-    Ok(out)
 }
+
+/// The two sides of a row.
+fn sides(row: &str) -> Result<(&str, &str), Fail> {
+    Ok(row.split_once(" => ").ok_or("a row without an arrow")?)
+}
+
+/// Whether the block before the arrow of a row is what is behind it.
+fn is_told(alloc: Global, row: &str) -> Result<bool, Fail> {
+    let (text, due) = sides(row)?;
+    Ok(told(alloc, text.as_bytes())?.as_str() == due)
+}
+
+/// Blocks, and what they are.
+const BLOCKS: &str = " => none
+ \t => none
+%x,N: => %0LowerHex N: none
+%#.8X, N : == M + 1  => %#8UpperHex N: Add(M 1)
+%d, => %0Signed none
+%.007u, => %7Unsigned none
+%.100u,7 => %100Unsigned 7
+ % u , $N: => %0Unsigned $N: none
+N => N
+==N => N
+N:M => N: M
+add => add
+add:add(1,2) => add: Add(1 2)
+1-2+3 => Add(Sub(1 2) 3)
+1-(2+3) => Sub(1 Add(2 3))
+1--2 => Sub(1 -2)
+-0x1F => -31
+0xfF => 255
+007 => 7
+@LINE+1 => Add(@LINE 1)
+mul ( max(N,1) , min(2 , 3) ) => Mul(Max(N 1) Min(2 3))
+div(0-7,2) => Div(Sub(0 7) 2)
+sub(1,2)-$_a9 => Sub(Sub(1 2) $_a9)
+-170141183460469231731687303715884105727 => -170141183460469231731687303715884105727
+0x7fffffffffffffffffffffffffffffff => 170141183460469231731687303715884105727";
 
 #[test]
 fn blocks_are_read(rt: HostRuntime) -> Result<(), Fail> {
-    let alloc = rt.alloc();
-    let cases = [
-        ("", "none"),
-        (" \t", "none"),
-        ("%x,N:", "%0LowerHex N: none"),
-        ("%#.8X, N : == M + 1 ", "%#8UpperHex N: Add(M 1)"),
-        ("%d,", "%0Signed none"),
-        ("%.007u,", "%7Unsigned none"),
-        ("%.100u,7", "%100Unsigned 7"),
-        (" % u , $N:", "%0Unsigned $N: none"),
-        ("N", "N"),
-        ("==N", "N"),
-        ("N:M", "N: M"),
-        ("add", "add"),
-        ("add:add(1,2)", "add: Add(1 2)"),
-        ("1-2+3", "Add(Sub(1 2) 3)"),
-        ("1-(2+3)", "Sub(1 Add(2 3))"),
-        ("1--2", "Sub(1 -2)"),
-        ("-0x1F", "-31"),
-        ("0xfF", "255"),
-        ("007", "7"),
-        ("@LINE+1", "Add(@LINE 1)"),
-        ("mul ( max(N,1) , min(2 , 3) )", "Mul(Max(N 1) Min(2 3))"),
-        ("div(0-7,2)", "Div(Sub(0 7) 2)"),
-        ("sub(1,2)-$_a9", "Sub(Sub(1 2) $_a9)"),
-        (
-            "-170141183460469231731687303715884105727",
-            "-170141183460469231731687303715884105727",
-        ),
-        (
-            "0x7fffffffffffffffffffffffffffffff",
-            "170141183460469231731687303715884105727",
-        ),
-    ];
-    for (text, wanted) in cases {
-        assert_eq!(rt; told(alloc, text.as_bytes())?.as_str(), wanted, "{text}");
+    for row in BLOCKS.lines() {
+        assert!(rt; is_told(rt.alloc(), row)?, "{row}");
     }
     Ok(())
 }
+
+/// Blocks, and their first faults.
+const FAULTS: &str = "1: => BadName 0
+ 1N: => BadName 1
+$: => BadName 1
+: => BadName 0
+N M: => BadName 2
+N+1: => BadName 1
+%x,9 : => BadName 3
+%.0u, => BadFormat 2
+%.101u, => BadFormat 2
+%.u, => BadFormat 2
+%#u, => BadFormat 2
+%#d, => BadFormat 2
+%y, => BadFormat 1
+% => BadFormat 1
+%x => BadFormat 2
+%x N: => BadFormat 3
+%# x, => BadFormat 2
+N+ => BadExpr 2
+N+   => BadExpr 4
+N  $ => BadExpr 3
+$ => BadExpr 1
+N+-x => BadExpr 3
+- => BadExpr 1
+0x => BadExpr 1
+@LIN => BadExpr 0
+@LINEX => BadExpr 5
+foo( => BadExpr 3
+add(1) => BadExpr 5
+add(1,2 => BadExpr 7
+(1 => BadExpr 2
+1) => BadExpr 1
+1,2 => BadExpr 1
+1 2 => BadExpr 2
+== => BadExpr 2
+==  => BadExpr 3
+N: == => BadExpr 5
+=N => BadExpr 0
+N=1 => BadExpr 1
+170141183460469231731687303715884105728 => BadExpr 0
+1+-170141183460469231731687303715884105728 => BadExpr 2
+0x80000000000000000000000000000000 => BadExpr 0";
 
 #[test]
 fn the_first_fault_is_told_with_its_place(rt: HostRuntime) -> Result<(), Fail> {
-    let alloc = rt.alloc();
-    let cases = [
-        ("1:", "BadName 0"),
-        (" 1N:", "BadName 1"),
-        ("$:", "BadName 1"),
-        (":", "BadName 0"),
-        ("N M:", "BadName 2"),
-        ("N+1:", "BadName 1"),
-        ("%x,9 :", "BadName 3"),
-        ("%.0u,", "BadFormat 2"),
-        ("%.101u,", "BadFormat 2"),
-        ("%.u,", "BadFormat 2"),
-        ("%#u,", "BadFormat 2"),
-        ("%#d,", "BadFormat 2"),
-        ("%y,", "BadFormat 1"),
-        ("%", "BadFormat 1"),
-        ("%x", "BadFormat 2"),
-        ("%x N:", "BadFormat 3"),
-        ("%# x,", "BadFormat 2"),
-        ("N+", "BadExpr 2"),
-        ("N+  ", "BadExpr 4"),
-        ("N  $", "BadExpr 3"),
-        ("$", "BadExpr 1"),
-        ("N+-x", "BadExpr 3"),
-        ("-", "BadExpr 1"),
-        ("0x", "BadExpr 1"),
-        ("@LIN", "BadExpr 0"),
-        ("@LINEX", "BadExpr 5"),
-        ("foo(", "BadExpr 3"),
-        ("add(1)", "BadExpr 5"),
-        ("add(1,2", "BadExpr 7"),
-        ("(1", "BadExpr 2"),
-        ("1)", "BadExpr 1"),
-        ("1,2", "BadExpr 1"),
-        ("1 2", "BadExpr 2"),
-        ("==", "BadExpr 2"),
-        ("== ", "BadExpr 3"),
-        ("N: ==", "BadExpr 5"),
-        ("=N", "BadExpr 0"),
-        ("N=1", "BadExpr 1"),
-        ("170141183460469231731687303715884105728", "BadExpr 0"),
-        ("1+-170141183460469231731687303715884105728", "BadExpr 2"),
-        ("0x80000000000000000000000000000000", "BadExpr 0"),
-    ];
-    for (text, wanted) in cases {
-        assert_eq!(rt; told(alloc, text.as_bytes())?.as_str(), wanted, "{text}");
+    for row in FAULTS.lines() {
+        assert!(rt; is_told(rt.alloc(), row)?, "{row}");
     }
     Ok(())
 }
 
-/// The names that are read, each with its offset, the defined one in brackets, and the fault's offset.
-fn names_told(alloc: Global, bytes: &[u8]) -> Result<String, Fail> {
+/// A name behind its offset.
+fn put_named(alloc: Global, named: &Named, out: &mut String) -> Result<(), Fail> {
+    let at = named.at;
+    put(out, format!(in alloc; "{at} ")?.as_str())?;
+    add_bytes(out, named.name.as_slice())
+}
+
+/// The names that are read, each with its offset, the defined one in brackets.
+fn names_of(alloc: Global, defines: &Option<Named>, uses: &[Named]) -> Result<String, Fail> {
     let mut out = String::new(alloc);
-    let read = read_block(alloc, bytes).ok().ok_or("memory")?;
-    if let Some(Named { at, name }) = &read.defines {
-        out.push_str(format!(in alloc; "[{at} ")?.as_str())?;
-        add_bytes(&mut out, name.as_slice())?;
-        out.push(']')?;
+    if let Some(named) = defines {
+        put(&mut out, "[")?;
+        put_named(alloc, named, &mut out)?;
+        put(&mut out, "]")?;
     }
-    for Named { at, name } in read.uses.as_slice() {
-        out.push_str(format!(in alloc; " {at} ")?.as_str())?;
-        add_bytes(&mut out, name.as_slice())?;
-    }
-    if let Err(NumFault { at, .. }) = &read.expr {
-        out.push_str(format!(in alloc; " fault {at}")?.as_str())?;
+    for named in uses {
+        put(&mut out, " ")?;
+        put_named(alloc, named, &mut out)?;
     }
     Ok(out)
+}
+
+/// The names that are read, and the fault's offset.
+fn names_told(alloc: Global, bytes: &[u8]) -> Result<String, Fail> {
+    let read = read_block(alloc, bytes)?;
+    let names = names_of(alloc, &read.defines, read.uses.as_slice())?;
+    match &read.expr {
+        Err(fault) => {
+            let at = fault.at;
+            Ok(format!(in alloc; "{names} fault {at}")?)
+        }
+        Ok(_) => Ok(names),
+    }
+}
+
+/// Blocks, and the names that they tell.
+const NAMES: &str = "N+ =>  0 N fault 2
+A+B+ =>  0 A 2 B fault 4
+ %x, D : A+max(B,A) C => [5 D] 9 A 15 B 17 A fault 20
+1+A =>  2 A
+%y,A =>  fault 1
+A:1+A => [0 A] 4 A
+A: => [0 A]";
+
+/// Whether the block before the arrow of a row tells the names behind it.
+fn has_names(alloc: Global, row: &str) -> Result<bool, Fail> {
+    let (text, due) = sides(row)?;
+    Ok(names_told(alloc, text.as_bytes())?.as_str() == due)
 }
 
 #[test]
 fn names_before_a_fault_are_told(rt: HostRuntime) -> Result<(), Fail> {
-    let alloc = rt.alloc();
-    let cases = [
-        ("N+", " 0 N fault 2"),
-        ("A+B+", " 0 A 2 B fault 4"),
-        (" %x, D : A+max(B,A) C", "[5 D] 9 A 15 B 17 A fault 20"),
-        ("1+A", " 2 A"),
-        ("%y,A", " fault 1"),
-        ("A:1+A", "[0 A] 4 A"),
-        ("A:", "[0 A]"),
-    ];
-    for (text, wanted) in cases {
-        assert_eq!(rt;
-            names_told(alloc, text.as_bytes())?.as_str(),
-            wanted,
-            "{text}"
-        );
+    for row in NAMES.lines() {
+        assert!(rt; has_names(rt.alloc(), row)?, "{row}");
     }
     Ok(())
 }
 
-/// The value of a text where N is 1.
-fn valued(rt: &impl Abort, alloc: Global, text: &str) -> Result<Result<i128, EvalFault>, Fail> {
+/// Numbers where N is 1.
+fn one_number(alloc: Global) -> Result<Numbers, Fail> {
     let mut numbers = Numbers::new(alloc);
-    numbers.put(b"N", 1).ok().ok_or("memory")?;
-    match parse_block(alloc, text.as_bytes()) {
-        Ok(block) => match &block.expr {
-            Some(expr) => Ok(eval(expr, &numbers, 7)),
-            None => panic!(rt; "{text} has no expression"),
-        },
-        Err(_) => panic!(rt; "{text} is refused"),
+    numbers.put(b"N", 1)?;
+    Ok(numbers)
+}
+
+/// The value of an expression where N is 1, or its fault, on line 7.
+fn value_of(alloc: Global, expr: &Expr) -> Result<String, Fail> {
+    let numbers = one_number(alloc)?;
+    match eval(expr, &numbers, 7) {
+        Ok(value) => Ok(format!(in alloc; "{value}")?),
+        Err(fault) => Ok(format!(in alloc; "{fault:?}")?),
     }
+}
+
+/// The value of a text, or its fault.
+fn valued(alloc: Global, text: &str) -> Result<String, Fail> {
+    let block = parse_block(alloc, text.as_bytes())?;
+    match &block.expr {
+        Some(expr) => value_of(alloc, expr),
+        None => Ok(String::from_str(alloc, "no expression")?),
+    }
+}
+
+/// Expressions, and their values or faults.
+const VALUES: &str = "N+1 => 2
+div(0-7,2) => -3
+-170141183460469231731687303715884105727-1 => -170141183460469231731687303715884105728
+-170141183460469231731687303715884105727-2 => Range
+170141183460469231731687303715884105727+1-1 => Range
+div(1,0) => ZeroDivisor
+div(1,0)+M => Undefined
+@LINE+max(2,min(3,9)) => 10
+mul(sub(1,3),add(2,2)) => -8";
+
+/// Whether the text before the arrow of a row has the value behind it.
+fn has_value(alloc: Global, row: &str) -> Result<bool, Fail> {
+    let (text, due) = sides(row)?;
+    Ok(valued(alloc, text)?.as_str() == due)
 }
 
 #[test]
 fn expressions_have_values_or_faults(rt: HostRuntime) -> Result<(), Fail> {
-    let alloc = rt.alloc();
-    let cases = [
-        ("N+1", Ok(2)),
-        ("div(0-7,2)", Ok(-3)),
-        ("-170141183460469231731687303715884105727-1", Ok(i128::MIN)),
-        (
-            "-170141183460469231731687303715884105727-2",
-            Err(EvalFault::Range),
-        ),
-        (
-            "170141183460469231731687303715884105727+1-1",
-            Err(EvalFault::Range),
-        ),
-        ("div(1,0)", Err(EvalFault::ZeroDivisor)),
-        ("div(1,0)+M", Err(EvalFault::Undefined)),
-        ("@LINE+max(2,min(3,9))", Ok(10)),
-        ("mul(sub(1,3),add(2,2))", Ok(-8)),
-    ];
-    for (text, wanted) in cases {
-        assert_eq!(rt; valued(&rt, alloc, text)?, wanted, "{text}");
+    for row in VALUES.lines() {
+        assert!(rt; has_value(rt.alloc(), row)?, "{row}");
     }
     Ok(())
 }
 
-/// A nest of `add(`, whole or without its end.
-fn nested(alloc: Global, depth: usize) -> Result<Vec<u8>, Fail> {
-    let mut text = Vec::new(alloc);
-    for _ in 0..depth {
-        text.extend_from_slice(b"add(")?;
+/// A front, so many copies of a text, a middle, and so many copies of another text.
+fn nested(
+    alloc: Global,
+    front: &str,
+    count: usize,
+    (open, inner, close): (&str, &str, &str),
+) -> Result<Vec<u8>, Fail> {
+    let mut text = Vec::from_slice(alloc, front.as_bytes())?;
+    for _ in 0..count {
+        text.extend_from_slice(open.as_bytes())?;
     }
-    text.push(b'1')?;
-    for _ in 0..depth {
-        text.extend_from_slice(b",1)")?;
+    text.extend_from_slice(inner.as_bytes())?;
+    for _ in 0..count {
+        text.extend_from_slice(close.as_bytes())?;
     }
     Ok(text)
 }
 
+/// Where a block is refused for its expression; nothing of a block that is read.
+fn bad_at(alloc: Global, text: &[u8]) -> Result<Option<usize>, Fail> {
+    match parse_block(alloc, text) {
+        Ok(_) => Ok(None),
+        Err(
+            NumFail::Bad {
+                at,
+                kind: NumKind::BadExpr,
+            },
+        ) => Ok(Some(at)),
+        Err(_) => Err(Fail::from("another fault")),
+    }
+}
+
+/// The same of a nest of `add(` behind a front.
+fn nest_bad_at(alloc: Global, front: &str, depth: usize) -> Result<Option<usize>, Fail> {
+    let text = nested(alloc, front, depth, ("add(", "1", ",1)"))?;
+    bad_at(alloc, text.as_slice())
+}
+
+/// Whether a sum of so many ones behind a first one is read.
+fn sum_is_read(alloc: Global, count: usize) -> Result<bool, Fail> {
+    let text = nested(alloc, "1", count, ("+1", "", ""))?;
+    Ok(parse_block(alloc, text.as_slice()).is_ok())
+}
+
 #[test]
 fn nesting_is_bounded(rt: HostRuntime) -> Result<(), Fail> {
-    let alloc = rt.alloc();
-    let deep = nested(alloc, 125)?;
-    assert!(rt; parse_block(alloc, deep.as_slice()).is_ok());
-    let wanted = NumFail::Bad {
-        at: 500,
-        kind: NumKind::BadExpr,
-    };
-    for depth in [126, 250, 251] {
-        let text = nested(alloc, depth)?;
-        let fail = parse_block(alloc, text.as_slice()).err();
-        assert_eq!(rt; fail, Some(wanted), "{depth} deep");
+    for (front, depth, due) in [
+        ("", 125, None),
+        ("", 126, Some(500)),
+        ("", 250, Some(500)),
+        ("", 251, Some(500)),
+        ("1+", 125, Some(501)),
+    ] {
+        assert!(rt;
+            nest_bad_at(rt.alloc(), front, depth)? == due,
+            "{front}{depth} deep"
+        );
     }
-    let mut sum = vec![in alloc; b'1', b'+']?;
-    sum.extend_from_slice(deep.as_slice())?;
-    let wanted = NumFail::Bad {
-        at: 501,
-        kind: NumKind::BadExpr,
-    };
-    assert_eq!(rt; parse_block(alloc, sum.as_slice()).err(), Some(wanted));
-    let mut ones = vec![in alloc; b'1']?;
-    for _ in 0..250 {
-        ones.extend_from_slice(b"+1")?;
-    }
-    assert!(rt; parse_block(alloc, ones.as_slice()).is_ok());
-    ones.extend_from_slice(b"+1")?;
-    assert!(rt; parse_block(alloc, ones.as_slice()).is_err());
+    assert!(rt; sum_is_read(rt.alloc(), 250)?);
+    assert!(rt; !sum_is_read(rt.alloc(), 251)?);
     Ok(())
+}
+
+/// Whether a text is read or refused.
+fn is_answered(alloc: Global, text: &[u8]) -> bool {
+    !matches!(parse_block(alloc, text), Err(NumFail::NoMemory))
+}
+
+/// What is told of so many copies of a digit.
+fn told_of(alloc: Global, digit: &str, count: usize) -> Result<String, Fail> {
+    let text = nested(alloc, "", count, (digit, "", ""))?;
+    told(alloc, text.as_slice())
 }
 
 #[test]
 fn any_bytes_are_answered(rt: HostRuntime) -> Result<(), Fail> {
     let alloc = rt.alloc();
     for first in 0..=255u8 {
-        let fail = parse_block(alloc, &[first]).err();
-        assert_ne!(rt; fail, Some(NumFail::NoMemory), "byte {first}");
+        assert!(rt; is_answered(alloc, &[first]), "byte {first}");
         for second in 0..=255u8 {
-            let fail = parse_block(alloc, &[first, second]).err();
-            assert_ne!(rt; fail, Some(NumFail::NoMemory), "bytes {first} and {second}");
+            assert!(rt;
+                is_answered(alloc, &[first, second]),
+                "bytes {first} and {second}"
+            );
         }
     }
-    let long = vec![in alloc; b'9'; 40000]?;
-    let wanted = NumFail::Bad {
-        at: 0,
-        kind: NumKind::BadExpr,
-    };
-    assert_eq!(rt; parse_block(alloc, long.as_slice()).err(), Some(wanted));
-    let zeros = vec![in alloc; b'0'; 40000]?;
-    assert_eq!(rt; told(alloc, zeros.as_slice())?.as_str(), "0");
+    for (digit, due) in [("9", "BadExpr 0"), ("0", "0")] {
+        let told = told_of(alloc, digit, 40_000)?;
+        assert!(rt; told.as_str() == due, "{digit}: {told}");
+    }
     Ok(())
 }

@@ -40,6 +40,9 @@ fn directives_are_met_one_behind_the_other(rt: HostRuntime) -> Result<(), Fail> 
 ~X=old~~CHECK-COUNT-3: {{.}}[[X:[a-c]]]~1a2b~0 not found from 4, 2 done; X=b 
 ~~~CHECK-COUNT-3: a/CHECK-NOT: x/CHECK: b~axaxaxb~1 excluded 5; 
 ~~~CHECK-COUNT-3: a/CHECK: b~aaab~
+~~~CHECK-COUNT-3: {{[0-9]+}},/CHECK: b~1,22,333,b~
+~~~CHECK-COUNT-4: {{[0-9]+}},~1,22,333,b~0 not found from 9, 3 done; 
+~X=a~~CHECK-COUNT-2: <[[X]]>[[X:[a-z]]]~<a>b<b>c~X=c 
 ~~~CHECK: [[#div(1,0)]]~1~0 zero divisor; 
 ~~~CHECK: [[X]]~a~0 undefined X; 
 ",
@@ -56,6 +59,8 @@ fn groups_share_no_bytes_and_bind_as_they_match(rt: HostRuntime) -> Result<(), F
 ~~~CHECK-DAG: abc/CHECK-DAG: {{x*}}/CHECK-DAG: {{x*}}/CHECK: abc~abc/abc~
 ~X=old~~CHECK-DAG: [[X:a]]/CHECK-DAG: z[[X]]/CHECK: b~a/b~1 not found from 0, 0 done; X=a 
 ~~~CHECK-DAG: a/CHECK-DAG: a/CHECK-DAG: a~aa~2 not found from 2, 0 done; 
+~~~CHECK-DAG: {{a+}}/CHECK-DAG: {{a+}}/CHECK-DAG: {{a+}}/CHECK: c~aa b a b aaa c~
+~~~CHECK-DAG: {{a+}}/CHECK-DAG: {{a+}}/CHECK-DAG: {{a+}}~aa b a~2 not found from 6, 0 done; 
 ~~~CHECK-DAG: b/CHECK-DAG: a/CHECK: c~a b c~
 ~~~CHECK: s/CHECK-DAG: b/CHECK-DAG: a/CHECK: b~s a b~3 not found from 5, 0 done; 
 ~~~CHECK-DAG: a/CHECK-NOT: x/CHECK-DAG: b~b a x b~1 excluded 4; 

@@ -5,14 +5,11 @@ use std::test::Fail;
 use tt_base::Bytes;
 
 /// `1` where an expression holds, else `0`; `r` where it has references.
-pub(crate) fn held(alloc: Global, expr: &BoolExpr, features: &[Bytes]) -> Result<u8, Fail> {
+pub(crate) fn held(expr: &BoolExpr, features: &[Bytes]) -> u8 {
     if has_refs(expr) {
-        return Ok(b'r');
+        return b'r';
     }
-    if holds(alloc, expr, features)? {
-        return Ok(b'1');
-    }
-    Ok(b'0')
+    if holds(expr, features) { b'1' } else { b'0' }
 }
 
 /// Which expressions of a list hold, as a text of `1` and `0`; `no list` where it is none.
@@ -22,52 +19,58 @@ fn shown(alloc: Global, xfail: bool, text: &[u8], features: &[Bytes]) -> Result<
     };
     let mut shown = Vec::new(alloc);
     for expr in list.as_slice() {
-        shown.push(held(alloc, expr, features)?)?;
+        shown.push(held(expr, features))?;
     }
     Ok(shown)
 }
 
-#[test]
-fn expressions_hold_over_features(rt: HostRuntime) -> Result<(), Fail> {
-    let alloc = rt.alloc();
+/// A list, whether it is one of XFAIL, how many of two features there are, and which expressions hold.
+const LISTS: [(&str, bool, usize, &str); 24] = [
+    ("linux && !{{arm.*}}", false, 1, "1"),
+    ("linux && !{{arm.*}}", false, 2, "0"),
+    ("true, false,, linux", false, 1, "101"),
+    ("!!linux, !linux", false, 1, "10"),
+    ("a && b || linux", false, 1, "1"),
+    ("linux || a && b", false, 1, "1"),
+    ("(linux || a) && b", false, 1, "0"),
+    ("!a && !b || c", false, 1, "1"),
+    ("!(a || linux)", false, 1, "0"),
+    ("li{{[a-z]+}}x", false, 1, "1"),
+    ("{{inu}}, {{linu}}, {{|linux}}", false, 1, "no list"),
+    ("{{inu}}, {{linu}}", false, 1, "00"),
+    ("{{a{1,2}rm}}v7, {{[,]*}}linux", false, 2, "11"),
+    ("{{}}linux{{}}, {{}}", false, 1, "10"),
+    ("*, linux", true, 1, "11"),
+    ("*", false, 1, "no list"),
+    ("* && linux", true, 1, "no list"),
+    ("linux armv7", false, 2, "no list"),
+    ("linux &&", false, 1, "no list"),
+    ("(linux", false, 1, "no list"),
+    ("linux)", false, 1, "no list"),
+    ("{{linux", false, 1, "no list"),
+    ("{{(a)\\1}}", false, 1, "no list"),
+    ("linux & armv7", false, 2, "no list"),
+];
+
+/// Which expressions of a list hold, where the first one or both of the features are there.
+fn found(alloc: Global, text: &str, xfail: bool, count: usize) -> Result<Vec<u8>, Fail> {
     let features = [
         Bytes::from_slice(alloc, b"linux")?,
         Bytes::from_slice(alloc, b"armv7")?,
     ];
-    let cases: [(&str, bool, usize, &str); 24] = [
-        ("linux && !{{arm.*}}", false, 1, "1"),
-        ("linux && !{{arm.*}}", false, 2, "0"),
-        ("true, false,, linux", false, 1, "101"),
-        ("!!linux, !linux", false, 1, "10"),
-        ("a && b || linux", false, 1, "1"),
-        ("linux || a && b", false, 1, "1"),
-        ("(linux || a) && b", false, 1, "0"),
-        ("!a && !b || c", false, 1, "1"),
-        ("!(a || linux)", false, 1, "0"),
-        ("li{{[a-z]+}}x", false, 1, "1"),
-        ("{{inu}}, {{linu}}, {{|linux}}", false, 1, "no list"),
-        ("{{inu}}, {{linu}}", false, 1, "00"),
-        ("{{a{1,2}rm}}v7, {{[,]*}}linux", false, 2, "11"),
-        ("{{}}linux{{}}, {{}}", false, 1, "10"),
-        ("*, linux", true, 1, "11"),
-        ("*", false, 1, "no list"),
-        ("* && linux", true, 1, "no list"),
-        ("linux armv7", false, 2, "no list"),
-        ("linux &&", false, 1, "no list"),
-        ("(linux", false, 1, "no list"),
-        ("linux)", false, 1, "no list"),
-        ("{{linux", false, 1, "no list"),
-        ("{{(a)\\1}}", false, 1, "no list"),
-        ("linux & armv7", false, 2, "no list"),
-    ];
-    for (text, xfail, count, expected) in cases {
-        let given = if count == 1 {
-            &features[..1]
-        } else {
-            &features[..2]
-        };
-        let found = shown(alloc, xfail, text.as_bytes(), given)?;
-        assert_eq!(rt; found.as_slice(), expected.as_bytes(), "{text}");
+    let given = if count == 1 {
+        &features[..1]
+    } else {
+        &features[..2]
+    };
+    shown(alloc, xfail, text.as_bytes(), given)
+}
+
+#[test]
+fn expressions_hold_over_features(rt: HostRuntime) -> Result<(), Fail> {
+    for (text, xfail, count, due) in LISTS {
+        let found = found(rt.alloc(), text, xfail, count)?;
+        assert!(rt; found.as_slice() == due.as_bytes(), "{text}: {due}");
     }
     Ok(())
 }
@@ -97,25 +100,30 @@ fn short_texts_are_lists_or_not(rt: HostRuntime) -> Result<(), Fail> {
     Ok(())
 }
 
+/// Whether so many times a part, and an `a`, are a list.
+fn is_list(alloc: Global, part: &str, times: usize) -> Result<bool, Fail> {
+    let mut text = Bytes::new(alloc);
+    for _ in 0..times {
+        text.append(part.as_bytes())?;
+    }
+    text.append(b"a")?;
+    Ok(read_list(alloc, false, text.as_slice())?.is_some())
+}
+
 #[test]
 fn the_251st_operator_is_refused_and_hostile_texts_are_read(rt: HostRuntime) -> Result<(), Fail> {
-    let alloc = rt.alloc();
-    let cases: [(&[u8], usize, bool); 6] = [
-        (b"!", 250, true),
-        (b"!", 251, false),
-        (b"a&&", 250, true),
-        (b"a||", 251, false),
-        (b"(", 1 << 20, false),
-        (b"{{", 1 << 19, false),
-    ];
-    for (part, times, is_list) in cases {
-        let mut text = Bytes::new(alloc);
-        for _ in 0..times {
-            text.append(part)?;
-        }
-        text.append(b"a")?;
-        let found = read_list(alloc, false, text.as_slice())?;
-        assert_eq!(rt; found.is_some(), is_list, "{times} times {part:?}");
+    for (part, times, due) in [
+        ("!", 250, true),
+        ("!", 251, false),
+        ("a&&", 250, true),
+        ("a||", 251, false),
+        ("(", 1 << 20, false),
+        ("{{", 1 << 19, false),
+    ] {
+        assert!(rt;
+            is_list(rt.alloc(), part, times)? == due,
+            "{times} times {part:?}"
+        );
     }
     Ok(())
 }

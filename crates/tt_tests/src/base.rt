@@ -1,7 +1,8 @@
 //! Cases of the public calls with ample memory.
 use crate::plain::{plain_first, plain_place};
+use std::alloc::Global;
 use std::test::Fail;
-use tt_base::{Bytes, Items, Place, Span, find_in, line_of, place_of};
+use tt_base::{Bytes, Items, NoMemory, Place, Span, find_in, line_of, place_of};
 
 #[test]
 fn places_count_from_one(rt: HostRuntime) {
@@ -36,38 +37,58 @@ fn lists_grow_and_searches_find(rt: HostRuntime) -> Result<(), Fail> {
     Ok(())
 }
 
-#[test]
-fn lists_grow_as_far_as_there_is_memory(rt: HostRuntime) -> Result<(), Fail> {
-    let alloc = rt.alloc();
+/// So many items.
+fn many_items(alloc: Global, count: u16) -> Result<Items<u16>, NoMemory> {
     let mut items = Items::new(alloc);
-    for item in 0..2_000u16 {
+    for item in 0..count {
         items.push(item)?;
     }
-    assert_eq!(rt; items.len(), 2_000);
+    Ok(items)
+}
+
+/// A large text, so many bytes behind it one by one, and the large text again.
+fn many_bytes(alloc: Global, count: u16) -> Result<Bytes, Fail> {
     let large = vec![in alloc; b'a'; 1 << 21]?;
     let mut bytes = Bytes::from_slice(alloc, large.as_slice())?;
-    for _ in 0..5_000 {
+    for _ in 0..count {
         bytes.append(b"b")?;
     }
     bytes.append(large.as_slice())?;
-    assert_eq!(rt; bytes.len(), (1 << 22) + 5_000);
+    Ok(bytes)
+}
+
+#[test]
+fn lists_grow_as_far_as_there_is_memory(rt: HostRuntime) -> Result<(), Fail> {
+    let alloc = rt.alloc();
+    assert_eq!(rt; many_items(alloc, 2_000)?.len(), 2_000);
+    assert_eq!(rt; many_bytes(alloc, 5_000)?.len(), (1 << 22) + 5_000);
     assert!(rt; Bytes::with_capacity(alloc, 1 << 21)?.is_empty());
     Ok(())
+}
+
+/// A list of bytes that became a vector and a list again.
+fn bytes_again(alloc: Global, text: &[u8]) -> Result<Bytes, NoMemory> {
+    let mut bytes = Bytes::with_capacity(alloc, 2)?;
+    bytes.append(text)?;
+    Ok(Bytes::from_vec(bytes.into_vec()))
+}
+
+/// A list of one item that became a vector and a list again.
+fn items_again(alloc: Global, item: u8) -> Result<Items<u8>, NoMemory> {
+    let mut items = Items::new(alloc);
+    items.push(item)?;
+    Ok(Items::from_vec(items.into_vec()))
 }
 
 #[test]
 fn lists_come_from_vectors_and_go_back(rt: HostRuntime) -> Result<(), Fail> {
     let alloc = rt.alloc();
     assert!(rt; Bytes::new(alloc).is_empty());
-    let mut bytes = Bytes::with_capacity(alloc, 2)?;
-    bytes.append(b"ab")?;
-    let bytes = Bytes::from_vec(bytes.into_vec());
+    let bytes = bytes_again(alloc, b"ab")?;
     assert_eq!(rt; bytes.len(), 2);
     assert_eq!(rt; bytes.as_slice(), b"ab".as_slice());
-    let mut items = Items::new(alloc);
-    assert!(rt; items.is_empty());
-    items.push(7u8)?;
-    let items = Items::from_vec(items.into_vec());
+    assert!(rt; Items::<u8>::new(alloc).is_empty());
+    let items = items_again(alloc, 7)?;
     assert_eq!(rt; items.len(), 1);
     assert_eq!(rt; items.as_slice(), [7u8].as_slice());
     let span = Span::of(3, 2);

@@ -31,38 +31,77 @@ fn spawned(alloc: Global, word: &[u8], input: &[u8]) -> Result<Request, NoMemory
     })
 }
 
+fn made_dir(alloc: Global, path: &[u8]) -> Result<Request, NoMemory> {
+    Ok(Request::MakeDir {
+        path: text(alloc, path)?,
+    })
+}
+
+/// What a line asks: a program with a word and an input, or a directory that is made.
+fn asked(alloc: Global, line: &str) -> Result<Request, NoMemory> {
+    match line.split_once(' ') {
+        Some((word, input)) => spawned(alloc, word.as_bytes(), input.as_bytes()),
+        None => made_dir(alloc, line.as_bytes()),
+    }
+}
+
+/// Whether two lines ask the same.
+fn ask_the_same(alloc: Global, one: &str, other: &str) -> Result<bool, NoMemory> {
+    let one = asked(alloc, one)?;
+    let other = asked(alloc, other)?;
+    Ok(one.same(&other))
+}
+
+/// Whether a copy asks the same.
+fn copy_asks_the_same(alloc: Global, line: &str) -> Result<bool, NoMemory> {
+    let asked = asked(alloc, line)?;
+    let copy = asked.copy(alloc)?;
+    Ok(asked.same(&copy))
+}
+
 #[test]
 fn requests_are_equal_in_all_that_they_ask(rt: HostRuntime) -> Result<(), Fail> {
     let alloc = rt.alloc();
-    let asked = spawned(alloc, b"-O2", b"x")?;
-    let copy = asked.copy(alloc)?;
-    assert!(rt; asked.same(&copy));
-    let word = spawned(alloc, b"-O3", b"x")?;
-    assert!(rt; !asked.same(&word));
-    let input = spawned(alloc, b"-O2", b"xx")?;
-    assert!(rt; !asked.same(&input));
-    let dir = Request::MakeDir {
-        path: text(alloc, b"/w")?,
-    };
-    assert!(rt; !asked.same(&dir));
+    assert!(rt; copy_asks_the_same(alloc, "-O2 x")?);
+    for other in ["-O3 x", "-O2 xx", "/w"] {
+        assert!(rt; !ask_the_same(alloc, "-O2 x", other)?, "{other}");
+    }
     Ok(())
+}
+
+fn ended(alloc: Global, out: &[u8]) -> Result<Reply, NoMemory> {
+    Ok(Reply::Status {
+        finish: Finish::Code(1),
+        out: text(alloc, out)?,
+        err: text(alloc, b"")?,
+    })
+}
+
+fn replied(alloc: Global) -> Result<Entry, NoMemory> {
+    let request = spawned(alloc, b"-O2", b"x")?;
+    let reply = ended(alloc, b"y")?;
+    Ok(Entry { request, reply })
+}
+
+/// Whether an entry and its copy are the same.
+fn copy_is_the_same(alloc: Global) -> Result<bool, NoMemory> {
+    let entry = replied(alloc)?;
+    let copy = entry.copy(alloc)?;
+    Ok(entry.same(&copy))
+}
+
+/// Whether an entry and its copy are the same where the copy gets another reply.
+fn other_reply_is_the_same(alloc: Global) -> Result<bool, NoMemory> {
+    let entry = replied(alloc)?;
+    let mut other = entry.copy(alloc)?;
+    other.reply = Reply::TooLarge(Stream::Out);
+    Ok(entry.same(&other))
 }
 
 #[test]
 fn entries_are_equal_in_request_and_reply(rt: HostRuntime) -> Result<(), Fail> {
-    let alloc = rt.alloc();
-    let entry = Entry {
-        request: spawned(alloc, b"-O2", b"x")?,
-        reply: Reply::Status {
-            finish: Finish::Code(1),
-            out: text(alloc, b"y")?,
-            err: text(alloc, b"")?,
-        },
-    };
-    let mut other = entry.copy(alloc)?;
-    assert!(rt; entry.same(&other));
-    other.reply = Reply::TooLarge(Stream::Out);
-    assert!(rt; !entry.same(&other));
+    assert!(rt; copy_is_the_same(rt.alloc())?);
+    assert!(rt; !other_reply_is_the_same(rt.alloc())?);
     Ok(())
 }
 
@@ -71,12 +110,13 @@ fn bytes_in_memory_move_in_pieces(rt: HostRuntime) -> Result<(), Fail> {
     let alloc = rt.alloc();
     let mut source = MemSource::in_pieces(alloc, b"abc", 2)?;
     let mut buf = [0; 3];
-    assert_eq!(rt; source.read(&mut buf), Ok(2));
-    assert_eq!(rt; source.read(&mut buf), Ok(1));
-    assert_eq!(rt; source.read(&mut buf), Ok(0));
+    for count in [2, 1, 0] {
+        assert_eq!(rt; source.read(&mut buf), Ok(count));
+    }
     let mut sink = MemSink::in_pieces(alloc, 2, 3)?;
-    assert_eq!(rt; sink.write(b"abc"), Ok(2));
-    assert_eq!(rt; sink.write(b"cd"), Ok(1));
+    for (piece, count) in [("abc", 2), ("cd", 1)] {
+        assert_eq!(rt; sink.write(piece.as_bytes()), Ok(count), "{piece}");
+    }
     assert_eq!(rt; sink.as_slice(), b"abc".as_slice());
     Ok(())
 }

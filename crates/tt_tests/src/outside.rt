@@ -3,41 +3,49 @@ use std::alloc::Global;
 use std::test::Fail;
 use tt_base::{Bytes, Items, NoMemory};
 use tt_outside::{
-    Crew, Failed, Files, FilesFault, MemCrew, MemFiles, MemSink, MemSource, Named, Planned, Reply,
-    Request, Runner, Sink, Source, TakeFault, take_all, write_all,
+    Crew, Failed, Files, FilesFault, Left, MemCrew, MemFiles, MemSink, MemSource, Named, Planned,
+    Reply, Request, Runner, Sink, Source, TakeFault, take_all, write_all,
 };
+
+/// What taking a text up to a limit gives: its bytes, or that they are too many.
+fn taken(alloc: Global, text: &str, limit: u32) -> Result<Bytes, Fail> {
+    let mut source = MemSource::new(alloc, text.as_bytes(), &[])?;
+    match take_all(alloc, &mut source, u64::from(limit)) {
+        Ok(bytes) => Ok(bytes),
+        Err(TakeFault::TooLarge) => Ok(Bytes::from_slice(alloc, b"too large")?),
+        Err(_) => Err(Fail::from("another fault")),
+    }
+}
 
 #[test]
 fn all_bytes_are_taken_up_to_the_limit(rt: HostRuntime) -> Result<(), Fail> {
-    let alloc = rt.alloc();
     let cases = [
-        ("abc", 2, Err(TakeFault::TooLarge)),
-        ("abc", 3, Ok("abc")),
-        ("", 0, Ok("")),
-        ("a", 0, Err(TakeFault::TooLarge)),
+        ("abc", 2, "too large"),
+        ("abc", 3, "abc"),
+        ("", 0, ""),
+        ("a", 0, "too large"),
     ];
-    for (bytes, limit, expected) in cases {
-        let mut source = MemSource::new(alloc, bytes.as_bytes(), &[])?;
-        match (take_all(alloc, &mut source, limit), expected) {
-            (Ok(taken), Ok(all)) => assert_eq!(rt; taken.as_slice(), all.as_bytes(), "{bytes:?}"),
-            (Err(fault), Err(refusal)) => assert_eq!(rt; fault, refusal, "{bytes:?}"),
-            (_, _) => assert!(rt; false, "{bytes:?} to {limit}"),
-        }
+    for (text, limit, due) in cases {
+        let taken = taken(rt.alloc(), text, limit)?;
+        assert!(rt; taken.as_slice() == due.as_bytes(), "{text:?} to {limit}");
     }
     Ok(())
 }
 
+/// Whether so many bytes are taken whole, and written whole.
+fn pass_whole(alloc: Global, length: usize) -> Result<bool, Fail> {
+    let bytes = vec![in alloc; b'a'; length]?;
+    let mut source = MemSource::new(alloc, bytes.as_slice(), &[])?;
+    let taken = take_all(alloc, &mut source, 1 << 26)?;
+    let mut sink = MemSink::new(alloc, length)?;
+    let is_written = write_all(&mut sink, taken.as_slice()) == Ok(());
+    Ok(is_written && taken.as_slice() == bytes.as_slice() && sink.as_slice().len() == length)
+}
+
 #[test]
 fn large_sources_are_taken_whole(rt: HostRuntime) -> Result<(), Fail> {
-    let alloc = rt.alloc();
     for length in [65_536usize, 65_537, 1 << 20, (1 << 21) + 1] {
-        let bytes = vec![in alloc; b'a'; length]?;
-        let mut source = MemSource::new(alloc, bytes.as_slice(), &[])?;
-        let taken = take_all(alloc, &mut source, 1 << 26)?;
-        assert!(rt; taken.as_slice() == bytes.as_slice(), "{length}");
-        let mut sink = MemSink::new(alloc, length)?;
-        assert_eq!(rt; write_all(&mut sink, taken.as_slice()), Ok(()));
-        assert_eq!(rt; sink.as_slice().len(), length);
+        assert!(rt; pass_whole(rt.alloc(), length)?, "{length}");
     }
     Ok(())
 }
@@ -55,13 +63,13 @@ fn the_planned_reads_fail(rt: HostRuntime) -> Result<(), Fail> {
 
 #[test]
 fn a_full_sink_fails(rt: HostRuntime) -> Result<(), Fail> {
-    let alloc = rt.alloc();
-    let mut sink = MemSink::new(alloc, 2)?;
-    assert_eq!(rt; write_all(&mut sink, b""), Ok(()));
-    assert_eq!(rt; write_all(&mut sink, b"abc"), Err(Failed));
+    let mut sink = MemSink::new(rt.alloc(), 2)?;
+    for (piece, ended) in [("", Ok(())), ("abc", Err(Failed))] {
+        let written = write_all(&mut sink, piece.as_bytes());
+        assert!(rt; written == ended, "{piece:?}: {written:?}");
+    }
     assert_eq!(rt; sink.as_slice(), b"ab".as_slice());
-    assert_eq!(rt; sink.faults(), 1);
-    assert_eq!(rt; sink.write(b""), Ok(0));
+    assert_eq!(rt; (sink.faults(), sink.write(b"")), (1, Ok(0)));
     assert_eq!(rt; sink.into_bytes().as_slice(), b"ab".as_slice());
     Ok(())
 }
@@ -73,65 +81,84 @@ fn named(alloc: Global, name: &str, bytes: &str) -> Result<Named, NoMemory> {
     })
 }
 
+/// So many files, each of which has its number as its name and its bytes.
+fn numbered(alloc: Global, count: u16) -> Result<Items<Named>, NoMemory> {
+    let mut all = Items::new(alloc);
+    for number in 0..count {
+        let Ok(name) = number.to_string(alloc) else {
+            return Err(NoMemory);
+        };
+        all.push(named(alloc, name.as_str(), name.as_str())?)?;
+    }
+    Ok(all)
+}
+
+/// The bytes of a file, or why there are none.
+fn read(alloc: Global, files: &mut MemFiles, name: &str, limit: u64) -> Result<Bytes, Fail> {
+    let refusal = match files.read_all(alloc, name, limit) {
+        Ok(bytes) => return Ok(bytes),
+        Err(FilesFault::Missing) => "missing",
+        Err(FilesFault::TooLarge { size: 3 }) => "3 are too many",
+        Err(FilesFault::Failed) => "failed",
+        Err(_) => "another fault",
+    };
+    Ok(Bytes::from_slice(alloc, refusal.as_bytes())?)
+}
+
 #[test]
 fn two_thousand_files_are_kept(rt: HostRuntime) -> Result<(), Fail> {
     let alloc = rt.alloc();
-    let mut all = Items::new(alloc);
-    for number in 0..2_000u16 {
-        let name = number.to_string(alloc)?;
-        all.push(named(alloc, name.as_str(), name.as_str())?)?;
-    }
-    let mut files = MemFiles::new(alloc, all, &[])?;
-    assert_eq!(rt;
-        files.read_all(alloc, "1999", 4)?.as_slice(),
-        b"1999".as_slice()
-    );
+    let mut files = MemFiles::new(alloc, numbered(alloc, 2_000)?, &[])?;
+    let last = read(alloc, &mut files, "1999", 4)?;
+    assert_eq!(rt; last.as_slice(), b"1999".as_slice());
     Ok(())
+}
+
+/// Two files of one name, and an empty one. The fourth call fails.
+fn three_files(alloc: Global) -> Result<MemFiles, NoMemory> {
+    let mut all = Items::new(alloc);
+    all.push(named(alloc, "a", "one")?)?;
+    all.push(named(alloc, "a", "two")?)?;
+    all.push(named(alloc, "e", "")?)?;
+    MemFiles::new(alloc, all, &[3])
 }
 
 #[test]
 fn the_first_file_of_a_name_is_read(rt: HostRuntime) -> Result<(), Fail> {
     let alloc = rt.alloc();
-    let mut all = Items::new(alloc);
-    all.push(named(alloc, "a", "one")?)?;
-    all.push(named(alloc, "a", "two")?)?;
-    all.push(named(alloc, "e", "")?)?;
-    let mut files = MemFiles::new(alloc, all, &[3])?;
+    let mut files = three_files(alloc)?;
     let cases = [
-        ("a", 3, Ok("one")),
-        ("b", 3, Err(FilesFault::Missing)),
-        ("a", 2, Err(FilesFault::TooLarge { size: 3 })),
-        ("a", 3, Err(FilesFault::Failed)),
-        ("e", 0, Ok("")),
+        ("a", 3, "one"),
+        ("b", 3, "missing"),
+        ("a", 2, "3 are too many"),
+        ("a", 3, "failed"),
+        ("e", 0, ""),
     ];
-    for (name, limit, expected) in cases {
-        match (files.read_all(alloc, name, limit), expected) {
-            (Ok(bytes), Ok(all)) => assert_eq!(rt; bytes.as_slice(), all.as_bytes(), "{name:?}"),
-            (Err(fault), Err(refusal)) => assert_eq!(rt; fault, refusal, "{name:?}"),
-            (_, _) => assert!(rt; false, "{name:?} to {limit}"),
-        }
+    for (name, limit, due) in cases {
+        let read = read(alloc, &mut files, name, limit)?;
+        assert!(rt; read.as_slice() == due.as_bytes(), "{name:?} to {limit}");
     }
     Ok(())
 }
 
 /// A program without words, for a crew in memory.
-fn spawn(alloc: Global) -> Result<Request, NoMemory> {
-    Ok(Request::Spawn {
+fn spawn(alloc: Global) -> Request {
+    Request::Spawn {
         words: Items::new(alloc),
         dir: Bytes::new(alloc),
         env: Items::new(alloc),
         input: Bytes::new(alloc),
         limit: 1,
-    })
+    }
 }
 
-/// The reply of a hand that is hired for one test, and dismissed.
+/// What the reply of a hand is that is hired for one test, and dismissed.
 fn answer_in<C: Crew>(
     alloc: Global,
     crew: &mut C,
     test: u64,
     request: &Request,
-) -> Result<Reply, NoMemory>
+) -> Result<&'static str, NoMemory>
     requires { C.ready crew.old }
     ensures { C.ready crew.new }
 {
@@ -139,41 +166,71 @@ fn answer_in<C: Crew>(
     hand.begin(test);
     let reply = hand.ask(alloc, &[], request);
     crew.dismiss(hand);
-    reply
+    Ok(name_of(&reply?))
 }
 
-#[test]
-fn a_hand_answers_by_its_plan(rt: HostRuntime) -> Result<(), Fail> {
-    let alloc = rt.alloc();
+fn name_of(reply: &Reply) -> &'static str {
+    match reply {
+        Reply::Missing => "missing",
+        Reply::Broken => "broken",
+        _ => "another reply",
+    }
+}
+
+/// A crew that breaks at the first request of test 3.
+fn breaking_crew(alloc: Global) -> Result<MemCrew, NoMemory> {
     let mut plan = Items::new(alloc);
     plan.push(Planned {
         test: 3,
         earlier: 0,
         reply: Reply::Broken,
     })?;
-    let mut crew = MemCrew::new(alloc, plan);
-    let request = spawn(alloc)?;
-    assert!(rt; matches!(&answer_in(alloc, &mut crew, 1, &request)?, Reply::Missing));
-    assert!(rt; matches!(&answer_in(alloc, &mut crew, 3, &request)?, Reply::Broken));
-    let [first, second] = crew.hands() else {
-        return Err(Fail::from("two hands were dismissed"));
-    };
-    assert_eq!(rt; first.begun.as_slice(), [1u64].as_slice());
-    assert_eq!(rt; second.begun.as_slice(), [3u64].as_slice());
-    assert_eq!(rt; (first.asked, first.faults), (1, 0));
-    assert_eq!(rt; (second.asked, second.faults), (1, 1));
+    Ok(MemCrew::new(alloc, plan))
+}
+
+/// What hands answer that are hired for tests 1 and 3, one after the other.
+fn answers(alloc: Global, crew: &mut MemCrew) -> Result<(&'static str, &'static str), NoMemory> {
+    let request = spawn(alloc);
+    let first = answer_in(alloc, crew, 1, &request)?;
+    let second = answer_in(alloc, crew, 3, &request)?;
+    Ok((first, second))
+}
+
+/// Whether a hand began this test alone, was asked once and failed so often.
+fn has_worked(left: &Left, test: u64, faults: u64) -> bool {
+    left.begun.as_slice() == [test].as_slice() && left.asked == 1 && left.faults == faults
+}
+
+/// Whether two hands were dismissed, of which the second one failed.
+fn have_worked(hands: &[Left]) -> bool {
+    match hands {
+        [first, second] => has_worked(first, 1, 0) && has_worked(second, 3, 1),
+        _ => false,
+    }
+}
+
+#[test]
+fn a_hand_answers_by_its_plan(rt: HostRuntime) -> Result<(), Fail> {
+    let mut crew = breaking_crew(rt.alloc())?;
+    let answers = answers(rt.alloc(), &mut crew)?;
+    assert!(rt; answers == ("missing", "broken"), "{answers:?}");
+    assert!(rt; have_worked(crew.hands()), "{:?}", crew.hands());
     Ok(())
+}
+
+fn file_asked(alloc: Global) -> Result<Request, NoMemory> {
+    Ok(Request::ReadFile {
+        path: Bytes::from_slice(alloc, b"f")?,
+        limit: 10,
+    })
 }
 
 #[test]
 fn a_file_is_missing_where_nothing_is_planned(rt: HostRuntime) -> Result<(), Fail> {
     let alloc = rt.alloc();
     let mut crew = MemCrew::new(alloc, Items::new(alloc));
-    let request = Request::ReadFile {
-        path: Bytes::from_slice(alloc, b"f")?,
-        limit: 10,
-    };
-    assert!(rt; matches!(&answer_in(alloc, &mut crew, 0, &request)?, Reply::Missing));
+    let request = file_asked(alloc)?;
+    assert_eq!(rt; answer_in(alloc, &mut crew, 0, &request)?, "missing");
     assert_eq!(rt; crew.hands().len(), 1);
     Ok(())
 }

@@ -1,4 +1,6 @@
 //! What reading objects in memory gives, with ample memory, and how an answer ends where a stream is full.
+ghost use Rattle.std.specs.Prelude.{◌≡◌, IfOk};
+
 use std::alloc::Global;
 use std::test::Fail;
 use tt_base::{Bytes, Items, NoMemory};
@@ -24,23 +26,53 @@ fn one_file(alloc: Global, name: &[u8], bytes: &[u8], fails: &[u64]) -> Result<M
     MemFiles::new(alloc, files, fails)
 }
 
+/// Whether the file of a name is read as this.
+fn reads(
+    alloc: Global,
+    files: &mut MemFiles,
+    name: &str,
+    limit: u32,
+    due: &[u8],
+) -> Result<bool, NoMemory> {
+    let reading = read_named(alloc, name, u64::from(limit), files)?;
+    Ok(shown(&reading) == due)
+}
+
 #[test]
 fn a_file_is_read_whole_or_told_why_not(rt: HostRuntime) -> Result<(), Fail> {
     let alloc = rt.alloc();
     let mut files = one_file(alloc, b" a ", b"text", &[4])?;
-    let cases = [
-        (" a ", 4, b"text".as_slice()),
-        ("a", 4, b"missing"),
-        (" a ", 3, b"too large"),
-        (" a ", 4, b"text"),
-        (" a ", 4, b"failed"),
-        (" a ", 4, b"text"),
-    ];
-    for (name, limit, expected) in cases {
-        let reading = read_named(alloc, name, limit, &mut files)?;
-        assert_eq!(rt; shown(&reading), expected, "{name:?} to {limit}");
+    for (name, limit, due) in [
+        (" a ", 4, "text"),
+        ("a", 4, "missing"),
+        (" a ", 3, "too large"),
+        (" a ", 4, "text"),
+        (" a ", 4, "failed"),
+        (" a ", 4, "text"),
+    ] {
+        let is_read = reads(alloc, &mut files, name, limit, due.as_bytes())?;
+        assert!(rt; is_read, "{name:?} to {limit}: {due}");
     }
     Ok(())
+}
+
+/// Whether a file of these bytes is read whole.
+fn is_read_whole(alloc: Global, bytes: &[u8]) -> Result<bool, NoMemory> {
+    let mut files = one_file(alloc, b"f", bytes, &[])?;
+    reads(alloc, &mut files, "f", 1 << 21, bytes)
+}
+
+/// Whether a source of these bytes, some of whose reads fail, is read as this.
+fn is_taken_as(
+    alloc: Global,
+    bytes: &[u8],
+    limit: u32,
+    fails: &[u64],
+    due: &[u8],
+) -> Result<bool, NoMemory> {
+    let mut source = MemSource::new(alloc, bytes, fails)?;
+    let reading = read_source(alloc, u64::from(limit), &mut source)?;
+    Ok(shown(&reading) == due)
 }
 
 #[test]
@@ -48,12 +80,8 @@ fn an_empty_file_and_a_large_one_are_read(rt: HostRuntime) -> Result<(), Fail> {
     let alloc = rt.alloc();
     let large = vec![in alloc; b'a'; 1 << 21]?;
     for bytes in [b"".as_slice(), large.as_slice()] {
-        let mut files = one_file(alloc, b"f", bytes, &[])?;
-        let reading = read_named(alloc, "f", 1 << 21, &mut files)?;
-        assert!(rt; shown(&reading) == bytes);
-        let mut source = MemSource::new(alloc, bytes, &[])?;
-        let reading = read_source(alloc, 1 << 21, &mut source)?;
-        assert!(rt; shown(&reading) == bytes);
+        assert!(rt; is_read_whole(alloc, bytes)?);
+        assert!(rt; is_taken_as(alloc, bytes, 1 << 21, &[], bytes)?);
     }
     Ok(())
 }
@@ -61,42 +89,57 @@ fn an_empty_file_and_a_large_one_are_read(rt: HostRuntime) -> Result<(), Fail> {
 #[test]
 fn a_source_is_read_to_its_end_or_told_why_not(rt: HostRuntime) -> Result<(), Fail> {
     let alloc = rt.alloc();
-    let cases = [
-        (4, &[].as_slice(), b"text".as_slice()),
-        (3, &[].as_slice(), b"too large"),
-        (4, &[0].as_slice(), b"failed"),
-        (4, &[1].as_slice(), b"failed"),
-        (4, &[2].as_slice(), b"text"),
-    ];
-    for (limit, fails, expected) in cases {
-        let mut source = MemSource::new(alloc, b"text", fails)?;
-        let reading = read_source(alloc, limit, &mut source)?;
-        assert_eq!(rt; shown(&reading), expected, "{fails:?} to {limit}");
+    assert!(rt; is_taken_as(alloc, b"text", 4, &[], b"text")?);
+    assert!(rt; is_taken_as(alloc, b"text", 3, &[], b"too large")?);
+    for (fail, due) in [(0, "failed"), (1, "failed"), (2, "text")] {
+        let is_due = is_taken_as(alloc, b"text", 4, &[fail], due.as_bytes())?;
+        assert!(rt; is_due, "read {fail}: {due}");
     }
     Ok(())
 }
 
+/// A short answer with the status 1.
+fn answer(alloc: Global) -> Result<Answer, NoMemory>
+    ensures { IfOk result (λ answer. answer.status ≡ 1) }
+{
+    let out = Bytes::from_slice(alloc, b"out")?;
+    let err = Bytes::from_slice(alloc, b"err")?;
+    Ok(Answer {
+        out,
+        err,
+        status: 1,
+    })
+}
+
+/// A status, and what was written, as a line.
+fn joined(alloc: Global, status: u8, out: &MemSink, err: &MemSink) -> Result<Bytes, NoMemory> {
+    let mut text = Bytes::from_slice(alloc, &[b'0' + status.min(9), b' '])?;
+    text.append(out.as_slice())?;
+    text.append(b" ")?;
+    text.append(err.as_slice())?;
+    Ok(text)
+}
+
+/// The status, the output and the errors of an answer, where there is so much room for them.
+fn ended(alloc: Global, out_room: usize, err_room: usize) -> Result<Bytes, NoMemory> {
+    let answer = answer(alloc)?;
+    let mut out = MemSink::new(alloc, out_room)?;
+    let mut err = MemSink::new(alloc, err_room)?;
+    let status = write_answer(b"fault", &answer, &mut out, &mut err);
+    joined(alloc, status, &out, &err)
+}
+
 #[test]
 fn a_fault_of_the_output_is_told_once(rt: HostRuntime) -> Result<(), Fail> {
-    let alloc = rt.alloc();
-    let answer = Answer {
-        out: Bytes::from_slice(alloc, b"out")?,
-        err: Bytes::from_slice(alloc, b"err")?,
-        status: 1,
-    };
-    let cases = [
-        (3, 3, 1, b"out".as_slice(), b"err".as_slice()),
-        (2, 9, 3, b"ou", b"fault"),
-        (0, 2, 3, b"", b"fa"),
-        (3, 2, 3, b"out", b"er"),
-    ];
-    for (out_room, err_room, status, out_bytes, err_bytes) in cases {
-        let mut out = MemSink::new(alloc, out_room)?;
-        let mut err = MemSink::new(alloc, err_room)?;
-        let ended = write_answer(b"fault", &answer, &mut out, &mut err);
-        assert_eq!(rt; ended, status, "room for {out_room} and {err_room}");
-        assert_eq!(rt; out.as_slice(), out_bytes);
-        assert_eq!(rt; err.as_slice(), err_bytes);
+    for (out_room, err_room, due) in [
+        (3, 3, "1 out err"),
+        (2, 9, "3 ou fault"),
+        (0, 2, "3  fa"),
+        (3, 2, "3 out er"),
+    ] {
+        let ended = ended(rt.alloc(), out_room, err_room)?;
+        let is_due = ended.as_slice() == due.as_bytes();
+        assert!(rt; is_due, "room for {out_room} and {err_room}: {due}");
     }
     Ok(())
 }

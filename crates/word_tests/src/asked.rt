@@ -88,97 +88,104 @@ fn told(alloc: Global, line: &str) -> Result<Bytes, NoMemory> {
     }
 }
 
+/// Whether this is told of the words of a line.
+fn is_told(alloc: Global, line: &str, due: &str) -> Result<bool, NoMemory> {
+    Ok(told(alloc, line)?.as_slice() == due.as_bytes())
+}
+
+/// The words of a line, and what they ask for.
+const ASKED: [(&str, &str); 12] = [
+    ("t.txt", "t.txt <stdin>  [CHECK,] [COM,RUN,] [] []"),
+    (
+        "-strict-whitespace|--allow-empty|t.txt|--allow-unused-prefixes",
+        "t.txt <stdin> seu [CHECK,] [COM,RUN,] [] []",
+    ),
+    (
+        "--match-full-lines|-ignore-case|t.txt|--enable-var-scope|--dump-input=never",
+        "t.txt <stdin> liv [CHECK,] [COM,RUN,] [] []",
+    ),
+    (
+        "t.txt|--input-file|in.txt|-dump-input|never",
+        "t.txt in.txt  [CHECK,] [COM,RUN,] [] []",
+    ),
+    (
+        "-DX=1|t.txt|-D|#N=3|-D=|--D=x",
+        "t.txt <stdin>  [CHECK,] [COM,RUN,] [] [X=1,#N=3,=,=x,]",
+    ),
+    (
+        "t.txt|--implicit-check-not= a \t b\t|--implicit-check-not|c",
+        "t.txt <stdin> m [CHECK,] [COM,RUN,] [a b,c,] []",
+    ),
+    (
+        "t.txt|--implicit-check-not= a \t b\t|--strict-whitespace",
+        "t.txt <stdin> sm [CHECK,] [COM,RUN,] [a \t b,] []",
+    ),
+    (
+        "t.txt|--implicit-check-not=a|--check-prefix=CHECK",
+        "t.txt <stdin>  [CHECK,] [COM,RUN,] [a,] []",
+    ),
+    (
+        "t.txt|--implicit-check-not=a|--check-prefixes=A,B|--comment-prefixes=C",
+        "t.txt <stdin>  [A,B,] [C,] [a,] []",
+    ),
+    ("--generate=3", "three"),
+    ("-generate|20000", "most"),
+    (
+        "--|--generate",
+        "--generate <stdin>  [CHECK,] [COM,RUN,] [] []",
+    ),
+];
+
 #[test]
 fn each_option_asks_for_something(rt: HostRuntime) -> Result<(), Fail> {
-    let alloc = rt.alloc();
-    let cases = [
-        ("t.txt", "t.txt <stdin>  [CHECK,] [COM,RUN,] [] []"),
-        (
-            "-strict-whitespace|--allow-empty|t.txt|--allow-unused-prefixes",
-            "t.txt <stdin> seu [CHECK,] [COM,RUN,] [] []",
-        ),
-        (
-            "--match-full-lines|-ignore-case|t.txt|--enable-var-scope|--dump-input=never",
-            "t.txt <stdin> liv [CHECK,] [COM,RUN,] [] []",
-        ),
-        (
-            "t.txt|--input-file|in.txt|-dump-input|never",
-            "t.txt in.txt  [CHECK,] [COM,RUN,] [] []",
-        ),
-        (
-            "-DX=1|t.txt|-D|#N=3|-D=|--D=x",
-            "t.txt <stdin>  [CHECK,] [COM,RUN,] [] [X=1,#N=3,=,=x,]",
-        ),
-        (
-            "t.txt|--implicit-check-not= a \t b\t|--implicit-check-not|c",
-            "t.txt <stdin> m [CHECK,] [COM,RUN,] [a b,c,] []",
-        ),
-        (
-            "t.txt|--implicit-check-not= a \t b\t|--strict-whitespace",
-            "t.txt <stdin> sm [CHECK,] [COM,RUN,] [a \t b,] []",
-        ),
-        (
-            "t.txt|--implicit-check-not=a|--check-prefix=CHECK",
-            "t.txt <stdin>  [CHECK,] [COM,RUN,] [a,] []",
-        ),
-        (
-            "t.txt|--implicit-check-not=a|--check-prefixes=A,B|--comment-prefixes=C",
-            "t.txt <stdin>  [A,B,] [C,] [a,] []",
-        ),
-        ("--generate=3", "three"),
-        ("-generate|20000", "most"),
-        (
-            "--|--generate",
-            "--generate <stdin>  [CHECK,] [COM,RUN,] [] []",
-        ),
-    ];
-    for (line, due) in cases {
-        assert_eq!(rt; told(alloc, line)?.as_slice(), due.as_bytes(), "{line}");
+    for (line, due) in ASKED {
+        assert!(rt; is_told(rt.alloc(), line, due)?, "{line}: {due}");
     }
     Ok(())
 }
 
+/// The words of a line, and why they are refused.
+const REFUSED: [(&str, &str); 16] = [
+    (
+        "t.txt|--dump-input=fail",
+        "option '--dump-input=fail' takes no such value",
+    ),
+    (
+        "t.txt|-dump-input|always",
+        "option '-dump-input' takes no such value",
+    ),
+    (
+        "--dump-input=|--generate=3",
+        "option '--dump-input=' takes no such value",
+    ),
+    ("--dump-input=all|--nope", "unknown option '--nope'"),
+    ("--generate=0", "option '--generate=0' needs another number"),
+    ("-generate|20001", "option '-generate' needs another number"),
+    (
+        "--generate=3|--generate=4",
+        "option '--generate=4' given twice",
+    ),
+    ("--generate=3|t.txt", "misfit"),
+    ("--generate=3|--dump-input=never", "misfit"),
+    ("-DX=1|--generate=3|--check-prefix=1", "misfit"),
+    ("--implicit-check-not=", "not one file"),
+    ("t.txt|u.txt|--check-prefix=1", "not one file"),
+    (
+        "t.txt|--implicit-check-not=|--check-prefix=1A",
+        "bad prefix '1A'",
+    ),
+    ("t.txt|--implicit-check-not= \t ", "bad pattern ' \t '"),
+    ("t.txt|--implicit-check-not|", "bad pattern ''"),
+    (
+        "t.txt|--implicit-check-not=a|--implicit-check-not=a\nb|--implicit-check-not=",
+        "bad pattern 'a\nb'",
+    ),
+];
+
 #[test]
 fn words_are_refused_in_order(rt: HostRuntime) -> Result<(), Fail> {
-    let alloc = rt.alloc();
-    let cases = [
-        (
-            "t.txt|--dump-input=fail",
-            "option '--dump-input=fail' takes no such value",
-        ),
-        (
-            "t.txt|-dump-input|always",
-            "option '-dump-input' takes no such value",
-        ),
-        (
-            "--dump-input=|--generate=3",
-            "option '--dump-input=' takes no such value",
-        ),
-        ("--dump-input=all|--nope", "unknown option '--nope'"),
-        ("--generate=0", "option '--generate=0' needs another number"),
-        ("-generate|20001", "option '-generate' needs another number"),
-        (
-            "--generate=3|--generate=4",
-            "option '--generate=4' given twice",
-        ),
-        ("--generate=3|t.txt", "misfit"),
-        ("--generate=3|--dump-input=never", "misfit"),
-        ("-DX=1|--generate=3|--check-prefix=1", "misfit"),
-        ("--implicit-check-not=", "not one file"),
-        ("t.txt|u.txt|--check-prefix=1", "not one file"),
-        (
-            "t.txt|--implicit-check-not=|--check-prefix=1A",
-            "bad prefix '1A'",
-        ),
-        ("t.txt|--implicit-check-not= \t ", "bad pattern ' \t '"),
-        ("t.txt|--implicit-check-not|", "bad pattern ''"),
-        (
-            "t.txt|--implicit-check-not=a|--implicit-check-not=a\nb|--implicit-check-not=",
-            "bad pattern 'a\nb'",
-        ),
-    ];
-    for (line, due) in cases {
-        assert_eq!(rt; told(alloc, line)?.as_slice(), due.as_bytes(), "{line}");
+    for (line, due) in REFUSED {
+        assert!(rt; is_told(rt.alloc(), line, due)?, "{line}: {due}");
     }
     Ok(())
 }

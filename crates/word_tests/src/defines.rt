@@ -75,40 +75,53 @@ fn numbers_have_values(rt: HostRuntime) -> Result<(), Fail> {
     Ok(())
 }
 
+/// Values, and the one that is refused.
+const REFUSED: [(&str, &str); 22] = [
+    ("X=a|$Y=|X=b=c|#X=1", "none"),
+    ("X=a|Y|1Z=", "Y"),
+    ("1X=2", "1X=2"),
+    ("X Y=3", "X Y=3"),
+    ("=a", "=a"),
+    ("", ""),
+    ("#", "#"),
+    ("#N", "#N"),
+    ("#N:3", "#N:3"),
+    ("#N:=3", "#N:=3"),
+    ("#N=", "#N="),
+    ("#=3", "#=3"),
+    ("#N=@LINE", "#N=@LINE"),
+    ("#N=1]]", "#N=1]]"),
+    ("#%y,N=1", "#%y,N=1"),
+    ("#N=N", "#N=N"),
+    ("#M=N+1|#N=3", "#M=N+1"),
+    ("#%u,N=-1", "#%u,N=-1"),
+    ("#N=1|#M=div(N,0)", "#M=div(N,0)"),
+    (
+        "#N=170141183460469231731687303715884105727|#M=N+1",
+        "#M=N+1",
+    ),
+    ("#%x,A=1|#%u,B=1|#C=A+B", "#C=A+B"),
+    ("#%x,A=1|#%u,B=1|#%u,C=A+B", "none"),
+];
+
+/// Whether this one of the values is refused.
+fn is_refused(alloc: Global, line: &str, due: &str) -> Result<bool, NoMemory> {
+    Ok(refused(alloc, line)?.as_slice() == due.as_bytes())
+}
+
 #[test]
 fn the_first_bad_value_is_told(rt: HostRuntime) -> Result<(), Fail> {
-    let alloc = rt.alloc();
-    let cases = [
-        ("X=a|$Y=|X=b=c|#X=1", "none"),
-        ("X=a|Y|1Z=", "Y"),
-        ("1X=2", "1X=2"),
-        ("X Y=3", "X Y=3"),
-        ("=a", "=a"),
-        ("", ""),
-        ("#", "#"),
-        ("#N", "#N"),
-        ("#N:3", "#N:3"),
-        ("#N:=3", "#N:=3"),
-        ("#N=", "#N="),
-        ("#=3", "#=3"),
-        ("#N=@LINE", "#N=@LINE"),
-        ("#N=1]]", "#N=1]]"),
-        ("#%y,N=1", "#%y,N=1"),
-        ("#N=N", "#N=N"),
-        ("#M=N+1|#N=3", "#M=N+1"),
-        ("#%u,N=-1", "#%u,N=-1"),
-        ("#N=1|#M=div(N,0)", "#M=div(N,0)"),
-        (
-            "#N=170141183460469231731687303715884105727|#M=N+1",
-            "#M=N+1",
-        ),
-        ("#%x,A=1|#%u,B=1|#C=A+B", "#C=A+B"),
-        ("#%x,A=1|#%u,B=1|#%u,C=A+B", "none"),
-    ];
-    for (line, due) in cases {
-        assert_eq!(rt; refused(alloc, line)?.as_slice(), due.as_bytes(), "{line}");
+    for (line, due) in REFUSED {
+        assert!(rt; is_refused(rt.alloc(), line, due)?, "{line}: {due}");
     }
     Ok(())
+}
+
+/// The kind of format that `N` has behind these values.
+fn kind_of(alloc: Global, line: &str) -> Result<Option<FormatKind>, NoMemory> {
+    let defined = defined(alloc, line)?;
+    let format = defined.known.get(b"N");
+    Ok(format.map(|format: Format| format.kind))
 }
 
 #[test]
@@ -123,9 +136,7 @@ fn formats_are_known_behind_a_bad_value(rt: HostRuntime) -> Result<(), Fail> {
         ("#%x,N=|#%x,N=@LINE|N=1", None),
     ];
     for (line, due) in cases {
-        let known = defined(alloc, line)?.known.get(b"N");
-        let kind = known.map(|format: Format| format.kind);
-        assert!(rt; kind == due, "{line}");
+        assert!(rt; kind_of(alloc, line)? == due, "{line}");
     }
     Ok(())
 }
@@ -133,14 +144,12 @@ fn formats_are_known_behind_a_bad_value(rt: HostRuntime) -> Result<(), Fail> {
 #[test]
 fn variables_start_with_what_is_defined(rt: HostRuntime) -> Result<(), Fail> {
     let alloc = rt.alloc();
-    match started(alloc, "X=a|#N=3|X=b", "N|Z")? {
-        Some(vars) => {
-            assert!(rt; vars.has_place(b"Z") && !vars.has_place(b"Y"), "places");
-            assert!(rt; vars.number(b"N") == Some(3), "number");
-            let text = vars.text(b"X").map(|text| text.as_slice());
-            assert!(rt; text == Some(b"b".as_slice()), "text");
-        }
-        None => assert!(rt; false, "refused"),
-    }
+    let Some(vars) = started(alloc, "X=a|#N=3|X=b", "N|Z")? else {
+        return Err(Fail::from("refused"));
+    };
+    assert!(rt; vars.has_place(b"Z") && !vars.has_place(b"Y"), "places");
+    assert!(rt; vars.number(b"N") == Some(3), "number");
+    let text = vars.text(b"X").map(|text| text.as_slice());
+    assert!(rt; text == Some(b"b".as_slice()), "text");
     Ok(())
 }
