@@ -1,0 +1,3 @@
+pub mod CompleteLemmas
+pub mod FrontLemmas
+pub mod SoundLemmas

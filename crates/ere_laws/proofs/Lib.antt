@@ -1,0 +1,5 @@
+pub mod BoundSpelling
+pub mod BracketSpelling
+pub mod FrontSpelling
+pub mod PlaceLemmas
+pub mod TokenSpelling

@@ -1,0 +1,26 @@
+-- Laws of expressions.
+use Rattle.std.specs.Prelude.{◌≡◌, ℕ, Bool, List, Err, ◌≤◌, length, max, ◌↔◌}
+use Rattle.ere_tree.specs.Grammar.{reading}
+use Rattle.ere_tree.specs.Hit.{TellsHit}
+use Rattle.ere_tree.specs.Productions.{Takes}
+use Rattle.ere_tree.specs.Token.{Token}
+use Rattle.ere_tree.specs.Tree.{Tree}
+use Rattle.ere_tree.specs.declared.fault.EreFault.{EreFault}
+use Rattle.ere_tree.specs.declared.hit.Hit.{Hit}
+use Rattle.ere_laws.specs.Spelling.{SpellsToken}
+
+-- The law of tokens: a token is read at the front of a text exactly where the productions spell it there. So the
+-- productions of expressions, which go by tokens, stand on bytes.
+abbrev pub TokensAreSpelled : Type 0
+TokensAreSpelled = (text : List ℕ) (t : Token) (rest : List ℕ) → Takes text t rest ↔ SpellsToken text t rest
+
+-- The law of faults: the place of a text's first fault lies in the text, or at its end.
+abbrev pub FaultsLieWithin : Type 0
+FaultsLieWithin =
+    (fold : Bool) (text : List ℕ) (refused : EreFault) → reading fold text ≡ Err refused → refused.at ≤ length text
+
+-- The law of hits: a hit lies in its slice. Of an empty hit at the slice's start the end may be told before it.
+abbrev pub HitsLieWithin : Type 0
+HitsLieWithin =
+    (text : List ℕ) (t : Tree) (from : ℕ) (hit : Hit) → from ≤ length text → TellsHit text t from hit
+    → (from ≤ hit.from) × (hit.from ≤ max from hit.to) × (max from hit.to ≤ length text)

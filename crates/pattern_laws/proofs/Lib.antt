@@ -1,0 +1,4 @@
+pub mod GroupLemmas
+pub mod NumberLemmas
+pub mod RecallLemmas
+pub mod TextLemmas

@@ -1,0 +1,3 @@
+pub mod Groups
+pub mod Recalls
+pub mod Texts
