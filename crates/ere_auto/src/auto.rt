@@ -15,7 +15,7 @@ use crate::marks::Marks;
 use crate::rows::Rows;
 use crate::step::{Note, step};
 use crate::steps::Steps;
-use crate::thread::Thread;
+use crate::thread::{Thread, add_threads};
 use crate::threads::Threads;
 use ere_table::Table;
 use ere_tree::{Cap, Ere};
@@ -80,13 +80,14 @@ fn load(seeds: &mut Vec<Thread>, threads: &[Thread])
     ensures capacity { vec_capacity seeds.old ≤ vec_capacity seeds.new }
 {
     seeds.clear();
-    let _ = seeds.extend_from_slice(threads);
+    add_threads(seeds, threads);
 }
 
 impl Auto {
     ghost use Rattle.ere_auto.specs.State.{state_of};
 
-    /// The automaton of an expression. All room for searches is taken here.
+    /// The automaton of an expression. What it needs to search is taken here; for what it learns it takes more where there
+    /// is some.
     pub fn build(alloc: Global, ere: &Ere) -> Result<Auto, NoMemory>
         requires { has_refs (view ere.now) ≡ false }
         ensures fresh { IfOk result (λ made. HasSeen (state_of made) (view ere.now) []) }
@@ -164,6 +165,7 @@ impl Auto {
     }
 
     /// The step from the threads of the row. `moved` gets those behind it.
+    #[inline(always)]
     fn step(&mut self, next: Option<u8>) -> Note
         ensures step { IsStep (node_at self.old.table.nodes.items) self.old.table.entry
             (threads_of (row_table_of self.old.rows) self.old.row) self.new.moved.held.items

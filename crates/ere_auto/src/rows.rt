@@ -5,7 +5,7 @@ ghost use Rattle.ere_auto.specs.Closure.{node_in, origin_in};
 ghost use Rattle.ere_auto.specs.RowTable.{row_in, threads_in, threads_of, cell_of, AreSteps, Keeps, IsRow, Leads, slot_or_zero};
 
 use crate::row::Row;
-use crate::thread::Thread;
+use crate::thread::{Thread, add_threads};
 use std::alloc::{AllocError, Global};
 
 /// How many rows are kept.
@@ -20,6 +20,12 @@ const TRIES: usize = 8;
 /// For how many threads of each row there is room, one with the other.
 const ROW_WIDTH: usize = 16;
 
+/// From how many rows on a row is looked for before it is made.
+const FEW_ROWS: usize = 16;
+
+/// For how many rows there is room at first. Where there is no memory for more, rows are dropped.
+const FIRST_ROWS: usize = 24;
+
 /// The rows that were met, and to which of them each byte leads. Rows 0 and 1 have no thread: a line starts at row 0.
 #[derive(Drop)]
 pub struct Rows {
@@ -31,16 +37,16 @@ pub struct Rows {
     room: usize,
     pub ghost two: { 2 ≤ vec_len rows },
     pub ghost few: { vec_len rows ≤ 192 },
-    ghost rows_room: { 192 ≤ vec_capacity rows },
+    ghost rows_room: { 2 < vec_capacity rows },
     pub ghost square: { vec_len cells ≡ 256 * vec_len rows },
-    ghost cells_room: { 49152 ≤ vec_capacity cells },
+    ghost cells_room: { 768 ≤ vec_capacity cells },
     pub ghost inside: { (k : ℕ) → k < vec_len cells → slice_index cells.items k < vec_len rows },
     pub ghost ordered: { (r : ℕ) → r < vec_len rows → (row_in rows.items r).from ≤ (row_in rows.items r).to },
     pub ghost ranges: { (r : ℕ) → r < vec_len rows → (row_in rows.items r).to ≤ vec_len pool },
     pub ghost narrow: { (r : ℕ) → r < vec_len rows →
         (row_in rows.items r).to ≤ (row_in rows.items r).from + nodes },
     ghost pool_fits: { vec_len pool ≤ room },
-    ghost pool_room: { room ≤ vec_capacity pool },
+    ghost pool_room: { nodes ≤ vec_capacity pool },
     ghost wide: { nodes ≤ room },
     ghost slots: { vec_len index ≡ 512 },
     pub ghost begun: { (r : ℕ) → r < vec_len rows → slot_or_zero (row_in rows.items r).begun ≤ nodes },
@@ -58,9 +64,9 @@ pub struct Rows {
 }
 
 impl Rows {
-    ghost use Rattle.ere_auto.specs.RowTableView.{row_table_of};
+    ghost use Rattle.ere_auto.specs.RowTableView.{row_table_of, HasRoom};
 
-    /// The first two rows, for a table of so many nodes. All room is taken here.
+    /// The first two rows, for a table of so many nodes, and room for some more.
     pub fn new(alloc: Global, nodes: usize) -> Result<Rows, AllocError>
         ensures nodes { IfOk result (λ made. made.nodes ≡ nodes) }
         ensures steps { IfOk result (λ made. (T : ℕ → Node) (e : ℕ) → AreSteps T e (row_table_of made)) }
@@ -68,8 +74,9 @@ impl Rows {
         let Some(room) = nodes.checked_add(MAX_ROWS * ROW_WIDTH) else {
             return Err(AllocError);
         };
-        let pool = Vec::with_capacity(alloc, room)?;
-        let mut rows = Vec::with_capacity(alloc, MAX_ROWS)?;
+        let first = nodes + 2 * FIRST_ROWS;
+        let pool = Vec::with_capacity(alloc, first)?;
+        let mut rows = Vec::with_capacity(alloc, FIRST_ROWS)?;
         rows.push_reserved(Row {
             from: 0,
             to: 0,
@@ -88,7 +95,7 @@ impl Rows {
             begun: None,
             met: None,
         });
-        let mut cells = Vec::with_capacity(alloc, 256 * MAX_ROWS)?;
+        let mut cells = Vec::with_capacity(alloc, 256 * FIRST_ROWS)?;
         add_cells(&mut cells);
         add_cells(&mut cells);
         let index = vec![in alloc; 0u8; SLOTS]?;
@@ -190,7 +197,7 @@ impl Rows {
     }
 
     /// The row that the index has for these threads. Those that no slot has are kept in the first free one, or else in the
-    /// first.
+    /// first. While rows are few, none is looked for: most searches are short, and making a row anew is as fast.
     fn look(
         &self,
         threads: &[Thread],
@@ -202,6 +209,9 @@ impl Rows {
         ensures row { IfSome result.row (λ row. IsRow (row_table_of self.now) row threads.now line searching begun met) }
         ensures slot { result.slot < 512 }
     {
+        if self.rows.len() < FEW_ROWS {
+            return Looked { row: None, slot: 0 };
+        }
         let first = slot_of(threads, line, searching, met);
         for step in 0..TRIES {
             let slot = (first + step) % SLOTS;
@@ -237,6 +247,19 @@ impl Rows {
         add_cells(&mut self.cells);
     }
 
+    /// Takes memory for a row of so many threads, and tells whether there was enough.
+    fn grow(&mut self, count: usize) -> bool
+        ensures table { row_table_of self.new ≡ row_table_of self.old }
+        ensures nodes { self.new.nodes ≡ self.old.nodes }
+        ensures room { self.new.room ≡ self.old.room }
+        ensures lens { (vec_len self.new.rows ≡ vec_len self.old.rows) × (vec_len self.new.pool ≡ vec_len self.old.pool) }
+        ensures has { result ≡ true → HasRoom self.new count }
+    {
+        self.rows.reserve(1).is_ok()
+            && self.cells.reserve(256).is_ok()
+            && self.pool.reserve(count).is_ok()
+    }
+
     /// Makes room for a row of so many threads, and tells whether all rows were kept.
     fn make_room(&mut self, count: usize) -> bool
         requires { count ≤ self.old.nodes }
@@ -244,9 +267,11 @@ impl Rows {
         ensures kept { result ≡ true → Keeps (row_table_of self.old) (row_table_of self.new) }
         ensures rows { vec_len self.new.rows < 192 }
         ensures pool { vec_len self.new.pool + count ≤ self.new.room }
+        ensures has { HasRoom self.new count }
         ensures nodes { self.new.nodes ≡ self.old.nodes }
     {
-        if self.rows.len() < MAX_ROWS && count <= self.room - self.pool.len() {
+        let few = self.rows.len() < MAX_ROWS && count <= self.room - self.pool.len();
+        if few && self.grow(count) {
             return true;
         }
         self.clear();
@@ -264,6 +289,7 @@ impl Rows {
     ) -> usize
         requires few { vec_len self.old.rows < 192 }
         requires room { vec_len self.old.pool + length threads.now ≤ self.old.room }
+        requires has { HasRoom self.old (length threads.now) }
         requires narrow { length threads.now ≤ self.old.nodes }
         requires begun { slot_or_zero begun ≤ self.old.nodes }
         requires met { slot_or_zero met ≤ self.old.nodes }
@@ -342,16 +368,6 @@ fn is_over(searching: bool, from: usize, to: usize) -> bool
     ensures { result ≡ (not searching && from == to) }
 {
     !searching && from == to
-}
-
-/// Adds threads, for which there is room.
-fn add_threads(pool: &mut Vec<Thread>, threads: &[Thread])
-    requires { vec_len pool.old + length threads.now ≤ vec_capacity pool.old }
-    ensures items { pool.new.items ≡ pool.old.items ++ threads.now }
-    ensures len { vec_len pool.new ≡ vec_len pool.old + length threads.now }
-    ensures capacity { vec_capacity pool.old ≤ vec_capacity pool.new }
-{
-    let _ = pool.extend_from_slice(threads);
 }
 
 /// Adds the cells of a row, of which none is known. There is room for them.

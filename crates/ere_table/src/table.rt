@@ -9,6 +9,9 @@ use crate::node::Node;
 use ere_tree::Ere;
 use std::alloc::{AllocError, Global};
 
+/// For how many nodes there is room at first: most expressions have fewer.
+const FIRST_NODES: usize = 32;
+
 /// An expression as nodes that name each other by their places. It is entered at `entry`, and left at node 0.
 #[derive(Drop, Debug)]
 pub struct Table {
@@ -26,7 +29,8 @@ impl Table {
         requires { has_refs (view ere.now) ≡ false }
         ensures { IfOk result (λ table. LeadsAs table.nodes.items table.entry (view ere.now)) }
     {
-        let nodes = Vec::from_slice(alloc, &[Node::Stop])?;
+        let mut nodes = Vec::with_capacity(alloc, FIRST_NODES)?;
+        nodes.push_reserved(Node::Stop);
         let mut table = Table { nodes, entry: 0 };
         table.put(ere)?;
         Ok(table)

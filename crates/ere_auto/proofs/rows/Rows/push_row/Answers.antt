@@ -45,7 +45,7 @@ invariant_of-self c =
           (omega (arith, c.len-from.ensures, c.len-to.ensures, c.add_threads.ensures.len)) r
           (omega (arith, l, c.push_reserved.ensures.len, long));
       ranges = λ r l.
-          each_row (λ x. x.to ≤ c.add_threads.new.pool.len) rows new row e
+          each_row (λ x. x.to ≤ c.add_threads.new.list.len) rows new row e
           (λ i m. omega (arith, old.ranges i (omega (arith, m, long)), c.add_threads.ensures.len))
           (omega (arith, c.len-to.ensures)) r (omega (arith, l, c.push_reserved.ensures.len, long));
       narrow = λ r l.
@@ -64,11 +64,11 @@ invariant_of-self c =
           each_row (λ x. slot_or_zero x.met ≤ old.nodes) rows new row e (λ i m. old.met i (omega (arith, m, long)))
           c.requires.met r (omega (arith, l, c.push_reserved.ensures.len, long));
       origins = λ x l.
-          each_thread (λ t. t.origin ≤ old.nodes) pool c.args.threads.now c.add_threads.new.pool.items z
+          each_thread (λ t. t.origin ≤ old.nodes) pool c.args.threads.now c.add_threads.new.list.items z
           c.add_threads.ensures.items (λ i m. old.origins i (omega (arith, m, wide))) c.requires.origins x
           (omega (arith, l, c.add_threads.ensures.len, wide));
       within = λ x l.
-          each_thread (λ t. t.node < old.nodes) pool c.args.threads.now c.add_threads.new.pool.items z
+          each_thread (λ t. t.node < old.nodes) pool c.args.threads.now c.add_threads.new.list.items z
           c.add_threads.ensures.items (λ i m. old.within i (omega (arith, m, wide))) c.requires.within x
           (omega (arith, l, c.add_threads.ensures.len, wide));
       over = λ r l.
