@@ -24,7 +24,7 @@ pub struct Search {
 }
 
 impl Search {
-    /// A search for an expression. All room for it is taken here.
+    /// A search for an expression. What it needs to search is taken here.
     pub fn new(alloc: Global, ere: &Ere) -> Result<Search, NoMemory>
         requires { has_refs (view ere.now) ≡ false }
         ensures { IfOk result (λ made. IsFor (state_of made.automaton) (view ere.now)) }
@@ -90,7 +90,9 @@ impl Search {
 }
 
 /// The hit of the expression in the slice from `from` to the text's end, with offsets of the text. One with references
-/// is looked for among all its derivations. Whoever looks for one expression in many slices keeps a `Search`.
+/// is looked for among all its derivations, unless plain text of it stands nowhere. Whoever looks for one expression in
+/// many slices keeps a `Search`.
+#[tactic(auto, using(crate::proofs::HitLemmas::no_hit_before))]
 pub fn find<L: Ledger>(
     alloc: Global,
     ere: &Ere,
@@ -106,6 +108,10 @@ pub fn find<L: Ledger>(
     ensures counted { steps.old ≤ steps.new }
 {
     if ere.has_refs() {
+        let rest = text.split_at(from).1;
+        if earliest(ere, rest) > rest.len() {
+            return Ok(None);
+        }
         return match slow_hit(alloc, ere, text, from) {
             Ok(found) => Ok(found),
             Err(_) => Err(NoMemory),

@@ -32,3 +32,7 @@ IsMostPreferred ds best =
 -- the offsets of these captures, counted from `start` bytes before the slice, are numbers of the program
 abbrev pub FitBehind : ℕ → Captures → Type 0
 FitBehind start c = (n : ℕ) (p : ℕ × ℕ) → get c n ≡ Some p → (start + p.0 < 2 ^ 64) × (start + p.1 < 2 ^ 64)
+
+-- no derivation of the tree begins at the place
+abbrev pub DerivesNothing : List ℕ → Tree → ℕ → Type 0
+DerivesNothing s t i = (w : Way) (j : ℕ) (c d : Captures) → Derives s t w i j c d → ⊥

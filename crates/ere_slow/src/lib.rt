@@ -2,6 +2,7 @@
 //! Later matchers are compared with it on small texts.
 #![tactic(auto)]
 
+mod begin;
 mod settings;
 mod slow;
 mod way;

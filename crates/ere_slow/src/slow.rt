@@ -11,6 +11,7 @@ ghost use Rattle.ere_tree.specs.Hit.{IsHit, HasNoHit, TellsHit, FindsHit};
 ghost use Rattle.ere_slow.specs.Slow.{AreDerivations, AreAllDerivations, IsPreferredTo, IsMostPreferred, FitBehind};
 ghost use Rattle.ere_slow.specs.WayView.{captures_of};
 
+use crate::begin::may_begin;
 use crate::settings::Settings;
 use crate::way::{OwnedStep, OwnedWay, OwnedWays};
 use ere_tree::{ByteSet, Cap, Caps, Ere, EreList, Hit};
@@ -43,7 +44,7 @@ fn part_of(text: &[u8], from: usize, to: usize) -> &[u8]
 }
 
 /// Whether the bytes stand in the text at `from`.
-fn stands_at(text: &[u8], from: usize, bytes: &[u8], fold: bool) -> bool
+pub(crate) fn stands_at(text: &[u8], from: usize, bytes: &[u8], fold: bool) -> bool
     ensures { result ≡ stands fold text.now from bytes.now }
 {
     if from > text.len() || bytes.len() > text.len() - from {
@@ -63,7 +64,7 @@ fn is_newline_at(text: &[u8], at: usize) -> bool
     at < text.len() && text[at] == b'\n'
 }
 
-fn is_in_set_at(set: &ByteSet, text: &[u8], at: usize) -> bool
+pub(crate) fn is_in_set_at(set: &ByteSet, text: &[u8], at: usize) -> bool
     ensures { result ≡ is_one_of (members_of set.now.bits) text.now at }
 {
     at < text.len() && set.has(text[at])
@@ -514,9 +515,11 @@ fn first_derived(
         (λ hit. IsHit slice.now (view ere.now) hit.0 hit.1.to (captures_of hit.1.captures))) }
 {
     for start in 0..slice.len() + 1 {
-        let found = derivations(alloc, ere, slice, start)?;
-        if let Some(best) = most_preferred(found) {
-            return Ok(Some((start, best)));
+        if may_begin(ere, slice, start) {
+            let found = derivations(alloc, ere, slice, start)?;
+            if let Some(best) = most_preferred(found) {
+                return Ok(Some((start, best)));
+            }
         }
     }
     Ok(None)
