@@ -1,2 +1,3 @@
 pub mod NamesLemmas
 pub mod SeekLemmas
+pub mod StoredLemmas

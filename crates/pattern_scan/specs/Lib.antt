@@ -1,3 +1,4 @@
 pub mod Means
 pub mod Ready
 pub mod Seek
+pub mod Stored

@@ -6,6 +6,7 @@ mod means;
 mod ready;
 mod seeking;
 mod sought;
+mod stored;
 
 pub use ready::{Ready, prepare};
 pub use seeking::{plain_text, seek};

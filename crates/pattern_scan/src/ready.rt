@@ -32,7 +32,7 @@ pub struct Ready {
 }
 
 /// Whether one of the pieces is a regular expression or defines a text by one.
-fn is_expressed(pieces: &[Piece]) -> bool
+pub(crate) fn is_expressed(pieces: &[Piece]) -> bool
     ensures { result ≡ is_expressed (items_view pieces.now) }
 {
     for piece in pieces {

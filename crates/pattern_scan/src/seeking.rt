@@ -10,6 +10,7 @@ ghost use Rattle.pattern_scan.specs.Seek.{ArePlaced, IsPlain, IsShown, IsWithin,
 
 use crate::ready::prepare;
 use crate::sought::Sought;
+use crate::stored::stored_text;
 use ere_auto::Steps;
 use ere_tree::Hit;
 use pattern_hits::find_text;
@@ -94,6 +95,9 @@ pub fn seek<L: Ledger>(
 {
     if let Some(needle) = plain_text(pattern) {
         return Ok(plain_answer(alloc, find_text(alloc, needle, text, from)));
+    }
+    if let Some(needle) = stored_text(alloc, pattern, vars)? {
+        return Ok(plain_answer(alloc, find_text(alloc, needle.as_slice(), text, from)));
     }
     seek_once(alloc, pattern, vars, text, from, line, steps)
 }
