@@ -6,6 +6,7 @@ pub mod GroupLemmas
 pub mod LawLemmas
 pub mod LiesLemmas
 pub mod LineLemmas
+pub mod NearLemmas
 pub mod OrderLemmas
 pub mod PlacedLemmas
 pub mod RegionLemmas

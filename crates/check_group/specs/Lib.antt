@@ -6,5 +6,6 @@ pub mod Laws
 pub mod Lies
 pub mod Lines
 pub mod Matches
+pub mod Near
 pub mod Region
 pub mod Tries

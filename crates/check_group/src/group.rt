@@ -4,11 +4,13 @@ ghost use Rattle.check_group.specs.Changes.{IsPartWay, IsReady};
 ghost use Rattle.check_group.specs.Continues.{Comes, LiesIn};
 ghost use Rattle.check_group.specs.Group.{AreInOrder, AreSameText, EndsBy, IsTriedFrom, group_at, lowest, placed, reach};
 ghost use Rattle.check_group.specs.Matches.{Fits};
+ghost use Rattle.check_group.specs.Near.{BeginsNowhere};
 ghost use Rattle.check_group.specs.declared.directive.Check.{Check};
 
 use crate::answer::{Matched, Met};
 use crate::directive::Check;
 use crate::fault::{Fault, FaultKind};
+use crate::near::{earliest, firsts_of, look_near};
 use crate::ranges::{lowest_overlapped, passed, place_among};
 use crate::tries::Tries;
 use ere_auto::Steps;
@@ -19,7 +21,8 @@ use std::sync::ledger::Ledger;
 use tt_base::{NoMemory, Span};
 
 #[tactic(auto, using(crate::proofs::TriedLemmas::tried_failed, crate::proofs::TriedLemmas::ends_later))]
-/// A member of a group, placed against the ranges before it, which stand in order. Its tries begin at `from`.
+/// A member of a group, placed against the ranges before it, which stand in order. Its tries begin at `from`, and it begins
+/// nowhere before `earliest`.
 fn place_member<L: Ledger>(
     alloc: Global,
     check: &Check,
@@ -28,10 +31,13 @@ fn place_member<L: Ledger>(
     ranges: &[Span],
     place: usize,
     from: usize,
+    earliest: usize,
     steps: &mut Steps<L>,
 ) -> Result<Result<Met, FaultKind>, NoMemory>
     requires later { place ≤ from }
     requires here { from ≤ length text.now }
+    requires within { earliest ≤ length text.now }
+    requires nowhere { BeginsNowhere text.now check.now place earliest }
     requires ready { IsReady vars.now check.now }
     requires ranges { All (EndsBy (length text.now)) ranges.now }
     requires in_order { AreInOrder ranges.now }
@@ -44,7 +50,7 @@ fn place_member<L: Ledger>(
     let mut from = from;
     let mut at = 0;
     loop {
-        match tries.look(alloc, check, vars, text, 0, from, steps)? {
+        match look_near(alloc, &mut tries, check, vars, text, from, earliest, steps)? {
             Err(kind) => return Ok(Err(kind)),
             Ok(m) => {
                 // The tries' starts rise, so no later try overlaps what ends at or before this match's start.
@@ -116,6 +122,7 @@ pub fn place_group<L: Ledger>(
     ensures part_way { OnErr result
         (IsPartWay (group_at text.now place vars.old checks.now).changes vars.old vars.new) }
 {
+    let known = firsts_of(alloc, checks, text.split_at(place).1)?;
     let mut ranges: Vec<Span> = Vec::new(alloc);
     let mut reached = Matched {
         from: text.len(),
@@ -132,6 +139,7 @@ pub fn place_group<L: Ledger>(
             ranges.as_slice(),
             place,
             from,
+            earliest(&known, check, text, place),
             steps,
         )? {
             Ok(m) => {

@@ -9,6 +9,7 @@ mod fault;
 mod group;
 mod laws;
 mod lines;
+mod near;
 mod ranges;
 mod region;
 mod tries;

@@ -12,7 +12,8 @@ use crate::answer::{Met, answered, look};
 use crate::directive::Check;
 use crate::fault::FaultKind;
 use ere_auto::Steps;
-use pattern_scan::{Ready, Sought, plain_text, prepare};
+use pattern_parse::{Frame, Pattern, Piece};
+use pattern_scan::{Ready, Sought, prepare};
 use pattern_vars::{Bindings, Vars};
 use std::alloc::Global;
 use std::sync::ledger::Ledger;
@@ -52,12 +53,21 @@ fn sought_again<L: Ledger>(
     ready.seek(alloc, text, from, steps)
 }
 
+/// Whether a pattern has no piece but plain text and recalls, and so is sought as bytes at each try.
+fn is_text(pattern: &Pattern) -> bool {
+    if pattern.fold || !matches!(pattern.frame, Frame::Open) {
+        return false;
+    }
+    let pieces = pattern.pieces.as_slice();
+    pieces.iter().all(|piece| matches!(piece, Piece::Plain(_) | Piece::Recall { .. }))
+}
+
 /// What is made for the tries of a directive.
 fn made(alloc: Global, check: &Check, vars: &Vars) -> Result<Tries, NoMemory>
     requires { IsReady vars.now check.now }
     ensures { IfOk result (λ tries. AreFor tries check.now vars.now) }
 {
-    if plain_text(&check.pattern).is_some() {
+    if is_text(&check.pattern) {
         return Ok(Tries::Plain);
     }
     let ready = prepare(alloc, &check.pattern, vars, check.line)?;

@@ -14,3 +14,7 @@ slot_at text at = slot (slice_index_or text at 0) (slice_index_or text (at + 1) 
 -- the slot of each window of the text is marked
 abbrev pub Covers : List Bool → List ℕ → Type 0
 Covers marked text = (at : ℕ) → at + 4 ≤ length text → slice_index_or marked (slot_at text at) false ≡ true
+
+-- no window of the text begins before the place that is kept for its slot; four slots share one
+abbrev pub ArePlaces : List ℕ → List ℕ → Type 0
+ArePlaces places text = (at : ℕ) → at + 4 ≤ length text → slice_index_or places (slot_at text at / 4) 0 ≤ at

@@ -8,7 +8,7 @@ use std::marker::Model;
 use tt_base::NoMemory;
 
 /// How many bytes a window has.
-const WIDTH: usize = 4;
+pub(crate) const WIDTH: usize = 4;
 
 /// In how many slots the windows are kept. Two windows may share one.
 const SLOTS: usize = 1 << 18;
@@ -31,7 +31,7 @@ impl Model for Windows {
 
 /// The slot of the window at a place.
 #[tactic(auto, unfolding(crate::specs::Windows::slot_at))]
-fn slot_at(text: &[u8], at: usize) -> usize
+pub(crate) fn slot_at(text: &[u8], at: usize) -> usize
     requires { at + 4 ≤ length text.now }
     ensures value { result ≡ slot_at text.now at }
     ensures within { result < 262144 }

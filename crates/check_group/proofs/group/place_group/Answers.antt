@@ -4,6 +4,7 @@ use Rattle.check_group.specs.Group.{AreInOrder, EndsBy, group, group_at, lowest,
 use Rattle.check_group.specs.Changes.{IsReady}
 use Rattle.check_group.specs.Continues.{Continues, LiesIn}
 use Rattle.check_group.specs.Matches.{Fits}
+use Rattle.check_group.specs.Near.{AreFirstsOf}
 use Rattle.check_group.specs.declared.directive.Check.{Check}
 use Rattle.check_group.proofs.ContinuesLemmas.{continues_part_way, continues_ready, continues_whole, part_way_any}
 use Rattle.check_group.proofs.GroupLemmas.{group_goes_on, group_ends_failed, group_ends, reach_lies}
@@ -17,6 +18,7 @@ loop-index-init g c =
     let a = c.args in
     let whole = group_at a.text.now a.place a.vars.now a.checks.now in
     record {
+      known = subst (λ slice. AreFirstsOf slice c.in_ok-known.known) c.split_at.ensures.back c.in_ok-known.ensures;
       within = λ k d low. absurd (omega (arith, ap length c.new-ranges.ensures.items, low));
       in_order = subst AreInOrder (sym c.new-ranges.ensures.items) tt;
       reached = (c.requires.here, le_refl (length a.text.now), c.requires.here);
@@ -82,6 +84,7 @@ loop-index-preserved g c =
     sym c.in-Ok.is ∙ c.in_ok-m.ensures.value
     ∙ ap (λ ranges. placed a.text.now l.vars ranges c.index-checks-index.result a.place) c.as_slice.ensures.value in
     record {
+      known = l.invariant.known;
       in_order = subst AreInOrder (sym placed_now) (order_placed m.span l.ranges.items l.invariant.in_order free);
       resumes = λ one some.
           subst (λ prev. Resumes a.text.now c.bind.new.self c.place_among.new.ranges.items a.place prev c.next_try-behind.result)
@@ -104,3 +107,13 @@ returns-clause-value g c =
     group_ends a.text.now a.place c.loop-index.vars c.loop-index.ranges.items c.loop-index.reached a.checks.now
     c.loop-index.index (group_at a.text.now a.place a.vars.now a.checks.now) a.vars.now c.loop-index-test.false
     c.loop-index.invariant.rest
+
+pub returns-in_err-known-clause-part_way : goal.returns-in_err-known-clause-part_way
+returns-in_err-known-clause-part_way g c =
+    let a = c.args in
+    part_way_any c.from_residual.result
+    (continues_part_way _ _ a.vars.now a.vars.now
+    (continues_whole (group_at a.text.now a.place a.vars.now a.checks.now) a.vars.now))
+
+pub earliest-requires-clause-known : goal.earliest-requires-clause-known
+earliest-requires-clause-known g c = c.loop-index.invariant.known

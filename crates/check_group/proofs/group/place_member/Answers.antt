@@ -1,4 +1,5 @@
 use Rattle.std.proofs.Common.{◌≤◌, IfOk, length, sym, ◌∙◌, ap, subst, arith, All, take}
+use Rattle.std.proofs.Math.Nat.{le_trans}
 use Rattle.std.proofs.lemmas.List.Elements.{All-drop}
 use Rattle.check_group.specs.Group.{AreInOrder, EndsBy, lowest}
 use Rattle.check_group.specs.Matches.{Fits, looked}
@@ -63,10 +64,14 @@ loop-tries-preserved g c =
     (c.in-Some.ensures.value ∙ ap (lowest m.span) back) (omega (arith, fits.low, c.in-Some.ensures.behind)) ends chain.1 in
     record {
       behind = omega (arith, c.loop-tries.invariant.behind, fits.low, c.in-Some.ensures.behind);
-      same = c.look.ensures.same;
+      same = c.look_near.ensures.same;
       within = ends;
       at = c.passed-at.ensures.within;
       passed = ends_later m.span.from range.to (take c.passed-at.result a.ranges.now) (omega (arith, c.in-Some.ensures.behind))
           c.passed-at.ensures.before;
       chain = (on.0, on.1, on.2 ∙ chain.2);
     }
+
+pub look_near-requires-clause-nowhere : goal.look_near-requires-clause-nowhere
+look_near-requires-clause-nowhere g c = λ bytes is at low high there.
+    c.requires.nowhere bytes is at (le_trans c.loop-tries.invariant.behind low) high there

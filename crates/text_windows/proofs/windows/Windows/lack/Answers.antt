@@ -1,5 +1,4 @@
-use Rattle.std.proofs.Common.{◌∙◌, sym, arith, ap, ◌≡◌, false}
-use Rattle.std.specs.Prelude.{slice_index_or}
+use Rattle.std.proofs.Common.{arith}
 use Rattle.text_windows.proofs.WindowLemmas.{lacking}
 use Rattle.text_windows.proofs.windows.Windows.lack.Goals as goal
 

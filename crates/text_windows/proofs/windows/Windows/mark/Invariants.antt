@@ -1,4 +1,4 @@
-use Rattle.std.proofs.Common.{◌≡◌, ◌<◌, ℕ, true, false, length, slice_index_or}
+use Rattle.std.proofs.Common.{◌≡◌, ◌<◌, ℕ, true, false, slice_index_or}
 use Rattle.text_windows.specs.Windows.{slot_at}
 use Rattle.text_windows.proofs.windows.Windows.mark.Given as goal
 
