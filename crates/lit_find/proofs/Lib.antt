@@ -1,5 +1,6 @@
 pub mod ChildLemmas
 pub mod EntryLemmas
+pub mod GatherLemmas
 pub mod InsideLemmas
 pub mod OrderLemmas
 pub mod PathLemmas

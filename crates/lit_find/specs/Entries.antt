@@ -1,9 +1,10 @@
 -- Places under keys: what the code's maps hold.
 -- Own rule.
-use Rattle.std.specs.Prelude.{◌≡◌, ℕ, List, map, Vec}
+use Rattle.std.specs.Prelude.{◌≡◌, ℕ, List, [], map, Vec}
 use Rattle.std.specs.declared.alloc.Global.{Global}
 use Rattle.lit_paths.specs.Paths.{text_of}
-use Rattle.lit_find.specs.Places.{place_in}
+use Rattle.std.specs.List.{fold}
+use Rattle.lit_find.specs.Places.{place_in, put, text_order}
 use Rattle.lit_find.specs.declared.place.Place.{Place}
 
 -- the parts of a key
@@ -21,3 +22,7 @@ file_of entry = place_in entry.0.items entry.1
 -- each file is under the text of its path
 abbrev pub KeysAreTexts : List (Vec ℕ Global × ℕ) → Type 0
 KeysAreTexts entries = map (λ entry. entry.0.items) entries ≡ map (λ entry. text_of (file_of entry).path) entries
+
+-- files, put in one after another
+abbrev pub placed : List (Vec ℕ Global × ℕ) → List Place
+placed entries = fold (λ places entry. put text_order (file_of entry) places) [] entries

@@ -1,8 +1,9 @@
 //! The tests that a discovery has found.
-ghost use Rattle.std.specs.Prelude.{◌≡◌, ◌≢◌, All, IfOk, List, OnOk, [], true};
+ghost use Rattle.std.specs.Prelude.{◌≡◌, ◌≢◌, All, IfOk, List, OnOk, [], map, true};
 ghost use Rattle.std.specs.List.{list_all};
 ghost use Rattle.tt_outside.specs.TreeMap.{is_part};
 ghost use Rattle.lit_find.specs.Discovery.{IsTest};
+ghost use Rattle.lit_find.specs.Entries.{KeysAreTexts, file_of, placed};
 ghost use Rattle.lit_find.specs.Found.{AreMade, IsMadeOf};
 ghost use Rattle.lit_find.specs.Places.{place_in, put, text_order};
 ghost use Rattle.lit_find.specs.Walk.{IsRooted};
@@ -22,20 +23,20 @@ use tt_outside::Test;
 /// Files, each once, in byte order of their paths.
 #[derive(Drop, Debug)]
 pub(crate) struct Found {
-    /// The number of its suite, under the text of each path.
-    held: BTreeMap<Vec<u8>, usize>,
+    /// The text of each path with the number of its suite, as they came.
+    held: Vec<(Vec<u8>, usize)>,
 }
 
 impl Model for Found {
-    ghost use Rattle.std.specs.Prelude.{List, map};
-    ghost use Rattle.lit_find.specs.Entries.{KeysAreTexts, file_of};
+    ghost use Rattle.std.specs.Prelude.{List};
+    ghost use Rattle.lit_find.specs.Entries.{KeysAreTexts, placed};
     ghost use Rattle.lit_find.specs.declared.place.Place.{Place};
 
     ghost Value = { List Place };
 
-    ghost view = { λ found. map file_of found.held.entries };
+    ghost view = { λ found. placed found.held.items };
 
-    ghost invariant = { λ found. KeysAreTexts found.held.entries };
+    ghost invariant = { λ found. KeysAreTexts found.held.items };
 }
 
 impl Found {
@@ -44,17 +45,18 @@ impl Found {
         ensures { result ≡ [] }
     {
         Found {
-            held: BTreeMap::new(alloc),
+            held: Vec::new(alloc),
         }
     }
 
     /// Adds a file.
+    #[tactic(auto, using(crate::proofs::GatherLemmas::one_more, crate::proofs::GatherLemmas::texts_more))]
     pub(crate) fn put(&mut self, text: Bytes, suite: usize) -> Result<(), NoMemory>
         requires path { text_of (path_in text) ≡ text }
         ensures { OnOk result (self.new ≡ put text_order (place_in text suite) self.old) }
     {
         let key = text.into_vec();
-        match self.held.insert(key, suite) {
+        match self.held.push((key, suite)) {
             Ok(_) => Ok(()),
             Err(_) => Err(NoMemory),
         }
@@ -86,10 +88,27 @@ impl Found {
             return Err(NoMemory);
         };
         let mut tests = Items::from_vec(room);
-        for (text, suite) in self.held {
+        let files = in_order(alloc, self.held)?;
+        for (text, suite) in files {
             tests.push(test_at(alloc, looks, Bytes::from_vec(text), suite)?)?;
         }
         Ok(tests)
+    }
+}
+
+/// Files in byte order of their paths. Of those of one path the last counts.
+#[tactic(auto, using(crate::proofs::GatherLemmas::places_of))]
+fn in_order(
+    alloc: Global,
+    files: Vec<(Vec<u8>, usize)>,
+) -> Result<BTreeMap<Vec<u8>, usize>, NoMemory>
+    requires { KeysAreTexts files.items }
+    ensures places { IfOk result (λ made. map file_of made.entries ≡ placed files.items) }
+    ensures texts { IfOk result (λ made. KeysAreTexts made.entries) }
+{
+    match BTreeMap::from_iter(alloc, files) {
+        Ok(made) => Ok(made),
+        Err(_) => Err(NoMemory),
     }
 }
 

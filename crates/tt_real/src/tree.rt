@@ -3,9 +3,9 @@ ghost use Rattle.std.specs.Prelude.{◌≡◌, ◌≢◌, ◌≤◌, Err, IfOk, 
 ghost use Rattle.tt_real.specs.RealTree.{tree_base, tree_faults};
 
 use crate::files::read_whole;
-use std::alloc::Global;
+use std::alloc::{AllocError, Global};
 use std::fs::{self, Metadata};
-use std::io::{Error, ErrorKind};
+use std::io::{Error, ErrorKind, Read};
 use std::{rt, str};
 use tt_base::{Bytes, Items, NoMemory};
 use tt_outside::{FilesFault, Item, ItemKind, Tree, TreeFault};
@@ -32,7 +32,7 @@ impl<R> StdTree<R> {
     }
 }
 
-impl<R: rt::Files + Alloc<A = Global> + Clone + Drop> Tree for StdTree<R> {
+impl<R: rt::Files> Tree for StdTree<R> {
     ghost nodes = { λ _. None };
 
     ghost root = { λ tree. tree_base tree };
@@ -96,11 +96,7 @@ fn kind_of<R: rt::Files>(rt: &R, path: &str, here: &Metadata) -> ItemKind {
 }
 
 /// Lists a folder. The links on the way to it are followed, the last part of its path is not.
-fn list_folder<R: rt::Files + Alloc<A = Global> + Clone + Drop>(
-    rt: &R,
-    alloc: Global,
-    dir: &[u8],
-) -> Result<Items<Item>, TreeFault>
+fn list_folder<R: rt::Files>(rt: &R, alloc: Global, dir: &[u8]) -> Result<Items<Item>, TreeFault>
     ensures { result ≢ Err TreeFault.TooLarge }
 {
     let Ok(path) = str::from_utf8(dir) else {
@@ -116,42 +112,105 @@ fn list_folder<R: rt::Files + Alloc<A = Global> + Clone + Drop>(
     }
 }
 
+/// How many bytes of names are taken from a folder at once. A name has 255 at most.
+const NAMES: usize = 8192;
+
+/// A path with a slash behind it.
+fn with_slash(alloc: Global, path: &str) -> Result<Vec<u8>, AllocError> {
+    let mut text = Vec::with_capacity(alloc, path.len().saturating_add(NAMES))?;
+    text.extend_from_slice(path.as_bytes())?;
+    if !path.ends_with('/') {
+        text.push(b'/')?;
+    }
+    Ok(text)
+}
+
+/// Items in byte order of their names: the system tells them in any order.
+fn by_name(mut items: Vec<Item>) -> Items<Item> {
+    items.sort_unstable_by(|one, other| one.name.as_slice().cmp(other.name.as_slice()));
+    Items::from_vec(items)
+}
+
 /// The items of a folder. A name that isn't text is a fault; an item that vanished since its name was read is left out.
-fn list_entries<R: rt::Files + Alloc<A = Global> + Clone + Drop>(
-    rt: &R,
-    alloc: Global,
-    path: &str,
-) -> Result<Items<Item>, TreeFault>
+fn list_entries<R: rt::Files>(rt: &R, alloc: Global, dir: &str) -> Result<Items<Item>, TreeFault>
     ensures { result ≢ Err TreeFault.TooLarge }
 {
-    let entries = match fs::read_dir(rt, path) {
-        Ok(entries) => entries,
-        Err(error) => return Err(fault_of(&error)),
+    let Ok(mut path) = with_slash(alloc, dir) else {
+        return Err(TreeFault::NoMemory);
     };
-    let mut items = Items::new(alloc);
-    for entry in entries {
-        let item = match entry {
-            Ok(entry) => item_of(rt, alloc, entry.file_name(), entry.path().as_str()),
-            Err(error) => Err(fault_of(&error)),
-        };
-        match item {
-            Ok(item) => match items.push(item) {
-                Ok(()) => {}
-                Err(NoMemory) => return Err(TreeFault::NoMemory),
-            },
+    let mut items = Vec::new(alloc);
+    match rt.open_dir(dir) {
+        Ok(mut folder) => match add_all(rt, alloc, &mut folder, &mut path, &mut items) {
+            Ok(()) => Ok(by_name(items)),
+            Err(fault) => Err(fault),
+        },
+        Err(error) => Err(fault_of(&error)),
+    }
+}
+
+/// Adds all items of a folder. `path` is its path, with a slash behind it.
+fn add_all<R: rt::Files, D: Read>(
+    rt: &R,
+    alloc: Global,
+    folder: &mut D,
+    path: &mut Vec<u8>,
+    items: &mut Vec<Item>,
+) -> Result<(), TreeFault>
+    ensures { result ≢ Err TreeFault.TooLarge }
+{
+    let mut names = [0u8; NAMES];
+    for _ in 0..u64::MAX {
+        match folder.read(&mut names) {
+            Ok(0) => return Ok(()),
+            Ok(count) => add_items(rt, alloc, path, &names[..count], items)?,
+            Err(error) => return Err(fault_of(&error)),
+        }
+    }
+    Err(TreeFault::Failed)
+}
+
+/// Adds the items of names, each of which ends in a NUL. `path` is as above.
+fn add_items<R: rt::Files>(
+    rt: &R,
+    alloc: Global,
+    path: &mut Vec<u8>,
+    names: &[u8],
+    items: &mut Vec<Item>,
+) -> Result<(), TreeFault>
+    ensures { result ≢ Err TreeFault.TooLarge }
+{
+    let front = path.len();
+    for name in names.split(|byte| *byte == 0) {
+        if name.is_empty() || name == b".".as_slice() || name == b"..".as_slice() {
+            continue;
+        }
+        path.truncate(front);
+        if path.extend_from_slice(name).is_err() {
+            return Err(TreeFault::NoMemory);
+        }
+        match item_of(rt, alloc, name, path.as_slice()) {
+            Ok(item) => {
+                if items.push(item).is_err() {
+                    return Err(TreeFault::NoMemory);
+                }
+            }
             Err(TreeFault::Missing) => {}
             Err(fault) => return Err(fault),
         }
     }
-    Ok(items)
+    path.truncate(front);
+    Ok(())
 }
 
 /// An item of a folder.
-fn item_of<R: rt::Files>(rt: &R, alloc: Global, name: &str, path: &str) -> Result<Item, TreeFault>
+fn item_of<R: rt::Files>(rt: &R, alloc: Global, name: &[u8], path: &[u8]) -> Result<Item, TreeFault>
     ensures { result ≢ Err TreeFault.TooLarge }
 {
+    let Ok(path) = str::from_utf8(path) else {
+        return Err(TreeFault::Failed);
+    };
     match fs::symlink_metadata(rt, path) {
-        Ok(here) => match Bytes::from_slice(alloc, name.as_bytes()) {
+        Ok(here) => match Bytes::from_slice(alloc, name) {
             Ok(name) => Ok(Item {
                 name,
                 kind: kind_of(rt, path, &here),

@@ -23,13 +23,13 @@ loop-text-preserved c =
 
 pub returns : goal.returns
 returns c = λ nodes words are_rooted are_tests.
-    let entries = c.self.inside.held.entries in
+    let entries = c.in_ok-files.files.entries in
     let so_far = rest_so_far (λ x. x) c.loop-text.yielded c.into_iter-text-iterator.result c.loop-text.text-iterator
     c.loop-text.yielded_by in
     let rest : map (λ x. x) c.loop-text.yielded ++ c.loop-text.text-iterator ≡ c.loop-text.yielded ++ [] =
     λ i. map-id c.loop-text.yielded i ++ c.in-None.ensures.steps.0 i in
     let whole : c.loop-text.yielded ≡ entries =
     sym (append-nil c.loop-text.yielded) ∙ sym rest ∙ sym so_far ∙ c.into_iter-text-iterator.ensures.into_iter_gives.0 in
-    tests_are_made nodes words c.args.seen.now entries c.args.self c.loop-text.tests c.self.invariant
-    c.into_iter-text-iterator.ensures.into_iter_gives.5 c.self.view_is are_rooted are_tests
+    tests_are_made nodes words c.args.seen.now entries c.args.self c.loop-text.tests c.in_ok-files.ensures.texts
+    c.into_iter-text-iterator.ensures.into_iter_gives.5 (c.in_ok-files.ensures.places ∙ c.self.view_is) are_rooted are_tests
     (subst (λ es. AllZip (IsOf c.args.seen.now) es c.loop-text.tests) whole c.loop-text.invariant)
