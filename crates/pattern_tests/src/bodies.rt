@@ -363,6 +363,12 @@ fn is_read(alloc: Global, body: &[u8], known: &mut Formats) -> bool {
     parse_pattern(alloc, body, Kind::Plain, false, false, Frame::Open, known).is_ok()
 }
 
+/// Whether a body is read or refused.
+fn is_answered(alloc: Global, body: &[u8], known: &mut Formats) -> bool {
+    let told = parse_pattern(alloc, body, Kind::Plain, false, false, Frame::Open, known);
+    !matches!(told, Err(PatFail::NoMemory))
+}
+
 #[test]
 fn any_two_bytes_are_answered(rt: HostRuntime) -> Result<(), Fail> {
     let mut known = Formats::new(rt.alloc());
@@ -371,7 +377,13 @@ fn any_two_bytes_are_answered(rt: HostRuntime) -> Result<(), Fail> {
             let is_read = is_read(rt.alloc(), &[first, second], &mut known);
             let begun = first == second && (first == b'[' || first == b'{');
             assert!(rt; is_read != begun, "bytes {first} and {second}");
+            let block = [b'[', b'[', first, second, b']', b']'];
+            assert!(rt;
+                is_answered(rt.alloc(), &block, &mut known),
+                "the block of bytes {first} and {second}"
+            );
         }
+        assert!(rt; is_read(rt.alloc(), &[first], &mut known), "byte {first}");
         let is_read = is_read(rt.alloc(), &[b'[', b'[', first, b']', b']'], &mut known);
         let named = first.is_ascii_alphabetic() || first == b'_' || first == b'#';
         assert!(rt; is_read == named, "the block of byte {first}");

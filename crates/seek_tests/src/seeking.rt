@@ -181,7 +181,11 @@ fn wrong(alloc: Global, rows: &str, fold: bool, frame: Frame) -> Result<String, 
 
 const FOUND: &str = r"a[[X:b*]]~cabb~ 1 4 X=bb
 [[X:a|ab]][[Y:b*]][[Y]]c~abbc~ 0 4 X=a Y=b
+%[[X:[a-z]+]] = %[[X]]~%ab = %abc~ 0 9 X=ab
+%[[X:[a-z]+]] = %[[X]]~%ab = %a~ absent
 <[[T]]>~<axb><a.b>~ 5 10
+[[T]]-[[T]]>~a.b-a.b<a.b-a.b>~ 8 16
+[[T]]-[[T]]~a.b-axb~ absent
 [[X:a+]]-[[X]]~aaa-aa~ 1 6 X=aa
 [[X:a]][[X:b]][[X]]~abb~ 0 3 X=a X=b
 {{(a)\1}}[[X:(b)\1]][[X]]~aabbbb~ 0 6 X=bb
@@ -189,6 +193,9 @@ const FOUND: &str = r"a[[X:b*]]~cabb~ 1 4 X=bb
 [[#%X,X:]]~ffFF~ 2 4 #X=255
 [[#%x,X:N]]~0ff~ 1 3 #X=255
 [[#%.4X,N+1]]~0100~ 0 4
+[[#%x,N+1]]~100~ 0 3
+[[#%x,N+1]]~101~ absent
+[[#%.2u,X:]]~007~ 0 2 #X=0
 [[@LINE+1]]:[[#@LINE]]~8:7~ 0 3
 [[#%d,0-N]]~-255~ 0 4
 abc~ababc~ 2 5
@@ -199,6 +206,7 @@ const REFUSED: &str = r"[[X]]~x~ undefined X
 [[#M+div(1,0)]]~x~ undefined M
 [[#div(N,0)]]~x~ zero divisor
 [[#0-N]]~x~ range
+[[#170141183460469231731687303715884105727+1]]~0~ range
 {{b*}}[[#X:]]~b340282366920938463463374607431768211456~ unreadable 1 40";
 
 #[test]
