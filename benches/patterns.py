@@ -55,6 +55,17 @@ def write_blocks(checks, text, count):
                 lines.write(f"\tmov r{j}, #{k + j}\n\tadd r{j}, #{k + j + 1}\n")
 
 
+def write_variables(checks, text, count):
+    """Text variables, each of which is defined once and then, behind all definitions, used once."""
+    with open(checks, "w") as out, open(text, "w") as lines:
+        for k in range(count):
+            out.write(f"CHECK: mov [[V{k}:r[0-9]+]], #{k}\n")
+            lines.write(f"mov r{k * 7 % 9973}, #{k}\n")
+        for k in range(count):
+            out.write(f"CHECK: add [[V{k}]], #{k}\n")
+            lines.write(f"add r{k * 7 % 9973}, #{k}\n")
+
+
 def write_nots(checks, text, bodies, size, line):
     """NOTs on all of a text of one line, again and again."""
     with open(checks, "w") as out:
@@ -77,6 +88,8 @@ def cases(mib):
         ("2,000 DAGs in reverse", 0, lambda c, t: write_group(c, t, reversed(group), group)),
         ("2,000 DAGs, all equal", 0, lambda c, t: write_group(c, t, [7] * 2000, [7] * 2000)),
         ("200 LABEL blocks of 31 directives", 0, lambda c, t: write_blocks(c, t, 200)),
+        ("2,000 text variables, each defined and used once", 0, lambda c, t: write_variables(c, t, 2000)),
+        ("4,000 text variables, each defined and used once", 0, lambda c, t: write_variables(c, t, 4000)),
         ("2,000 plain NOTs on 10 MiB", 0,
          lambda c, t: write_nots(c, t, [f"call of function_{k};" for k in range(2000)], 10 * MIB, "\tcallq\thelper@PLT")),
         ("5 NOTs with `{{ }}` whose plain text is on every line of 10 MiB", 0,
