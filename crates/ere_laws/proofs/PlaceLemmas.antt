@@ -246,6 +246,6 @@ hits_lie_within text t from hit within tells =
     let part = is_part (drop from text) t tells.is_hit.way (hit.from - from) (hit.to - from) _ tells.captures
     tells.is_hit.shows in (
       tells.behind,
-      omega (arith, tells.behind, part.0),
-      omega (arith, tells.behind, part.1, length-drop from text, within),
+      tells.ordered,
+      omega (arith, tells.behind, tells.ordered, part.1, length-drop from text, within),
     )

@@ -1,5 +1,5 @@
 -- Laws of expressions.
-use Rattle.std.specs.Prelude.{◌≡◌, ℕ, Bool, List, Err, ◌≤◌, length, max, ◌↔◌}
+use Rattle.std.specs.Prelude.{◌≡◌, ℕ, Bool, List, Err, ◌≤◌, length, ◌↔◌}
 use Rattle.ere_tree.specs.Grammar.{reading}
 use Rattle.ere_tree.specs.Hit.{TellsHit}
 use Rattle.ere_tree.specs.Productions.{Takes}
@@ -19,8 +19,8 @@ abbrev pub FaultsLieWithin : Type 0
 FaultsLieWithin =
     (fold : Bool) (text : List ℕ) (refused : EreFault) → reading fold text ≡ Err refused → refused.at ≤ length text
 
--- The law of hits: a hit lies in its slice. Of an empty hit at the slice's start the end may be told before it.
+-- The law of hits: a hit lies in its slice.
 abbrev pub HitsLieWithin : Type 0
 HitsLieWithin =
     (text : List ℕ) (t : Tree) (from : ℕ) (hit : Hit) → from ≤ length text → TellsHit text t from hit
-    → (from ≤ hit.from) × (hit.from ≤ max from hit.to) × (max from hit.to ≤ length text)
+    → (from ≤ hit.from) × (hit.from ≤ hit.to) × (hit.to ≤ length text)

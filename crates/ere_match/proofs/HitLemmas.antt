@@ -41,6 +41,7 @@ tells_hit text t from i j caps span best =
     record {
       captures = c;
       behind = omega arith;
+      ordered = omega (arith, (is_part s t best.way i j empty c best.shows).0);
       is_hit = subst (λ m. IsHit s t m (from + j - from) c) low
           (subst (λ n. IsHit s t i n c) high (is_hit s t i j from caps span best));
       groups = best.are;

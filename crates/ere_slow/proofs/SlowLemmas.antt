@@ -146,6 +146,7 @@ hit_told text s t from i j c groups h are same =
     record {
       captures = c;
       behind = omega arith;
+      ordered = omega (arith, (hit_within s t i j c h).0);
       is_hit = subst (λ (x : List ℕ). IsHit x t (from + i - from) (from + j - from) c) (sym same)
           (subst (λ (n : ℕ). IsHit s t n (from + j - from) c) start (subst (λ (n : ℕ). IsHit s t i n c) end h));
       groups = are;

@@ -31,6 +31,7 @@ HitIsOne =
 pub record TellsHit (text : List ℕ) (t : Tree) (from : ℕ) (hit : Hit) : Type 0 where
   pub captures : Captures
   pub behind : from ≤ hit.from
+  pub ordered : hit.from ≤ hit.to
   pub is_hit : IsHit (drop from text) t (hit.from - from) (hit.to - from) captures
   pub groups : hit.groups ≡ caps_of from captures (greatest_group t)
 

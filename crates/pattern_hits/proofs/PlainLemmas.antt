@@ -178,6 +178,7 @@ tells_text text t needle from i is there before =
     record {
       captures = empty;
       behind = omega arith;
+      ordered = omega arith;
       is_hit = subst (λ m. IsHit s t m (from + i + length needle - from) empty) low
           (subst (λ n. IsHit s t i n empty) high (text_hit s t needle is i there before));
       groups = ap (caps_of from empty) (sym none);
