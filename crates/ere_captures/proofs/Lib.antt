@@ -1,5 +1,6 @@
 pub mod BestLemmas
 mod DepthLemmas
+mod EndsLemmas
 pub mod ExistLemmas
 pub mod GreatestLemmas
 pub mod KeepLemmas

@@ -4,7 +4,7 @@
 use Rattle.std.proofs.Common.{◌≡◌, ℕ, zero, suc, ◌+◌, ◌-◌, ◌^◌, ◌<◌, ◌≤◌, false, Option, Some, None, List, [], ◌∷◌, length, map, drop, get_or, refl, sym, ap, ◌∙◌, subst, inl, inr, arith}
 use Rattle.std.specs.Prelude.{slice_set}
 use Rattle.std.proofs.lemmas.Bool.{cases_lt}
-use Rattle.std.proofs.lemmas.List.{drop_all, drop-map}
+use Rattle.std.proofs.lemmas.List.{drop_all}
 use Rattle.ere_tree.proofs.CapturesLemmas.{some_same}
 use Rattle.ere_tree.specs.View.{view}
 use Rattle.ere_tree.specs.declared.ere.Ere.{Ere}
@@ -225,22 +225,6 @@ pub none_behind : (s : List ℕ) (items : List Ere) (k i j : ℕ) → length ite
     → SpanOne s (map view (drop k items)) i j → ⊥
 none_behind s items k i j past span =
     subst (λ (xs : List Ere). SpanOne s (map view xs) i j) (drop_all k items past) span
-
--- PARTS IN A LIST
-
--- from a place on, the part there and those behind it
-pub parts_from : (items : List Ere) (k : ℕ) (one : Ere) → k < length items → one ≡ get_or items k one
-    → drop k (map view items) ≡ view one ∷ drop (k + 1) (map view items)
-parts_from items k one low is =
-    drop-map view k items ∙ views_from items k one low is
-    ∙ ap (λ (us : List Tree). view one ∷ us) (sym (drop-map view (k + 1) items))
-
--- two things at the same place of a list
-pub same_at : (items : List Ere) (k : ℕ) (one two : Ere) → k < length items → one ≡ get_or items k one
-    → two ≡ get_or items k two → one ≡ two
-same_at [] k one two low is too = absurd (omega arith)
-same_at (e ∷ items) zero one two low is too = is ∙ sym too
-same_at (e ∷ items) (suc k) one two low is too = same_at items k one two (omega arith) is too
 
 -- what holds of bounds holds of equal ones
 pub along : (P : ℕ → Option ℕ → Type 0) (a b : ℕ) (x y : Option ℕ) → b ≡ a → y ≡ x → P a x → P b y

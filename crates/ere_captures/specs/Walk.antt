@@ -1,6 +1,7 @@
 -- The preferred way down an expression, part by part.
 -- Own rule: what the code's steps set; what its answer means is said by `AreBestCaps`.
-use Rattle.std.specs.Prelude.{◌≡◌, ◌↔◌, ℕ, ◌-◌, ◌≤◌, Bool, IsTrue, max, Option, Some, None, List}
+use Rattle.std.specs.Prelude.{◌≡◌, ◌↔◌, ℕ, ◌-◌, ◌<◌, ◌≤◌, Bool, IsTrue, max, Option, Some, None, List, length, map, drop, slice_index_or, Vec, vec_len}
+use Rattle.std.specs.declared.alloc.Global.{Global}
 use Rattle.std.specs.List.{Contains}
 use Rattle.ere_places.specs.Places.{SpanAll}
 use Rattle.ere_places.specs.Seen.{is_held}
@@ -8,6 +9,8 @@ use Rattle.ere_places.specs.declared.seen.Seen.{Seen}
 use Rattle.ere_tree.specs.Captures.{Captures, caps_of}
 use Rattle.ere_tree.specs.Derivation.{Way, Derives, Spans}
 use Rattle.ere_tree.specs.Tree.{Tree, repeat}
+use Rattle.ere_tree.specs.View.{view}
+use Rattle.ere_tree.specs.declared.ere.Ere.{Ere}
 use Rattle.ere_tree.specs.declared.hit.Cap.{Cap}
 use Rattle.ere_captures.specs.Best.{IsBest}
 
@@ -25,6 +28,17 @@ less_one (Some most) = Some (most - 1)
 -- the set has the places of [i, j] from which the trees, one behind the other, lead to j
 abbrev pub LeadOn : List ℕ → List Tree → ℕ → ℕ → Seen → Type 0
 LeadOn s ts i j seen = (q : ℕ) → IsTrue (is_held seen q) ↔ (SpanAll s ts q j × (i ≤ q))
+
+-- as many of these sets as there are tell, for none of the last parts first, from which places they lead to j
+abbrev pub AreRests : List ℕ → List Ere → ℕ → ℕ → Vec Seen Global → Type 0
+AreRests s parts i j all =
+    (m : ℕ) (one : Seen) → m ≤ length parts → m < vec_len all → one ≡ slice_index_or all.items m one
+    → LeadOn s (drop (length parts - m) (map view parts)) i j one
+
+-- of the tree's ends from i, the greatest from which the others lead to j
+abbrev pub IsPartEnd : List ℕ → Tree → List Tree → ℕ → ℕ → ℕ → Type 0
+IsPartEnd s t others i j m =
+    Spans s t i m × SpanAll s others m j × ((k : ℕ) → Spans s t i k → SpanAll s others k j → k ≤ m)
 
 -- of some places, the greatest that passes the test, where one does
 abbrev pub IsGreatest : (ℕ → Bool) → List ℕ → Option ℕ → Type 0

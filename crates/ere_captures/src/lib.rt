@@ -2,6 +2,7 @@
 //! that is preferred. A search stands on this crate.
 #![tactic(auto)]
 
+mod ends;
 mod members;
 mod parts;
 mod rest;

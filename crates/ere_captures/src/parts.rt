@@ -1,12 +1,9 @@
 //! From which places the parts of a concatenation lead on to its end.
-ghost use Rattle.std.specs.Prelude.{◌≡◌, ℕ, ◌↔◌, ◌+◌, ◌-◌, ◌<◌, ◌≤◌, false, drop, length, map, IsTrue, IfOk, vec_len};
-ghost use Rattle.std.specs.Prelude.{slice_index_or};
-ghost use Rattle.ere_captures.specs.Walk.{LeadOn};
-ghost use Rattle.ere_places.specs.Seen.{is_held};
+ghost use Rattle.std.specs.Prelude.{◌≡◌, ◌+◌, ◌≤◌, false, length, map, IfOk, vec_len};
+ghost use Rattle.ere_captures.specs.Walk.{AreRests};
 ghost use Rattle.ere_tree.specs.Shape.{any_has_refs};
 ghost use Rattle.ere_tree.specs.Tree.{trees_of};
 ghost use Rattle.ere_tree.specs.View.{view};
-ghost use Rattle.ere_places.specs.declared.seen.Seen.{Seen};
 
 use ere_places::{Direction, Seen, Window, image};
 use ere_tree::Ere;
@@ -24,9 +21,7 @@ pub(crate) fn rests(
     requires order { from ≤ to }
     requires within { to ≤ length text.now }
     ensures long { IfOk result (λ all. vec_len all ≡ length parts.now + 1) }
-    ensures each { IfOk result (λ all. (m : ℕ) (one : Seen) → m ≤ length parts.now
-        → one ≡ slice_index_or all.items m one
-        → LeadOn text.now (drop (length parts.now - m) (map view parts.now)) from to one) }
+    ensures each { IfOk result (AreRests text.now parts.now from to) }
 {
     let window = Window {
         low: from,

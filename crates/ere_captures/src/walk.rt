@@ -11,9 +11,10 @@ ghost use Rattle.ere_tree.specs.Tree as trees;
 ghost use Rattle.ere_tree.specs.Tree.{trees_of};
 ghost use Rattle.ere_tree.specs.View.{view};
 
+use crate::ends::part_end;
 use crate::members::{less_one, rest, rest_behind};
-use crate::parts::rests;
 use crate::rest::{greatest_end, spans};
+use ere_places::Seen;
 use ere_tree::{Cap, Caps, Ere};
 use std::alloc::{AllocError, Global};
 
@@ -57,13 +58,16 @@ fn walk_parts(
     ensures { OnOk result (SetsBest text.now (trees.cat (trees_of (map view parts.now))) part.start part.from part.to
         (length caps.old) caps.old caps.new) }
 {
-    let rests = rests(alloc, parts, text, part.from, part.to)?;
+    let mut held: Vec<Seen> = Vec::new(alloc);
     let mut from = part.from;
-    for index in 0..parts.len() {
-        let rest = &rests[parts.len() - 1 - index];
-        let to = greatest_end(alloc, &parts[index], text, from, part.to, rest)?;
-        walk(alloc, &parts[index], text, Part { from, to, ..part }, caps)?;
+    let mut rest = parts;
+    while let Some((one, others)) = rest.split_first() {
+        let to = part_end(
+            alloc, one, others, text, part.from, from, part.to, &mut held,
+        )?;
+        walk(alloc, one, text, Part { from, to, ..part }, caps)?;
         from = to;
+        rest = others;
     }
     Ok(())
 }

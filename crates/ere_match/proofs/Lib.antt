@@ -1,3 +1,4 @@
 pub mod BeginsLemmas
+pub mod NewlineLemmas
 pub mod ShownLemmas
 mod HitLemmas

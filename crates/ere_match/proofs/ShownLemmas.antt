@@ -7,7 +7,9 @@ use Rattle.ere_tree.specs.declared.hit.Cap.{Cap}
 use Rattle.std.proofs.lemmas.Bool.{cases_lt}
 use Rattle.ere_match.specs.Begins.{NoneBefore}
 use Rattle.ere_match.specs.Shown.{ShownFor, Finds}
+use Rattle.ere_tree.specs.Derivation.{Spans}
 use Rattle.ere_tree.specs.Tree.{Tree}
+use Rattle.ere_tree.proofs.DerivationLemmas.{is_part}
 use Rattle.ere_auto.specs.Span.{IsSpan}
 use Rattle.ere_auto.specs.Seen.{State, HasFound}
 
@@ -71,3 +73,25 @@ finds_from_start s t place found shown n h = record {
   span = span_from_start s t place found n h.span;
   shown_for = h.shown_for;
 }
+
+-- what is spanned ends in the slice
+pub spans_within : (s : List ℕ) (t : Tree) (i j : ℕ) → Spans s t i j → j ≤ length s
+spans_within s t i j (w, c, d, shows) = (is_part s t w i j c d shows).1
+
+-- where the first match begins with this longest span
+pub finds_longest : (s : List ℕ) (t : Tree) (i j shown : ℕ) → NoneBefore s t i
+    → Spans s t i j × ((k : ℕ) → Spans s t i k → k ≤ j) → shown ≡ j → Finds s t 0 (Some (record { from = i; to = j })) shown
+finds_longest s t i j shown n (spans, longest) is =
+    let within = spans_within s t i j spans in
+    record {
+      span = (
+        record {
+          begins = omega arith;
+          matches = spans;
+          leftmost = λ h k b low other. n.none h k low other;
+          longest = longest;
+        },
+        within,
+      );
+      shown_for = (omega (arith, is), omega (arith, is, within));
+    }

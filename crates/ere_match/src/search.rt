@@ -8,9 +8,10 @@ ghost use Rattle.ere_auto.specs.State.{state_of};
 ghost use Rattle.ere_match.specs.Shown.{Finds, ShownForHit};
 
 use crate::literal::earliest;
-use crate::span::find_span;
+use crate::span::{find_span, wait_through};
 use ere_auto::{Auto, Steps};
 use ere_captures::captures;
+use ere_one::{Walked, walk};
 use ere_slow::slow_hit;
 use ere_tree::{Cap, Ere, Hit};
 use std::alloc::Global;
@@ -51,7 +52,15 @@ impl Search {
         ensures built { IsFor (state_of self.new.automaton) (view ere.now) }
     {
         let slice = text.split_at(from).1;
-        self.automaton.begin_at(earliest(ere, slice));
+        let begin = earliest(ere, slice);
+        if begin <= slice.len() {
+            if let Walked::Ends(to) = walk(ere, slice, begin) {
+                self.automaton.begin_at(to);
+                let _shown = wait_through(&mut self.automaton, slice.split_at(to).0, steps);
+                return Some(Cap { from: begin, to });
+            }
+        }
+        self.automaton.begin_at(begin);
         find_span(&mut self.automaton, slice, steps)
     }
 

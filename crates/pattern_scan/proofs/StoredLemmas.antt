@@ -1,9 +1,9 @@
 -- A pattern whose pieces are all plain or stored text is sought as those bytes: its instance is that text, and gives nothing.
 -- By induction over the pieces; what each of them adds is in `one_text`.
 -- The hard one is `all_text`.
-use Rattle.std.proofs.Common.{◌≡◌, ℕ, ◌+◌, ◌<◌, ◌≤◌, true, false, true≢false, is_some, IfSome, Option, Some, None, List, [], ◌∷◌, ◌++◌, length, map, drop, drop-cons, add-one, get_or, append_assoc, append-nil, Ok, refl, sym, ap, ◌∙◌, subst}
+use Rattle.std.proofs.Common.{◌≡◌, ℕ, ◌+◌, ◌<◌, ◌≤◌, false, true≢false, is_some, IfSome, Option, Some, None, List, [], ◌∷◌, ◌++◌, length, map, drop, drop-cons, add-one, get_or, append_assoc, append-nil, Ok, refl, sym, ap, ◌∙◌, subst}
 use Rattle.std.specs.Prelude.{◌||◌, if◌then◌else◌}
-use Rattle.std.specs.FinMap.{FinMap, empty, get, get-empty}
+use Rattle.std.specs.FinMap.{FinMap, empty, get-empty}
 use Rattle.std.proofs.lemmas.List.{drop_all}
 use Rattle.std.proofs.lemmas.Option.{none-some}
 use Rattle.ere_tree.proofs.CapturesLemmas.{some_same}
@@ -16,16 +16,15 @@ use Rattle.pattern_hits.specs.Plain.{IsText, joined}
 use Rattle.pattern_instance.specs.Instance.{instance_of, made, made_of, unless_missing}
 use Rattle.pattern_instance.specs.Known.{Known, known_of}
 use Rattle.pattern_instance.specs.Missing.{each_once, unknown}
-use Rattle.pattern_instance.specs.Parts.{Part, behind_part, cased, groups_behind, map_parts, part_of, parts_from, recalled, ungrouped, with_part}
+use Rattle.pattern_instance.specs.Parts.{behind_part, cased, groups_behind, map_parts, part_of, parts_from, recalled, ungrouped, with_part}
 use Rattle.pattern_parse.specs.Item.{Item, plain, regex, define, recall, number}
 use Rattle.pattern_parse.specs.PieceView.{item_view, items_view}
 use Rattle.pattern_parse.specs.declared.pattern.Frame.TheVariants.{Open}
 use Rattle.pattern_parse.specs.declared.pattern.Pattern.{Pattern}
 use Rattle.pattern_parse.specs.declared.pattern.Piece.{Piece}
 use Rattle.pattern_scan.proofs.SeekLemmas.{hit_sought}
-use Rattle.pattern_scan.specs.Seek.{IsPlain, IsShown, answer_of, is_expressed, sought, sought_of}
+use Rattle.pattern_scan.specs.Seek.{IsShown, answer_of, is_expressed, sought, sought_of}
 use Rattle.pattern_scan.specs.Stored.{AreText, IsStored, piece_text}
-use Rattle.pattern_vars.specs.Vars.{text_of}
 use Rattle.pattern_vars.specs.declared.vars.Held.{Held}
 
 -- ALONG THE PIECES

@@ -108,5 +108,5 @@ returns c =
     let over : c.loop-count.count ≡ length c.args.parts.now = omega arith in
     record {
       long = omega (arith, i.long, over, c.loop-count.all.ok);
-      each = λ m one fits is. i.each m one (omega (arith, over, fits)) is;
+      each = λ m one fits low is. i.each m one (omega (arith, over, fits)) is;
     }

@@ -1,10 +1,11 @@
 -- The walk: down a tree, through parts, along alternatives, through members.
 -- Parts and members go by what is owed (`PartsTo`, `MembersTo`); each step is a lemma of WalkLemmas, and each return
 -- turns what is done into a best way of the whole.
-use Rattle.std.proofs.Common.{◌≡◌, ℕ, ◌+◌, ◌-◌, ◌<◌, ◌≤◌, Option, List, ◌∷◌, length, map, drop, false, sym, ap, ◌∙◌, subst, arith, true≢false}
+use Rattle.std.proofs.Common.{◌≡◌, ℕ, ◌+◌, ◌-◌, ◌<◌, ◌≤◌, Option, List, length, map, false, sym, ap, ◌∙◌, subst, arith, true≢false}
 use Rattle.std.specs.FinMap.{insert}
-use Rattle.std.proofs.lemmas.List.{drop_all, length-map}
+use Rattle.std.proofs.lemmas.List.{drop_all}
 use Rattle.std.proofs.lemmas.Result.{IfOk-weaker}
+use Rattle.ere_tree.proofs.FreeLemmas.{no_right}
 use Rattle.ere_tree.proofs.ViewLemmas.{view_Cat, view_Alt, view_Repeat, view_Group}
 use Rattle.ere_places.proofs.TreesLemmas.{trees_in_map}
 use Rattle.ere_tree.specs.Captures.{Captures, caps_of}
@@ -17,10 +18,11 @@ use Rattle.ere_tree.specs.declared.hit.Cap.{Cap}
 use Rattle.ere_places.specs.Places.{SpanAll}
 use Rattle.ere_places.proofs.SpanLemmas.{spans_part, spans_cat, spans_alt, spans_group}
 use Rattle.ere_places.proofs.ReachLemmas.{view_no_refs}
-use Rattle.ere_captures.specs.Walk.{SetsBest, LeadOn, RestOf, less_one}
+use Rattle.ere_captures.specs.Walk.{SetsBest, AreRests, RestOf, less_one}
 use Rattle.ere_captures.proofs.BestLemmas.{repeat_begins}
-use Rattle.ere_captures.proofs.DepthLemmas.{depth, depth_at}
-use Rattle.ere_captures.proofs.WalkLemmas.{PartsTo, MembersTo, sets_none, sets_group, sets_one, parts_more, parts_end, members_begin, members_more, members_end, all_is_part, one_is_part, room_at, tree_here, none_more, one_behind, parts_from, same_at, along}
+use Rattle.ere_captures.proofs.DepthLemmas.{depth, depth_of, depth_at}
+use Rattle.ere_captures.proofs.EndsLemmas.{rests_behind}
+use Rattle.ere_captures.proofs.WalkLemmas.{PartsTo, MembersTo, sets_none, sets_group, sets_one, parts_begin, parts_more, parts_end, members_begin, members_more, members_end, one_is_part, room_at, tree_here, none_more, one_behind, along}
 use Rattle.ere_captures.proofs.walk.+walk.Goals as goal
 use Rattle.ere_captures.proofs.walk.+walk.Goals.{walk_members-then-least-gt0, walk_members-else-least-gt0+then-from-part}
 
@@ -393,131 +395,68 @@ walk_one-loop-one-preserved t c =
 
 -- PARTS
 
-pub walk_parts-rests-requires-clause-order : goal.walk_parts-rests-requires-clause-order
-walk_parts-rests-requires-clause-order t c =
-    (all_is_part c.args.text.now (map view c.args.parts.now) c.args.part.from c.args.part.to c.requires.span).0
+pub walk_parts-loop-one-init : goal.walk_parts-loop-one-init
+walk_parts-loop-one-init t c = record {
+  no_refs = c.requires.no_refs;
+  room = c.requires.room;
+  depth = omega arith;
+  order = omega arith;
+  span = c.requires.span;
+  held = λ m one fits low is. absurd (omega (arith, low, c.new-held.ensures.len));
+  goes = parts_begin c.args.text.now (map view c.args.parts.now) c.args.part.start (length c.args.caps.now)
+      c.args.part.from c.args.part.to c.args.caps.now;
+}
 
-pub walk_parts-rests-requires-clause-within : goal.walk_parts-rests-requires-clause-within
-walk_parts-rests-requires-clause-within t c =
-    (all_is_part c.args.text.now (map view c.args.parts.now) c.args.part.from c.args.part.to c.requires.span).1
-
-pub walk_parts-greatest_end-requires-clause-no_refs : goal.walk_parts-greatest_end-requires-clause-no_refs
-walk_parts-greatest_end-requires-clause-no_refs t c =
-    view_no_refs c.args.parts.now c.loop-index.index c.index-parts-index.result c.loop-index-test.true
-    c.index-parts-index.is c.requires.no_refs
-
-pub walk_parts-greatest_end-requires-clause-order : goal.walk_parts-greatest_end-requires-clause-order
-walk_parts-greatest_end-requires-clause-order t c =
-    (all_is_part c.args.text.now (drop c.loop-index.index (map view c.args.parts.now)) c.loop-index.from
-    c.args.part.to c.loop-index.invariant.span).0
-
-pub walk_parts-greatest_end-requires-clause-within : goal.walk_parts-greatest_end-requires-clause-within
-walk_parts-greatest_end-requires-clause-within t c =
-    (all_is_part c.args.text.now (map view c.args.parts.now) c.args.part.from c.args.part.to c.requires.span).1
-
-pub walk_parts-greatest_end-requires-clause-some : goal.walk_parts-greatest_end-requires-clause-some
-walk_parts-greatest_end-requires-clause-some t c =
-    let s = c.args.text.now in
-    let items = c.args.parts.now in
-    let k = c.loop-index.index in
-    let n = length items in
-    let one = c.index-parts-index.result in
-    let from = c.loop-index.from in
+pub walk_parts-part_end-requires-clause-held : goal.walk_parts-part_end-requires-clause-held
+walk_parts-part_end-requires-clause-held t c =
     let part = c.args.part in
-    let ts = map view items in
-    let set = c.index-rest.result.now in
-    let same : n - (n - 1 - k) ≡ k + 1 = omega (arith, c.loop-index-test.true) in
-    let lead : LeadOn s (drop (k + 1) ts) part.from part.to set =
-    subst (λ q. LeadOn s (drop q ts) part.from part.to set) same
-    (c.in_ok-rests.ensures.each (n - 1 - k) set (omega arith) c.index-rest.ensures) in
-    let span : SpanAll s (view one ∷ drop (k + 1) ts) from part.to =
-    subst (λ (us : List Tree). SpanAll s us from part.to)
-    (parts_from items k one c.loop-index-test.true c.index-parts-index.is) c.loop-index.invariant.span in
-    let here = spans_part s (view one) from span.0 span.1 in
-    let behind = all_is_part s (drop (k + 1) ts) span.0 part.to span.2 in
-    (span.0, span.1, behind.0, (lead span.0).1 (span.2, omega (arith, c.loop-index.invariant.order, here.0)))
+    rests_behind c.args.text.now c.in-Some.one.now c.in-Some.others.now part.from part.to c.loop-one.held
+    (subst (λ (xs : List Ere). AreRests c.args.text.now xs part.from part.to c.loop-one.held) c.in-Some.ensures.cases.0
+    c.loop-one.invariant.held)
 
-pub walk_parts-walk-requires : goal.walk_parts-walk-requires
-walk_parts-walk-requires t c =
+pub walk_parts-loop-one-preserved : goal.walk_parts-loop-one-preserved
+walk_parts-loop-one-preserved t c =
     let s = c.args.text.now in
-    let items = c.args.parts.now in
-    let k = c.loop-index.index in
-    let one = c.index-parts-index.result in
-    let two = c.index-parts-index-in-loop-index.result in
-    let low = c.loop-index-test.true in
-    let is = c.index-parts-index-in-loop-index.is in
-    let room = room_at items k two (length c.args.caps.now) low is c.requires.room in (
-      omega (arith, c.decreases, depth_at items k two low is),
-      (
-        view_no_refs items k two low is c.requires.no_refs,
-        (
-          subst (λ (e : Ere). Spans s (view e) c.loop-index.from c.in_ok-to.to)
-              (same_at items k one two low c.index-parts-index.is is) c.in_ok-to.ensures.0,
-          (omega (arith, room, c.loop-index.auto.caps), c.requires.fits),
-        ),
-      ),
-    )
-
-pub walk_parts-loop-index-preserved : goal.walk_parts-loop-index-preserved
-walk_parts-loop-index-preserved t c =
-    let s = c.args.text.now in
-    let items = c.args.parts.now in
-    let k = c.loop-index.index in
-    let n = length items in
-    let one = c.index-parts-index.result in
-    let two = c.index-parts-index-in-loop-index.result in
-    let low = c.loop-index-test.true in
-    let from = c.loop-index.from in
+    let one = view c.in-Some.one.now in
+    let others = c.in-Some.others.now in
+    let from = c.loop-one.from in
     let part = c.args.part in
-    let j = part.to in
     let m = c.in_ok-to.to in
-    let g = c.in_ok-to.ensures in
-    let i = c.loop-index.invariant in
-    let ts = map view items in
-    let rest = drop (k + 1) ts in
-    let set = c.index-rest.result.now in
+    let end = c.in_ok-to.ensures.end in
+    let i = c.loop-one.invariant in
+    let ts = map view c.args.parts.now in
     let count = length c.args.caps.now in
     let old = c.args.caps.now in
-    let now = c.loop-index.caps in
+    let now = c.loop-one.caps in
     let new = c.walk.new.caps in
-    let same : n - (n - 1 - k) ≡ k + 1 = omega (arith, low) in
-    let lead : LeadOn s rest part.from j set =
-    subst (λ q. LeadOn s (drop q ts) part.from j set) same
-    (c.in_ok-rests.ensures.each (n - 1 - k) set (omega arith) c.index-rest.ensures) in
-    let here = spans_part s (view one) from m g.0 in
-    let long : length now ≡ count = omega (arith, c.loop-index.auto.caps) in
-    let set_two : SetsBest s (view two) part.start from m count now new =
-    subst (λ q. SetsBest s (view two) part.start from m q now new) long c.in_ok-walk.ensures in
-    let sets : SetsBest s (view one) part.start from m count now new =
-    subst (λ (e : Ere). SetsBest s (view e) part.start from m count now new)
-    (sym (same_at items k one two low c.index-parts-index.is c.index-parts-index-in-loop-index.is)) set_two in
-    let greatest : (q : ℕ) → Spans s (view one) from q → SpanAll s rest q j → q ≤ m =
-    λ q h r.
-    let at = spans_part s (view one) from q h in
-    let past = all_is_part s rest q j r in
-    g.3 q h past.0 ((lead q).1 (r, omega (arith, i.order, at.0))) in
+    let list = c.in-Some.ensures.cases.0 in
+    let trees = ap (λ (xs : List Ere). trees_of (map view xs)) list in
+    let long : length now ≡ count = omega (arith, c.loop-one.auto.caps) in
     record {
-      order = omega (arith, i.order, here.0);
-      span = ((lead m).0 g.2).0;
-      goes = parts_more s ts (view one) rest part.start count part.from from m j old now new
-          (subst (λ (us : List Tree). PartsTo s ts us part.start count part.from from j old now)
-          (parts_from items k one low c.index-parts-index.is) i.goes) sets greatest;
+      no_refs = no_right (has_refs one) (any_has_refs (trees_of (map view others)))
+          (sym (ap any_has_refs trees) ∙ i.no_refs);
+      room = omega (arith, ap greatest_group_of trees, i.room);
+      depth = omega (arith, ap depth_of trees, i.depth);
+      order = omega (arith, i.order, (spans_part s one from m end.0).0);
+      span = end.1;
+      held = c.in_ok-to.ensures.held;
+      goes = parts_more s ts one (map view others) part.start count part.from from m part.to old now new
+          (subst (λ (xs : List Ere). PartsTo s ts (map view xs) part.start count part.from from part.to old now) list
+          i.goes)
+          (subst (λ q. SetsBest s one part.start from m q now new) long c.in_ok-walk.ensures) end.2;
     }
 
 pub walk_parts-returns : goal.walk_parts-returns
 walk_parts-returns t c =
     let s = c.args.text.now in
-    let items = c.args.parts.now in
-    let ts = map view items in
-    let k = c.loop-index.index in
+    let ts = map view c.args.parts.now in
     let part = c.args.part in
-    let from = c.loop-index.from in
+    let from = c.loop-one.from in
     let count = length c.args.caps.now in
     let old = c.args.caps.now in
-    let now = c.loop-index.caps in
-    let past : length ts ≤ k = omega (arith, length-map items view, c.loop-index-test.false) in
-    let none = drop_all k ts past in
+    let now = c.loop-one.caps in
+    let none = drop_all 0 c.loop-one.rest.now (omega (arith, c.in_default.ensures.cases)) in
     parts_end s ts part.start count part.from from part.to old now
-    (subst (λ (us : List Tree). PartsTo s ts us part.start count part.from from part.to old now) none
-    c.loop-index.invariant.goes)
-    (subst (λ (us : List Tree). SpanAll s us from part.to) none c.loop-index.invariant.span)
+    (subst (λ (xs : List Ere). PartsTo s ts (map view xs) part.start count part.from from part.to old now) none
+    c.loop-one.invariant.goes)
+    (subst (λ (xs : List Ere). SpanAll s (map view xs) from part.to) none c.loop-one.invariant.span)

@@ -1,20 +1,28 @@
-use Rattle.std.proofs.Common.{◌≡◌, ℕ, ◌+◌, ◌*◌, ◌-◌, ◌<◌, ◌≤◌, Some, length, map, drop}
-use Rattle.ere_captures.specs.Walk.{RestOf, less_one}
+use Rattle.std.proofs.Common.{◌≡◌, ℕ, ◌+◌, ◌*◌, ◌-◌, ◌<◌, ◌≤◌, false, Some, length, map, drop}
+use Rattle.ere_captures.specs.Walk.{AreRests, RestOf, less_one}
 use Rattle.ere_places.specs.Places.{SpanAll, SpanOne}
 use Rattle.ere_tree.specs.Derivation.{Spans, tree_at}
+use Rattle.ere_tree.specs.Shape.{any_has_refs, greatest_group_of}
 use Rattle.ere_tree.specs.Tree.{Tree, repeat, trees_of}
 use Rattle.ere_tree.specs.View.{view}
 use Rattle.ere_captures.proofs.DepthLemmas.{depth, depth_of}
 use Rattle.ere_captures.proofs.WalkLemmas.{PartsTo, MembersTo}
 use Rattle.ere_captures.proofs.walk.+walk.Given as goal
 
-abbrev pub invariant-walk_parts-loop-index : goal.invariant-walk_parts-loop-index
-invariant-walk_parts-loop-index l = record {
+abbrev pub invariant-walk_parts-loop-one : goal.invariant-walk_parts-loop-one
+invariant-walk_parts-loop-one l = record {
+  no_refs : any_has_refs (trees_of (map view l.rest)) ≡ false;
+  room : greatest_group_of (trees_of (map view l.rest)) ≤ length l.fn.caps;
+  depth : depth_of (trees_of (map view l.rest)) ≤ depth_of (trees_of (map view l.parts));
   order : l.part.from ≤ l.from;
-  span : SpanAll l.text (drop l.index (map view l.parts)) l.from l.part.to;
-  goes : PartsTo l.text (map view l.parts) (drop l.index (map view l.parts)) l.part.start (length l.fn.caps)
+  span : SpanAll l.text (map view l.rest) l.from l.part.to;
+  held : AreRests l.text l.rest l.part.from l.part.to l.held;
+  goes : PartsTo l.text (map view l.parts) (map view l.rest) l.part.start (length l.fn.caps)
       l.part.from l.from l.part.to l.fn.caps l.caps;
 }
+
+abbrev pub decreases-walk_parts-loop-one : goal.decreases-walk_parts-loop-one
+decreases-walk_parts-loop-one l = length l.rest
 
 abbrev pub invariant-walk_one-loop-one : goal.invariant-walk_one-loop-one
 invariant-walk_one-loop-one l = record {
