@@ -10,7 +10,7 @@ use Rattle.tt_outside.specs.TreeMap.{are_nested, is_part}
 use Rattle.lit_paths.specs.Paths.{Parts, dir_of, joined, parts_of, text_of}
 use Rattle.lit_dirs.specs.Looks.{kind_of}
 use Rattle.lit_dirs.specs.declared.fault.DiscoverFault.{DiscoverFault}
-use Rattle.lit_dirs.specs.declared.fault.DiscoverFault.TheVariants.{Missing, PythonConfig, NoSuite, BadSuite, SuiteTooLarge, TooMany, TooManyItems, NoTests, TreeFault, NoMemory}
+use Rattle.lit_dirs.specs.declared.fault.DiscoverFault.TheVariants.{Missing, TooMany, NoTests, TreeFault, NoMemory}
 use Rattle.lit_look.specs.Suites.{nearest}
 use Rattle.lit_look.specs.declared.seen.Looked.{Looked}
 use Rattle.lit_find.specs.Answers.{GivesTests, GivesWords}

@@ -1,16 +1,16 @@
 -- Files as they came, and in the order of their texts.
 -- Shown: the places of a map that is made of all are those that are put in one by one. Idea: two maps that ascend and have
 -- the same value under each key have the same entries. The hard one is `under`.
-use Rattle.std.proofs.Common.{◌≡◌, ℕ, Bool, true, false, List, [], ◌∷◌, ◌++◌, map, Option, Some, None, refl, sym, ap, ◌∙◌}
+use Rattle.std.proofs.Common.{◌≡◌, ℕ, Bool, true, false, List, [], ◌∷◌, ◌++◌, length, map, Option, Some, None, refl, sym, ap, subst, append-nil, append_assoc, ◌∙◌}
 use Rattle.std.specs.Prelude.{Vec, cond}
 use Rattle.std.specs.declared.alloc.Global.{Global}
 use Rattle.std.specs.BTreeMap.{BTreeMap, IsFromIterResult, insert_entry, is_at}
 use Rattle.std.specs.Map.{keys_of, lookup, update_all}
-use Rattle.std.specs.List.{AllByRecursion, fold}
+use Rattle.std.specs.List.{AllAdjacentBelow, AllByRecursion, fold}
 use Rattle.std.specs.List.Sorted.{IsStrictlySortedBy}
 use Rattle.std.specs.Cmp.{IsTotalOrder}
 use Rattle.std.specs.Cmp.Lexicographic.{slice_cmp}
-use Rattle.std.specs.Ordering.{eq_by_cmp, is_eq, match_ordering, nat_cmp, ordering_reverse}
+use Rattle.std.specs.Ordering.{eq_by_cmp, is_eq, is_lt, match_ordering, nat_cmp, ordering_reverse}
 use Rattle.std.specs.declared.cmp.Ordering.{Ordering}
 use Rattle.std.specs.declared.cmp.Ordering.TheVariants.{Less, Equal, Greater}
 use Rattle.std.specs.Cmp.{eq_by_cmp_equiv, tied_itself}
@@ -19,11 +19,12 @@ use Rattle.std.proofs.lemmas.List.{map-append}
 use Rattle.std.proofs.lemmas.List.Sums.{fold-append}
 use Rattle.std.proofs.lemmas.Map.{lookup-none}
 use Rattle.std.proofs.lemmas.Map.Entries.{lookup_head, lookup_tail, none_past_head, none_below_head}
-use Rattle.std.proofs.lemmas.Map.Keys.{IsDistinct-from_sorted, sorted_tail}
+use Rattle.std.proofs.lemmas.Map.Keys.{IsDistinct-from_sorted, sorted_from_all_adjacent, sorted_tail}
 use Rattle.std.proofs.lemmas.Map.Lookups.{exact_bytes, map_keys}
 use Rattle.lit_paths.specs.Paths.{path_in, text_of}
-use Rattle.lit_find.specs.Entries.{KeysAreTexts, file_of, placed}
+use Rattle.lit_find.specs.Entries.{AreAscending, KeysAreTexts, file_of, placed}
 use Rattle.lit_find.specs.Places.{place_in, put, text_order}
+use Rattle.lit_find.proofs.TestLemmas.{sorted_mapped}
 use Rattle.lit_find.proofs.EntryLemmas.{file_put, same_head, same_tail, texts_stay}
 
 -- ---- an entry put in
@@ -117,6 +118,37 @@ module _ {K X : Type 0} {R : K → K → Ordering} (o : IsTotalOrder R) where
   all_ascending es (pair ∷ pairs) sorted =
       all_ascending (insert_entry R es pair.0 pair.1) pairs (ascending pair.0 pair.1 es sorted)
 
+  -- ---- entries that ascend already
+
+  abbrev pub Ascend : List (K × X) → Type 0
+  Ascend es = IsStrictlySortedBy R (map (λ e. e.0) es)
+
+  behind_all : (e : K × X) (es : List (K × X)) → AllByRecursion (λ one. R one.0 e.0 ≡ Less) es
+      → insert_entry R es e.0 e.1 ≡ es ++ e ∷ []
+  behind_all e [] low = refl
+  behind_all e (one ∷ es) (first, rest) =
+      ap (λ r. match_ordering r (e ∷ one ∷ es) ((one.0, e.1) ∷ es) (one ∷ insert_entry R es e.0 e.1))
+      (o.antisymm e.0 one.0 ∙ ap ordering_reverse first)
+      ∙ ap (λ es. one ∷ es) (behind_all e es rest)
+
+  at_middle : (P : K → Type 0) (es : List (K × X)) (e : K × X) (more : List (K × X))
+      → AllByRecursion P (map (λ e. e.0) (es ++ e ∷ more)) → P e.0
+  at_middle P [] e more all = all.0
+  at_middle P (one ∷ es) e more all = at_middle P es e more all.1
+
+  all_low : (es : List (K × X)) (e : K × X) (more : List (K × X)) → Ascend (es ++ e ∷ more)
+      → AllByRecursion (λ one. R one.0 e.0 ≡ Less) es
+  unfolding IsStrictlySortedBy
+  all_low [] e more up = tt
+  all_low (one ∷ es) e more (low, up) = (at_middle (λ key. R one.0 key ≡ Less) es e more low, all_low es e more up)
+
+  gathered_all : (es pairs : List (K × X)) → Ascend (es ++ pairs) → gathered es pairs ≡ es ++ pairs
+  gathered_all es [] up = sym (append-nil es)
+  gathered_all es (pair ∷ pairs) up =
+      ap (λ es. gathered es pairs) (behind_all pair es (all_low es pair pairs up))
+      ∙ gathered_all (es ++ pair ∷ []) pairs (subst Ascend (sym (append_assoc es (pair ∷ []) pairs)) up)
+      ∙ append_assoc es (pair ∷ []) pairs
+
   -- ---- entries that ascend and have the same value under each key
 
   at_head : (e : K × X) (es : List (K × X)) → lookup (is_at (R e.0)) (e ∷ es) ≡ Some e.1
@@ -206,6 +238,25 @@ all_placed es (pair ∷ pairs) keys texts =
           (file_put es pair.0 pair.1 here keys),
       later.1,
     )
+
+less_is : (r : Ordering) → true ≡ is_lt r → r ≡ Less
+less_is Less is = refl
+less_is Equal is = absurd (cc)
+less_is Greater is = absurd (cc)
+
+-- files of which each comes before the next ascend
+pub neighbours : (pairs : List (Vec ℕ Global × ℕ))
+    → AllAdjacentBelow (λ one other. true ≡ is_lt (text_cmp one.0 other.0)) pairs (length pairs) → AreAscending pairs
+neighbours [] up = nothing_ascends _
+neighbours (pair ∷ pairs) up =
+    sorted_mapped (λ e. e.0) text_cmp (pair ∷ pairs)
+    (sorted_from_all_adjacent (on_texts (λ one. one.0.items)) (pair ∷ pairs) pair (λ k more. less_is _ (up k pair more)))
+
+-- files that ascend are in their order
+pub ascending_files : (pairs : List (Vec ℕ Global × ℕ)) → KeysAreTexts pairs → AreAscending pairs
+    → map file_of pairs ≡ placed pairs
+ascending_files pairs keys up =
+    sym (ap (map file_of) (gathered_all (on_texts (λ key. key.items)) [] pairs up)) ∙ (all_placed [] pairs refl keys).0
 
 read_as : (es : List (Vec ℕ Global × ℕ)) → map (λ pair. place_in pair.0 pair.1) (map_keys (λ key. key.items) es) ≡ map file_of es
 read_as [] = refl

@@ -138,7 +138,7 @@ below_mapped : {A B : Type 0} (f : A → B) (cmp : B → B → Ordering) (x : A)
 below_mapped f cmp x [] below = tt
 below_mapped f cmp x (y ∷ ys) (first, rest) = (first, below_mapped f cmp x ys rest)
 
-sorted_mapped : {A B : Type 0} (f : A → B) (cmp : B → B → Ordering) (xs : List A)
+pub sorted_mapped : {A B : Type 0} (f : A → B) (cmp : B → B → Ordering) (xs : List A)
     → IsStrictlySortedBy (λ x y. cmp (f x) (f y)) xs → IsStrictlySortedBy cmp (map f xs)
 unfolding IsStrictlySortedBy
 sorted_mapped f cmp [] sorted = tt

@@ -9,7 +9,7 @@ use Rattle.tt_outside.specs.TreeMap.{are_nested, is_part}
 use Rattle.lit_paths.specs.Paths.{Parts, dir_of, text_of}
 use Rattle.lit_dirs.specs.Looks.{kind_of}
 use Rattle.lit_dirs.specs.declared.fault.DiscoverFault.{DiscoverFault}
-use Rattle.lit_dirs.specs.declared.fault.DiscoverFault.TheVariants.{Missing, PythonConfig, NoSuite, BadSuite, SuiteTooLarge, TooMany, TooManyItems, NoTests, TreeFault, NoMemory}
+use Rattle.lit_dirs.specs.declared.fault.DiscoverFault.TheVariants.{Missing, NoSuite, TreeFault, NoMemory}
 use Rattle.lit_look.specs.Looks.{Extends, GivesNearest, IsNearest, IsNumberOf}
 use Rattle.lit_look.specs.Seen.{AreSeen, Has, Refuses}
 use Rattle.lit_look.specs.Suites.{GoesUp, IsAbove, nearest}

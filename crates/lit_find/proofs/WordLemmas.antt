@@ -12,7 +12,7 @@ use Rattle.lit_suite.specs.declared.suite_file.SuiteFault.{SuiteFault}
 use Rattle.lit_dirs.specs.Looks.{kind_of}
 use Rattle.lit_dirs.specs.Suites.{suite_at}
 use Rattle.lit_dirs.specs.declared.fault.DiscoverFault.{DiscoverFault}
-use Rattle.lit_dirs.specs.declared.fault.DiscoverFault.TheVariants.{Missing, PythonConfig, NoSuite, BadSuite, SuiteTooLarge, TooMany, TooManyItems, NoTests, TreeFault, NoMemory}
+use Rattle.lit_dirs.specs.declared.fault.DiscoverFault.TheVariants.{Missing, TreeFault, NoMemory}
 use Rattle.lit_look.specs.Looks.{Extends, GivesLook, IsNearest}
 use Rattle.lit_look.specs.Seen.{AreSeen, Has, Refuses}
 use Rattle.lit_look.specs.Suites.{GoesUp, IsAbove, Rooted, nearest, or_else, rooted}

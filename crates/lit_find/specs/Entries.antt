@@ -3,7 +3,10 @@
 use Rattle.std.specs.Prelude.{◌≡◌, ℕ, List, [], map, Vec}
 use Rattle.std.specs.declared.alloc.Global.{Global}
 use Rattle.lit_paths.specs.Paths.{text_of}
+use Rattle.std.specs.Cmp.Lexicographic.{slice_cmp}
 use Rattle.std.specs.List.{fold}
+use Rattle.std.specs.List.Sorted.{IsStrictlySortedBy}
+use Rattle.std.specs.Ordering.{nat_cmp}
 use Rattle.lit_find.specs.Places.{place_in, put, text_order}
 use Rattle.lit_find.specs.declared.place.Place.{Place}
 
@@ -22,6 +25,10 @@ file_of entry = place_in entry.0.items entry.1
 -- each file is under the text of its path
 abbrev pub KeysAreTexts : List (Vec ℕ Global × ℕ) → Type 0
 KeysAreTexts entries = map (λ entry. entry.0.items) entries ≡ map (λ entry. text_of (file_of entry).path) entries
+
+-- each file comes before those behind it
+abbrev pub AreAscending : List (Vec ℕ Global × ℕ) → Type 0
+AreAscending entries = IsStrictlySortedBy (λ one other. slice_cmp nat_cmp one.items other.items) (map (λ entry. entry.0) entries)
 
 -- files, put in one after another
 abbrev pub placed : List (Vec ℕ Global × ℕ) → List Place

@@ -1,9 +1,9 @@
 //! The tests that a discovery has found.
-ghost use Rattle.std.specs.Prelude.{◌≡◌, ◌≢◌, All, IfOk, List, OnOk, [], map, true};
+ghost use Rattle.std.specs.Prelude.{◌≡◌, ◌≢◌, All, IfOk, IsTrue, List, OnOk, [], map, true};
 ghost use Rattle.std.specs.List.{list_all};
 ghost use Rattle.tt_outside.specs.TreeMap.{is_part};
 ghost use Rattle.lit_find.specs.Discovery.{IsTest};
-ghost use Rattle.lit_find.specs.Entries.{KeysAreTexts, file_of, placed};
+ghost use Rattle.lit_find.specs.Entries.{AreAscending, KeysAreTexts, file_of, placed};
 ghost use Rattle.lit_find.specs.Found.{AreMade, IsMadeOf};
 ghost use Rattle.lit_find.specs.Places.{place_in, put, text_order};
 ghost use Rattle.lit_find.specs.Walk.{IsRooted};
@@ -96,12 +96,45 @@ impl Found {
     }
 }
 
+/// Whether files stand in byte order of their paths, each once.
+fn ascend(files: &[(Vec<u8>, usize)]) -> bool
+    ensures { IsTrue result → AreAscending files.now }
+{
+    files.is_sorted_by(|one, other| one.0.cmp(&other.0).is_lt())
+}
+
+/// The files of a map, in its order.
+fn listed(alloc: Global, files: BTreeMap<Vec<u8>, usize>) -> Result<Vec<(Vec<u8>, usize)>, NoMemory>
+    ensures same { IfOk result (λ list. list.items ≡ files.entries) }
+    ensures ascending { IfOk result (λ list. AreAscending list.items) }
+{
+    let mut list = Vec::new(alloc);
+    for file in files {
+        if list.push(file).is_err() {
+            return Err(NoMemory);
+        }
+    }
+    Ok(list)
+}
+
 /// Files in byte order of their paths. Of those of one path the last counts.
+#[tactic(auto, using(crate::proofs::GatherLemmas::ascending_files))]
+fn in_order(alloc: Global, files: Vec<(Vec<u8>, usize)>) -> Result<Vec<(Vec<u8>, usize)>, NoMemory>
+    requires { KeysAreTexts files.items }
+    ensures places { IfOk result (λ made. map file_of made.items ≡ placed files.items) }
+    ensures texts { IfOk result (λ made. KeysAreTexts made.items) }
+    ensures ascending { IfOk result (λ made. AreAscending made.items) }
+{
+    if ascend(files.as_slice()) {
+        return Ok(files);
+    }
+    let map = mapped(alloc, files)?;
+    listed(alloc, map)
+}
+
+/// Files under their paths. Of those of one path the last counts.
 #[tactic(auto, using(crate::proofs::GatherLemmas::places_of))]
-fn in_order(
-    alloc: Global,
-    files: Vec<(Vec<u8>, usize)>,
-) -> Result<BTreeMap<Vec<u8>, usize>, NoMemory>
+fn mapped(alloc: Global, files: Vec<(Vec<u8>, usize)>) -> Result<BTreeMap<Vec<u8>, usize>, NoMemory>
     requires { KeysAreTexts files.items }
     ensures places { IfOk result (λ made. map file_of made.entries ≡ placed files.items) }
     ensures texts { IfOk result (λ made. KeysAreTexts made.entries) }

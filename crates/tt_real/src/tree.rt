@@ -102,13 +102,23 @@ fn list_folder<R: rt::Files>(rt: &R, alloc: Global, dir: &[u8]) -> Result<Items<
     let Ok(path) = str::from_utf8(dir) else {
         return Err(TreeFault::Failed);
     };
+    match rt.open_dir(path) {
+        Ok(mut folder) => list_entries(rt, alloc, path, &mut folder),
+        Err(error) => Err(unlisted(rt, path, &error)),
+    }
+}
+
+/// Why a path that didn't open as a folder isn't listed.
+fn unlisted<R: rt::Files>(rt: &R, path: &str, error: &Error) -> TreeFault
+    ensures { result ≢ TreeFault.TooLarge }
+{
     match fs::symlink_metadata(rt, path) {
         Ok(here) => match kind_of(rt, path, &here) {
-            ItemKind::Dir => list_entries(rt, alloc, path),
-            ItemKind::File => Err(TreeFault::NotDirectory),
-            ItemKind::Other => Err(TreeFault::Missing),
+            ItemKind::Dir => fault_of(error),
+            ItemKind::File => TreeFault::NotDirectory,
+            ItemKind::Other => TreeFault::Missing,
         },
-        Err(error) => Err(fault_of(&error)),
+        Err(error) => fault_of(&error),
     }
 }
 
@@ -125,27 +135,53 @@ fn with_slash(alloc: Global, path: &str) -> Result<Vec<u8>, AllocError> {
     Ok(text)
 }
 
+/// An item, with the first eight bytes of its name as a number.
+type Fronted = (u64, Item);
+
+/// The first eight bytes of a name as a number. It is less for a name that comes before, or the same.
+fn front_of(name: &[u8]) -> u64 {
+    let mut front = [0u8; 8];
+    for (place, byte) in front.iter_mut().zip(name) {
+        *place = *byte;
+    }
+    u64::from_be_bytes(front)
+}
+
 /// Items in byte order of their names: the system tells them in any order.
-fn by_name(mut items: Vec<Item>) -> Items<Item> {
-    items.sort_unstable_by(|one, other| one.name.as_slice().cmp(other.name.as_slice()));
-    Items::from_vec(items)
+fn by_name(alloc: Global, mut fronted: Vec<Fronted>) -> Result<Items<Item>, TreeFault>
+    ensures { result ≢ Err TreeFault.TooLarge }
+{
+    fronted.sort_unstable_by(|one, other| {
+        one.0
+            .cmp(&other.0)
+            .then_with(|| one.1.name.as_slice().cmp(other.1.name.as_slice()))
+    });
+    let Ok(mut items) = Vec::with_capacity(alloc, fronted.len()) else {
+        return Err(TreeFault::NoMemory);
+    };
+    for (_, item) in fronted {
+        if items.push(item).is_err() {
+            return Err(TreeFault::NoMemory);
+        }
+    }
+    Ok(Items::from_vec(items))
 }
 
 /// The items of a folder. A name that isn't text is a fault; an item that vanished since its name was read is left out.
-fn list_entries<R: rt::Files>(rt: &R, alloc: Global, dir: &str) -> Result<Items<Item>, TreeFault>
+fn list_entries<R: rt::Files, D: Read>(
+    rt: &R,
+    alloc: Global,
+    dir: &str,
+    folder: &mut D,
+) -> Result<Items<Item>, TreeFault>
     ensures { result ≢ Err TreeFault.TooLarge }
 {
     let Ok(mut path) = with_slash(alloc, dir) else {
         return Err(TreeFault::NoMemory);
     };
     let mut items = Vec::new(alloc);
-    match rt.open_dir(dir) {
-        Ok(mut folder) => match add_all(rt, alloc, &mut folder, &mut path, &mut items) {
-            Ok(()) => Ok(by_name(items)),
-            Err(fault) => Err(fault),
-        },
-        Err(error) => Err(fault_of(&error)),
-    }
+    add_all(rt, alloc, folder, &mut path, &mut items)?;
+    by_name(alloc, items)
 }
 
 /// Adds all items of a folder. `path` is its path, with a slash behind it.
@@ -154,7 +190,7 @@ fn add_all<R: rt::Files, D: Read>(
     alloc: Global,
     folder: &mut D,
     path: &mut Vec<u8>,
-    items: &mut Vec<Item>,
+    items: &mut Vec<Fronted>,
 ) -> Result<(), TreeFault>
     ensures { result ≢ Err TreeFault.TooLarge }
 {
@@ -175,7 +211,7 @@ fn add_items<R: rt::Files>(
     alloc: Global,
     path: &mut Vec<u8>,
     names: &[u8],
-    items: &mut Vec<Item>,
+    items: &mut Vec<Fronted>,
 ) -> Result<(), TreeFault>
     ensures { result ≢ Err TreeFault.TooLarge }
 {
@@ -190,7 +226,7 @@ fn add_items<R: rt::Files>(
         }
         match item_of(rt, alloc, name, path.as_slice()) {
             Ok(item) => {
-                if items.push(item).is_err() {
+                if items.push((front_of(name), item)).is_err() {
                     return Err(TreeFault::NoMemory);
                 }
             }

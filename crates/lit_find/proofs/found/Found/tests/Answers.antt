@@ -1,7 +1,7 @@
-use Rattle.std.proofs.Common.{◌≡◌, ◌++◌, ◌∷◌, List, [], map, sym, ◌∙◌, subst, append-nil}
+use Rattle.std.proofs.Common.{◌≡◌, ◌++◌, ◌∷◌, List, [], ap, sym, ◌∙◌, subst, append-nil, append_assoc}
 use Rattle.std.specs.List.{AllZip}
-use Rattle.std.proofs.lemmas.List.{map-id}
-use Rattle.std.proofs.lemmas.Map.Iter.{rest_so_far}
+use Rattle.std.specs.Vec.Iter.{into_iter_items}
+use Rattle.std.proofs.lemmas.List.{nil_from_length}
 use Rattle.std.specs.Prelude.{Vec, ℕ}
 use Rattle.std.specs.declared.alloc.Global.{Global}
 use Rattle.lit_find.specs.Found.{IsMadeOf}
@@ -16,20 +16,23 @@ loop-text-preserved c =
     let made : IsOf c.args.seen.now entry test =
     subst (λ (xs : List Looked). IsMadeOf xs c.in-Some.text.items c.in-Some.suite test) c.as_slice-looks.ensures.same
     (subst (λ text. IsMadeOf c.as_slice-looks.result.now text c.in-Some.suite test) c.from_vec.ensures
-    c.in_ok-test_at.ensures) in
-    subst (λ tests. AllZip (IsOf c.args.seen.now) (c.loop-text.yielded ++ entry ∷ []) tests)
-    (sym c.in_ok-push.ensures.ok)
-    (zip_push (IsOf c.args.seen.now) c.loop-text.yielded c.loop-text.tests entry test c.loop-text.invariant made)
+    c.in_ok-test_at.ensures) in (
+      subst (λ tests. AllZip (IsOf c.args.seen.now) (c.loop-text.yielded ++ entry ∷ []) tests)
+          (sym c.in_ok-push.ensures.ok)
+          (zip_push (IsOf c.args.seen.now) c.loop-text.yielded c.loop-text.tests entry test c.loop-text.invariant.0 made),
+      append_assoc c.loop-text.yielded (entry ∷ []) (into_iter_items c.next.new.self)
+          ∙ ap (λ rest. c.loop-text.yielded ++ rest) (sym c.in-Some.ensures.steps.0) ∙ c.loop-text.invariant.1,
+    )
 
 pub returns : goal.returns
 returns c = λ nodes words are_rooted are_tests.
-    let entries = c.in_ok-files.files.entries in
-    let so_far = rest_so_far (λ x. x) c.loop-text.yielded c.into_iter-text-iterator.result c.loop-text.text-iterator
-    c.loop-text.yielded_by in
-    let rest : map (λ x. x) c.loop-text.yielded ++ c.loop-text.text-iterator ≡ c.loop-text.yielded ++ [] =
-    λ i. map-id c.loop-text.yielded i ++ c.in-None.ensures.steps.0 i in
+    let entries = c.in_ok-files.files.items in
+    let left = c.loop-text.text-iterator in
+    let none : into_iter_items left ≡ [] =
+    nil_from_length (into_iter_items left) (sym left.rest.ok.0 ∙ c.in-None.ensures.steps.0) in
     let whole : c.loop-text.yielded ≡ entries =
-    sym (append-nil c.loop-text.yielded) ∙ sym rest ∙ sym so_far ∙ c.into_iter-text-iterator.ensures.into_iter_gives.0 in
+    sym (append-nil c.loop-text.yielded) ∙ ap (λ rest. c.loop-text.yielded ++ rest) (sym none) ∙ c.loop-text.invariant.1
+    ∙ c.into_iter-text-iterator.ensures.into_iter_gives.0 in
     tests_are_made nodes words c.args.seen.now entries c.args.self c.loop-text.tests c.in_ok-files.ensures.texts
-    c.into_iter-text-iterator.ensures.into_iter_gives.5 (c.in_ok-files.ensures.places ∙ c.self.view_is) are_rooted are_tests
-    (subst (λ es. AllZip (IsOf c.args.seen.now) es c.loop-text.tests) whole c.loop-text.invariant)
+    c.in_ok-files.ensures.ascending (c.in_ok-files.ensures.places ∙ c.self.view_is) are_rooted are_tests
+    (subst (λ es. AllZip (IsOf c.args.seen.now) es c.loop-text.tests) whole c.loop-text.invariant.0)

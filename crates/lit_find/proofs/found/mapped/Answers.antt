@@ -4,7 +4,7 @@ use Rattle.std.specs.BTreeMap.{IsFromIterResult}
 use Rattle.std.specs.Cmp.Lexicographic.{slice_cmp}
 use Rattle.std.specs.Ordering.{nat_cmp}
 use Rattle.lit_find.proofs.GatherLemmas.{places_of}
-use Rattle.lit_find.proofs.found.in_order.Goals as goal
+use Rattle.lit_find.proofs.found.mapped.Goals as goal
 
 pub from_iter-requires : goal.from_iter-requires
 from_iter-requires c it h = (tt, tt, λ xs t y. tt)
