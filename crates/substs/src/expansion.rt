@@ -1,5 +1,5 @@
 //! A line of a script, expanded.
-ghost use Rattle.std.specs.Prelude.{◌≡◌, ◌<◌, ◌≤◌, ◌^◌, Some, length, true};
+ghost use Rattle.std.specs.Prelude.{◌≡◌, ◌↔◌, ◌<◌, ◌≤◌, ◌^◌, Some, length, true};
 ghost use Rattle.substs.specs.Expansion.{AreNamed, Makes, after_all, expansion, line_rules, name_rules, rules_of, within};
 
 use crate::fail::{ExpandFail, MAX_LINE, add, add_both};
@@ -19,7 +19,7 @@ pub struct Texts {
 impl Texts {
     /// Whether no name is empty, as `expand` asks.
     pub fn are_named(&self) -> bool
-        ensures { result ≡ true → AreNamed self.now.pairs }
+        ensures { result ≡ true ↔ AreNamed self.now.pairs }
     {
         self.pairs
             .as_slice()

@@ -16,6 +16,11 @@ pub enum ExpandFail {
 }
 
 impl From<NoMemory> for ExpandFail {
+    ghost use Rattle.std.specs.Prelude.{◌≡◌};
+    ghost use Rattle.substs.specs.declared.fail.ExpandFail.TheVariants.{NoMemory};
+
+    ghost from_gives = { λ _ fail. fail ≡ NoMemory };
+
     fn from(_: NoMemory) -> ExpandFail {
         ExpandFail::NoMemory
     }
