@@ -133,3 +133,18 @@ fn small_expressions_are_found_as_the_list_has_them(rt: HostRuntime) -> Result<(
     assert!(rt; hits > 5_000, "{hits} hits");
     Ok(())
 }
+
+#[test]
+fn of_sixty_thousand_alternatives_one_is_found_or_none(rt: HostRuntime) -> Result<(), Fail> {
+    let mut pattern = spelled(rt.alloc(), &["a|"], 0, 59_999)?;
+    pattern.push(b'a')?;
+    let Ok(ere) = parse(rt.alloc(), pattern.as_slice(), false) else {
+        return Err(Fail::from("refused"));
+    };
+    let letters = vec![in rt.alloc(); b'a'; 65_536]?;
+    let hit = found(rt.alloc(), &ere, letters.as_slice(), 0)?;
+    assert!(rt; in_words(rt.alloc(), &hit)?.as_str() == "0-1");
+    let others = vec![in rt.alloc(); b'b'; 1_048_576]?;
+    assert!(rt; found(rt.alloc(), &ere, others.as_slice(), 0)?.is_none());
+    Ok(())
+}

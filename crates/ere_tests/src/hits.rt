@@ -54,7 +54,7 @@ fn found_twice(alloc: Global, pattern: &str, text: &str, from: usize) -> Result<
 }
 
 /// An expression, a text, where the search begins, and the span that is found in the slice from there on.
-const SPANS: [(&str, &str, usize, &str); 14] = [
+const SPANS: [(&str, &str, usize, &str); 17] = [
     ("b|abc|a", "abcd", 0, "0-3"),
     ("a*b", "aaaaaaaa", 0, "none"),
     ("^b", "ab", 1, "0-1"),
@@ -69,6 +69,9 @@ const SPANS: [(&str, &str, usize, &str); 14] = [
     ("c$", "abc", 1, "1-2"),
     ("(needle)*x", "x", 0, "0-1"),
     ("([0-9a-f]{8}){8}x", "0123456789abcdef", 0, "none"),
+    ("[a-z]+(: )+[0-9]+;", "a: 1\nb: 2;", 0, "5-10"),
+    ("[a\n]+needle", "xa\naneedle", 0, "1-10"),
+    ("(a|b\n)+needle", "ab\nneedle", 0, "0-9"),
 ];
 
 #[test]

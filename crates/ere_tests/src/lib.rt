@@ -23,4 +23,6 @@ mod table;
 #[cfg(test)]
 mod tree;
 #[cfg(test)]
+mod walks;
+#[cfg(test)]
 mod whole;
