@@ -12,12 +12,19 @@ import tempfile
 from filecheck import MIB, built, other_programs, row, write_input
 
 
-def write_generated(checks, text, count):
-    """The check file and the input of --generate."""
+def write_generated(checks, text, count, value="[0-9]+"):
+    """The check file and the input of --generate; another expression may stand for the value."""
     with open(checks, "w") as out, open(text, "w") as lines:
         for k in range(1, count + 1):
-            out.write("CHECK: op 1 val [[#V:]]\n" if k == 1 else f"CHECK-NEXT: op {k} val {{{{[0-9]+}}}}\n")
+            out.write("CHECK: op 1 val [[#V:]]\n" if k == 1 else f"CHECK-NEXT: op {k} val {{{{{value}}}}}\n")
             lines.write(f"op {k} val {(k * k + 7) % 1000}\n")
+
+
+def write_counted(checks, text, count, body):
+    """One COUNT, and the input of --generate, in which its body stands so often."""
+    write_generated(checks, text, count)
+    with open(checks, "w") as out:
+        out.write(f"CHECK-COUNT-{count}: {body}\n")
 
 
 def write_captures(checks, text, count):
@@ -79,6 +86,11 @@ def cases(mib):
     group = range(2000)
     return [
         ("20,000 CHECK-NEXT with `{{[0-9]+}}`", 0, lambda c, t: write_generated(c, t, 20000)),
+        ("20,000 CHECK-NEXT with `{{[a-z]+|[0-9]+}}`", 0, lambda c, t: write_generated(c, t, 20000, "[a-z]+|[0-9]+")),
+        ("CHECK-COUNT-100000 of ` val `", 0, lambda c, t: write_counted(c, t, 100000, " val ")),
+        ("CHECK-COUNT-100000 of `val {{[0-9]+}}`", 0, lambda c, t: write_counted(c, t, 100000, "val {{[0-9]+}}")),
+        ("CHECK-COUNT-100000 of `val {{[a-z]+|[0-9]+}}`", 0,
+         lambda c, t: write_counted(c, t, 100000, "val {{[a-z]+|[0-9]+}}")),
         ("150 CHECK-NEXT of 550 bytes, three captures each", 0, lambda c, t: write_captures(c, t, 150)),
         (f"`call {{{{frame_.*needle}}}}` at the end of {mib} MiB", 0,
          lambda c, t: write_regex(c, t, "call {{frame_.*needle}}", mib * MIB)),
