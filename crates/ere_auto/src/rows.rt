@@ -11,7 +11,7 @@ use std::alloc::{AllocError, Global};
 /// How many rows are kept.
 pub const MAX_ROWS: usize = 192;
 
-/// In how many slots the places of rows are kept, by what is in them.
+/// In how many slots the places of rows are kept, by what is in them, once there are more than a few.
 const SLOTS: usize = 512;
 
 /// In how many slots, one behind the other, a row is looked for.
@@ -23,7 +23,11 @@ const ROW_WIDTH: usize = 16;
 /// From how many rows on a row is looked for before it is made.
 const FEW_ROWS: usize = 16;
 
-/// For how many rows there is room at first. Where there is no memory for more, rows are dropped.
+/// For how many rows there is room at first: the first two, and one that is met. Where there is no memory for more, rows
+/// are dropped.
+const LEAST_ROWS: usize = 3;
+
+/// For how many rows more memory is taken when the first is met: many automata meet none.
 const FIRST_ROWS: usize = 24;
 
 /// The rows that were met, and to which of them each byte leads. Rows 0 and 1 have no thread: a line starts at row 0.
@@ -48,7 +52,6 @@ pub struct Rows {
     ghost pool_fits: { vec_len pool ≤ room },
     ghost pool_room: { nodes ≤ vec_capacity pool },
     ghost wide: { nodes ≤ room },
-    ghost slots: { vec_len index ≡ 512 },
     pub ghost begun: { (r : ℕ) → r < vec_len rows → slot_or_zero (row_in rows.items r).begun ≤ nodes },
     pub ghost met: { (r : ℕ) → r < vec_len rows → slot_or_zero (row_in rows.items r).met ≤ nodes },
     pub ghost origins: { (x : ℕ) → x < vec_len pool → origin_in pool.items x ≤ nodes },
@@ -74,9 +77,8 @@ impl Rows {
         let Some(room) = nodes.checked_add(MAX_ROWS * ROW_WIDTH) else {
             return Err(AllocError);
         };
-        let first = nodes + 2 * FIRST_ROWS;
-        let pool = Vec::with_capacity(alloc, first)?;
-        let mut rows = Vec::with_capacity(alloc, FIRST_ROWS)?;
+        let pool = Vec::with_capacity(alloc, nodes)?;
+        let mut rows = Vec::with_capacity(alloc, LEAST_ROWS)?;
         rows.push_reserved(Row {
             from: 0,
             to: 0,
@@ -95,15 +97,14 @@ impl Rows {
             begun: None,
             met: None,
         });
-        let mut cells = Vec::with_capacity(alloc, 256 * FIRST_ROWS)?;
+        let mut cells = Vec::with_capacity(alloc, 256 * LEAST_ROWS)?;
         add_cells(&mut cells);
         add_cells(&mut cells);
-        let index = vec![in alloc; 0u8; SLOTS]?;
         Ok(Rows {
             pool,
             rows,
             cells,
-            index,
+            index: Vec::new(alloc),
             nodes,
             room,
         })
@@ -176,10 +177,9 @@ impl Rows {
         begun: Option<usize>,
         met: Option<usize>,
     ) -> Option<usize>
-        requires { slot < 512 }
         ensures { IfSome result (λ row. IsRow (row_table_of self.now) row threads.now line searching begun met) }
     {
-        let known = self.index[slot] as usize;
+        let known = row_in_slot(&self.index, slot);
         if known >= self.rows.len() {
             return None;
         }
@@ -206,8 +206,7 @@ impl Rows {
         begun: Option<usize>,
         met: Option<usize>,
     ) -> Looked
-        ensures row { IfSome result.row (λ row. IsRow (row_table_of self.now) row threads.now line searching begun met) }
-        ensures slot { result.slot < 512 }
+        ensures { IfSome result.row (λ row. IsRow (row_table_of self.now) row threads.now line searching begun met) }
     {
         if self.rows.len() < FEW_ROWS {
             return Looked { row: None, slot: 0 };
@@ -215,7 +214,7 @@ impl Rows {
         let first = slot_of(threads, line, searching, met);
         for step in 0..TRIES {
             let slot = (first + step) % SLOTS;
-            if self.index[slot] == 0 {
+            if row_in_slot(&self.index, slot) == 0 {
                 return Looked { row: None, slot };
             }
             if let Some(row) = self.find(slot, threads, line, searching, begun, met) {
@@ -255,9 +254,10 @@ impl Rows {
         ensures lens { (vec_len self.new.rows ≡ vec_len self.old.rows) × (vec_len self.new.pool ≡ vec_len self.old.pool) }
         ensures has { result ≡ true → HasRoom self.new count }
     {
-        self.rows.reserve(1).is_ok()
-            && self.cells.reserve(256).is_ok()
-            && self.pool.reserve(count).is_ok()
+        let more = rows_to_take(self.rows.len());
+        self.rows.reserve(more).is_ok()
+            && self.cells.reserve(256 * more).is_ok()
+            && self.pool.reserve(count.max(2 * more)).is_ok()
     }
 
     /// Makes room for a row of so many threads, and tells whether all rows were kept.
@@ -338,15 +338,50 @@ impl Rows {
         ensures steps { (T : ℕ → Node) (e : ℕ) → AreSteps T e (row_table_of self.old) → AreSteps T e (row_table_of self.new) }
         ensures nodes { self.new.nodes ≡ self.old.nodes }
     {
+        if self.rows.len() >= FEW_ROWS {
+            open_index(&mut self.index);
+        }
         let looked = self.look(threads, line, searching, begun, met);
         if let Some(row) = looked.row {
             return Entered { row, kept: true };
         }
         let kept = self.make_room(threads.len());
         let row = self.push_row(threads, line, searching, begun, met);
-        self.index[looked.slot] = row as u8;
+        put_in_slot(&mut self.index, looked.slot, row);
         Entered { row, kept }
     }
+}
+
+/// Takes memory for the slots, unless that was done. Where there is none, no row is found in them.
+fn open_index(index: &mut Vec<u8>) {
+    if index.is_empty() {
+        let _ = index.resize(SLOTS, 0);
+    }
+}
+
+/// The row in a slot. 0 where there is none.
+fn row_in_slot(index: &Vec<u8>, slot: usize) -> usize {
+    match index.get(slot) {
+        Some(row) => *row as usize,
+        None => 0,
+    }
+}
+
+/// Puts a row in a slot.
+fn put_in_slot(index: &mut Vec<u8>, slot: usize, row: usize)
+    requires { row < 192 }
+{
+    if let Some(place) = index.get_mut(slot) {
+        *place = row as u8;
+    }
+}
+
+/// For how many rows memory is taken behind so many.
+fn rows_to_take(rows: usize) -> usize
+    ensures some { 1 ≤ result }
+    ensures few { result ≤ 24 }
+{
+    if rows == 2 { FIRST_ROWS } else { 1 }
 }
 
 /// The row that the index has, and the slot in which it is, or is to be.

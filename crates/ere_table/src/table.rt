@@ -10,7 +10,7 @@ use ere_tree::Ere;
 use std::alloc::{AllocError, Global};
 
 /// For how many nodes there is room at first: most expressions have fewer.
-const FIRST_NODES: usize = 32;
+const FIRST_NODES: usize = 20;
 
 /// An expression as nodes that name each other by their places. It is entered at `entry`, and left at node 0.
 #[derive(Drop, Debug)]

@@ -35,7 +35,6 @@ invariant_of-self c =
       pool_fits = omega (arith, none);
       pool_room = omega (arith, c.clear.ensures.capacity, old.pool_room);
       wide = old.wide;
-      slots = grind (arith, c.fill.ensures, old.slots);
       begun = λ r l.
           subst (λ (x : Row). slot_or_zero x.begun ≤ old.nodes) (sym (same r (omega (arith, l, two)))) (old.begun r (omega (arith, l, two, old.two)));
       met = λ r l.

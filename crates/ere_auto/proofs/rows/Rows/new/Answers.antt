@@ -33,7 +33,6 @@ invariant_of-result c =
       pool_fits = omega (arith, none);
       pool_room = omega (arith, c.in_ok-pool.ensures.exact);
       wide = omega (arith, c.in-Some.ensures);
-      slots = omega (arith, c.in_ok-index.ensures.len);
       begun = λ r l.
           each_two (λ x. slot_or_zero x.begun ≤ c.args.nodes) new a b e (omega arith) (omega arith) r
           (omega (arith, l, two));

@@ -55,7 +55,6 @@ invariant_of-self c =
       pool_fits = omega (arith, c.add_threads.ensures.len, c.requires.room);
       pool_room = omega (arith, c.add_threads.ensures.capacity, old.pool_room);
       wide = old.wide;
-      slots = old.slots;
       begun = λ r l.
           each_row (λ x. slot_or_zero x.begun ≤ old.nodes) rows new row e
           (λ i m. old.begun i (omega (arith, m, long))) c.requires.begun r
