@@ -1,7 +1,7 @@
 -- What one line of a check file holds.
 -- After LLVM Command Guide, FileCheck: a directive's text is the rest of its line, without blanks at both ends.
 -- Own rules: which lines are refused, and why first.
-use Rattle.std.specs.Prelude.{◌≡◌, ◌<◌, ◌≤◌, ⊤, ℕ, ◌+◌, ◌-◌, ◌==◌, ◌^◌, Bool, true, false, ◌&&◌, ◌||◌, not, if◌then◌else◌, List, take, drop, length, Option, None, Some, Result, Ok, Err}
+use Rattle.std.specs.Prelude.{◌≡◌, ◌<◌, ◌≤◌, ⊤, ℕ, ◌+◌, ◌-◌, ◌==◌, Bool, true, false, ◌&&◌, ◌||◌, not, if◌then◌else◌, List, take, drop, length, Option, None, Some, Result, Ok, Err}
 use Rattle.std.specs.List.{prefix_len, suffix_len}
 use Rattle.tt_base.specs.Place.{span_of}
 use Rattle.tt_base.specs.declared.place.Place.{Place}

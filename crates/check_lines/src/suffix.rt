@@ -28,7 +28,9 @@ pub fn suffix(text: &[u8]) -> Option<Spelling>
     ensures value { result ≡ suffix text.now }
     ensures lies { LiesWithin (length text.now) result }
 {
-    if text.starts_with(b"-COUNT-") {
+    if !text.starts_with(b"-") {
+        closed(Kind::Plain, 0, text)
+    } else if text.starts_with(b"-COUNT-") {
         counted(&text[7..])
     } else {
         named_suffix(named(text), text)

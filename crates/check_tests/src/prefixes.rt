@@ -17,7 +17,7 @@ pub(crate) fn list_of(alloc: Global, names: &str) -> Result<Items<Bytes>, NoMemo
 }
 
 /// Names, a text, and the number and the length of the longest one that the text begins with.
-const LONGEST: [(&str, &str, &str); 11] = [
+const LONGEST: [(&str, &str, &str); 15] = [
     ("A,AB,A-B,AB", "A: x", "0 1"),
     ("A,AB,A-B,AB", "AB: x", "1 2"),
     ("A,AB,A-B,AB", "A-B: x", "2 3"),
@@ -29,6 +29,10 @@ const LONGEST: [(&str, &str, &str); 11] = [
     ("B,,C", "A", "1 0"),
     ("B,,C", "", "1 0"),
     ("", "A", "none"),
+    ("A,AB,A-B,AB,ABC", "ABC: x", "4 3"),
+    ("A,AB,A-B,AB,ABC", "ABD: x", "1 2"),
+    ("AB,ABC,A-B,D,E", "A-C: x", "none"),
+    ("B,,C,D,E", "A", "1 0"),
 ];
 
 /// The number and the length of the longest prefix.

@@ -94,7 +94,7 @@ module _ (prefixes : List (List ℕ)) (text : List ℕ) (k : ℕ) (inside : k < 
       longer best (nat_lt best.length (length (get_or prefixes k []))) refl stands so_far
 
   -- what is taken so far, before the rest, is the whole
-  from_next : (best : Option Standing) → meant_from text k (drop k prefixes) best
+  pub from_next : (best : Option Standing) → meant_from text k (drop k prefixes) best
       ≡ meant_from text (k + 1) (drop (k + 1) prefixes)
       (taken (begins_with text (get_or prefixes k [])) k (length (get_or prefixes k [])) best)
   unfolding meant_from
@@ -109,7 +109,7 @@ meant_all prefixes text k None ends none = λ one it. none one (omega (arith, it
 meant_all prefixes text k (Some best) ends so_far =
     (so_far.1, λ one it. so_far.2 one (omega (arith, it.within, ends)) it)
 
-from_end : (prefixes : List (List ℕ)) (text : List ℕ) (k : ℕ) (best : Option Standing) → length prefixes ≤ k
+pub from_end : (prefixes : List (List ℕ)) (text : List ℕ) (k : ℕ) (best : Option Standing) → length prefixes ≤ k
     → best ≡ meant_from text k (drop k prefixes) best
 unfolding meant_from
 from_end prefixes text k best ends = sym (ap (λ l. meant_from text k l best) (drop_all k prefixes ends))

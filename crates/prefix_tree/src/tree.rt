@@ -1,7 +1,7 @@
 //! The tree of a list of prefixes.
-ghost use Rattle.std.specs.Prelude.{◌≡◌, ◌∷◌, [], ◌+◌, ◌<◌, ◌≤◌, IfOk, IfSome, OnOk, length};
+ghost use Rattle.std.specs.Prelude.{◌≡◌, ◌+◌, ◌<◌, ◌≤◌, IfOk, IfSome, OnOk, length};
 ghost use Rattle.prefix_tree.specs.Heads.{AreHeads};
-ghost use Rattle.prefix_tree.specs.Prefix.{IsMeant, meant};
+ghost use Rattle.prefix_tree.specs.Prefix.{IsMeant, meant, taken};
 ghost use Rattle.prefix_tree.specs.Tree.{IsTree, ended};
 ghost use Rattle.prefix_tree.specs.Turns.{end_of, next_of};
 
@@ -10,6 +10,9 @@ use crate::standing::Standing;
 use crate::turns::Turns;
 use std::alloc::Global;
 use tt_base::{Bytes, NoMemory};
+
+/// Up to so many prefixes are compared one by one, with no look at the tree.
+const FEW: usize = 4;
 
 /// A list of prefixes, and the tree that finds the longest one at a place.
 #[derive(Drop)]
@@ -79,29 +82,41 @@ fn add(turns: &mut Turns, prefixes: &[Bytes], index: usize) -> Result<(), NoMemo
     Ok(())
 }
 
-/// The same where one of the prefixes may stand. One prefix alone needs no turns.
+/// The same where one of the prefixes may stand. A few prefixes need no turns.
 fn longest_of(turns: &Turns, prefixes: &[Bytes], text: &[u8]) -> Option<Standing>
     requires { ∥ IsTree (next_of turns.now) (end_of turns.now) prefixes.now (length prefixes.now) ∥₁ }
     ensures { result ≡ meant prefixes.now text.now }
 {
-    match prefixes {
-        [one] => only(one.as_slice(), text),
-        _ => longest_in(turns, prefixes, text),
+    if prefixes.len() <= FEW {
+        longest_among(prefixes, text)
+    } else {
+        longest_in(turns, prefixes, text)
     }
 }
 
-/// The only prefix, if it stands at the front of a text.
-#[tactic(auto, unfolding(crate::specs::Prefix::meant_from))]
-fn only(prefix: &[u8], text: &[u8]) -> Option<Standing>
-    ensures { result ≡ meant (prefix.now ∷ []) text.now }
+/// The longest of the prefixes that stand at the front of a text, each of which is compared with it.
+fn longest_among(prefixes: &[Bytes], text: &[u8]) -> Option<Standing>
+    ensures { result ≡ meant prefixes.now text.now }
 {
-    if text.starts_with(prefix) {
-        Some(Standing {
-            index: 0,
-            length: prefix.len(),
-        })
-    } else {
-        None
+    let mut best = None;
+    for index in 0..prefixes.len() {
+        let prefix = prefixes[index].as_slice();
+        best = taken(text.starts_with(prefix), index, prefix.len(), best);
+    }
+    best
+}
+
+/// A prefix of a number, if it stands and is longer than the best so far, or else that one.
+#[inline]
+fn taken(stands: bool, index: usize, length: usize, best: Option<Standing>) -> Option<Standing>
+    ensures { result ≡ taken stands index length best }
+{
+    if !stands {
+        return best;
+    }
+    match best {
+        Some(before) if length <= before.length => best,
+        _ => Some(Standing { index, length }),
     }
 }
 
