@@ -1,3 +1,4 @@
 pub mod GatherLemmas
 pub mod GroupLemmas
+pub mod NamelessLemmas
 pub mod PiecesLemmas

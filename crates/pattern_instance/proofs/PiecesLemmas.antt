@@ -1,5 +1,5 @@
 -- One piece more: what is made with it, in front of the rest, is what was made before, in front of all.
-use Rattle.std.proofs.Common.{◌≡◌, ℕ, ◌+◌, ◌<◌, ◌≤◌, ◌^◌, List, ◌∷◌, length, drop, get_or, Result, Err, sym, ap, ◌∙◌, arith}
+use Rattle.std.proofs.Common.{◌≡◌, false, ℕ, ◌+◌, ◌<◌, ◌≤◌, ◌^◌, List, ◌∷◌, length, drop, get_or, Result, Err, sym, ap, ◌∙◌, arith}
 use Rattle.std.specs.List.{sum_by}
 use Rattle.std.proofs.lemmas.List.Sums.{sum_by-cons}
 use Rattle.num_base.specs.declared.evaluation.EvalFault.{EvalFault}
@@ -8,7 +8,9 @@ use Rattle.pattern_parse.specs.Item.{Item}
 use Rattle.pattern_parse.specs.PieceView.{item_view, items_view}
 use Rattle.pattern_parse.specs.Search.{greatest_of}
 use Rattle.pattern_parse.specs.declared.pattern.Piece.{Piece}
+use Rattle.pattern_instance.proofs.NamelessLemmas.{rest_nameless}
 use Rattle.pattern_instance.specs.Known.{Known}
+use Rattle.pattern_instance.specs.Missing.{uses_names}
 use Rattle.pattern_instance.specs.Parts.{Parts}
 use Rattle.pattern_instance.specs.Views.{whole}
 use Rattle.pattern_instance.specs.declared.part.Made as begun
@@ -48,16 +50,23 @@ room_here pieces i old piece low is small =
       one_room (item_view piece) (items_view (drop (i + 1) pieces)),
     )
 
+pub nameless_next : (pieces : List Piece) (i : ℕ) (piece : Piece) → i < length pieces → piece ≡ get_or pieces i piece
+    → uses_names (items_view (drop i pieces)) ≡ false → uses_names (items_view (drop (i + 1) pieces)) ≡ false
+nameless_next pieces i piece low is none =
+    rest_nameless (item_view piece) (items_view (drop (i + 1) pieces))
+    (sym (ap uses_names (front pieces i piece low is)) ∙ none)
+
 pub one_more : (known : Known) (pieces : List Piece) (i : ℕ) (made new : begun.Made) (piece : Piece) (all : Result Parts EvalFault)
     → i < length pieces → piece ≡ get_or pieces i piece → whole known made (items_view (drop i pieces)) ≡ all
-    → ((items : List Item) → whole known new items ≡ whole known made (item_view piece ∷ items))
+    → whole known new (items_view (drop (i + 1) pieces))
+    ≡ whole known made (item_view piece ∷ items_view (drop (i + 1) pieces))
     → whole known new (items_view (drop (i + 1) pieces)) ≡ all
 one_more known pieces i made new piece all low is same added =
-    added (items_view (drop (i + 1) pieces)) ∙ ap (whole known made) (sym (front pieces i piece low is)) ∙ same
+    added ∙ ap (whole known made) (sym (front pieces i piece low is)) ∙ same
 
 pub one_fault : (known : Known) (pieces : List Piece) (i : ℕ) (made : begun.Made) (piece : Piece) (all : Result Parts EvalFault) (fault : EvalFault)
     → i < length pieces → piece ≡ get_or pieces i piece → whole known made (items_view (drop i pieces)) ≡ all
-    → ((items : List Item) → whole known made (item_view piece ∷ items) ≡ Err fault)
+    → whole known made (item_view piece ∷ items_view (drop (i + 1) pieces)) ≡ Err fault
     → Err fault ≡ all
 one_fault known pieces i made piece all fault low is same refused =
-    sym (refused (items_view (drop (i + 1) pieces))) ∙ ap (whole known made) (sym (front pieces i piece low is)) ∙ same
+    sym refused ∙ ap (whole known made) (sym (front pieces i piece low is)) ∙ same

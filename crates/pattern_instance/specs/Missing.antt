@@ -1,7 +1,7 @@
 -- The names that a pattern uses and that have no value. After LLVM Command Guide, FileCheck, 'FileCheck String Substitution
 -- Blocks' and 'FileCheck Numeric Substitution Blocks'. Own rule: each is told once, in order of first use; a text that is
 -- defined before has one.
-use Rattle.std.specs.Prelude.{ℕ, ℤ, Bool, ◌||◌, is_some, if◌then◌else◌, Option, Some, None, List, [], ◌∷◌}
+use Rattle.std.specs.Prelude.{ℕ, ℤ, Bool, true, false, ◌||◌, is_some, if◌then◌else◌, Option, Some, None, List, [], ◌∷◌}
 use Rattle.std.specs.FinMap.{FinMap, empty, get, insert}
 use Rattle.num_base.specs.Names.{name_cmp}
 use Rattle.num_base.specs.Term.{Term, literal, line, name, binary}
@@ -40,6 +40,15 @@ unknown known defined (recall one ∷ items) =
     else one ∷ unknown known defined items
 unknown known defined (number num format ∷ items) =
     lacking_in known.number num.expr (unknown known defined items)
+
+-- whether one of the pieces uses names
+abbrev pub uses_names : List Item → Bool
+uses_names [] = false
+uses_names (plain bytes ∷ items) = uses_names items
+uses_names (regex tree ∷ items) = uses_names items
+uses_names (define one tree ∷ items) = uses_names items
+uses_names (recall one ∷ items) = true
+uses_names (number num format ∷ items) = is_some num.expr || uses_names items
 
 -- each name once, where these were told before
 abbrev pub each_once : Names → List (List ℕ) → List (List ℕ)

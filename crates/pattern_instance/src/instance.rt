@@ -1,5 +1,5 @@
 //! The instance of a pattern.
-ghost use Rattle.std.specs.Prelude.{◌≡◌, ◌+◌, ◌<◌, ◌≤◌, ◌^◌, ◌++◌, ◌∷◌, [], ℕ, IfOk, OnOk, List, Result, Ok, Err, map};
+ghost use Rattle.std.specs.Prelude.{◌≡◌, false, ◌+◌, ◌<◌, ◌≤◌, ◌^◌, ◌++◌, ◌∷◌, [], ℕ, IfOk, OnOk, List, Result, Ok, Err, map};
 ghost use Rattle.std.specs.List.{cons_option, sum_by};
 ghost use Rattle.ere_tree.specs.Tree.{cat, trees_of};
 ghost use Rattle.ere_tree.specs.View.{view};
@@ -7,14 +7,15 @@ ghost use Rattle.pattern_parse.specs.Item.{Item};
 ghost use Rattle.pattern_parse.specs.PieceView.{item_view, items_view};
 ghost use Rattle.pattern_parse.specs.Search.{IsSearchable, greatest_of};
 ghost use Rattle.pattern_instance.specs.Instance.{before, behind, instance_of, made, spaces};
-ghost use Rattle.pattern_instance.specs.Known.{known_of};
-ghost use Rattle.pattern_instance.specs.Parts.{Parts, groups_behind, map_parts, with_part};
+ghost use Rattle.pattern_instance.specs.Known.{Known, known_of};
+ghost use Rattle.pattern_instance.specs.Missing.{uses_names};
+ghost use Rattle.pattern_instance.specs.Parts.{Parts, groups_behind, map_parts, parts_from, with_part};
 ghost use Rattle.pattern_instance.specs.Views.{Added, in_front, instance_view, part_view, told_view, whole};
 ghost use Rattle.num_base.specs.declared.evaluation.EvalFault.{EvalFault};
 
 use crate::gift::Gift;
 use crate::groups::Groups;
-use crate::missing::missing_names;
+use crate::missing::{missing_names, uses_names};
 use crate::part::{Made, Part, part_of};
 use ere_tree::{ByteRun, Ere, EreList};
 use num_base::EvalFault;
@@ -116,11 +117,16 @@ fn add_part(made: &mut Made, part: Part) -> Result<(), NoMemory>
     Ok(())
 }
 
-/// Names the group of a text that a piece behind so many groups defines.
-fn name_group(groups: &mut Groups, piece: &Piece, count: u32) -> Result<(), NoMemory>
+/// Names the group of a text that a piece behind so many groups defines, unless no piece behind it uses names.
+fn name_group(groups: &mut Groups, piece: &Piece, count: u32, uses: bool) -> Result<(), NoMemory>
     requires { count < 2 ^ 31 }
-    ensures { OnOk result (groups.new ≡ groups_behind count groups.old (item_view piece.now)) }
+    ensures { OnOk result ((known : Known) (n : ℕ) (items : List Item) → (uses ≡ false → uses_names items ≡ false) →
+        parts_from known n groups.new items
+        ≡ parts_from known n (groups_behind count groups.old (item_view piece.now)) items) }
 {
+    if !uses {
+        return Ok(());
+    }
     match piece {
         Piece::Define { name, .. } => groups.put(name.as_slice(), count + 1),
         Piece::Plain(_) => Ok(()),
@@ -139,9 +145,10 @@ fn add_piece(
     vars: &Vars,
     line: u32,
     fold: bool,
+    uses: bool,
 ) -> Result<Result<(), EvalFault>, NoMemory>
     requires { made.old.count + (greatest_of (item_view piece.now) + 2) < 2 ^ 31 }
-    ensures added { (items : List Item) → IfOk result
+    ensures added { (items : List Item) → (uses ≡ false → uses_names items ≡ false) → IfOk result
         (Added (known_of vars.now line fold) made.old made.new (item_view piece.now) items) }
     ensures count { OnOk result (made.new.count ≤ made.old.count + (greatest_of (item_view piece.now) + 2)) }
 {
@@ -150,7 +157,7 @@ fn add_piece(
         Ok(part) => part,
         Err(fault) => return Ok(Err(fault)),
     };
-    name_group(&mut made.groups, piece, count)?;
+    name_group(&mut made.groups, piece, count, uses)?;
     add_part(made, part)?;
     Ok(Ok(()))
 }
@@ -163,14 +170,16 @@ fn add_pieces(
     vars: &Vars,
     line: u32,
     fold: bool,
+    uses: bool,
 ) -> Result<Result<Made, EvalFault>, NoMemory>
-    requires { begun.count + sum_by (λ one. greatest_of one + 2) (items_view pieces.now) < 2 ^ 31 }
+    requires nameless { uses ≡ false → uses_names (items_view pieces.now) ≡ false }
+    requires room { begun.count + sum_by (λ one. greatest_of one + 2) (items_view pieces.now) < 2 ^ 31 }
     ensures { IfOk result (λ told. told_view told
         ≡ whole (known_of vars.now line fold) begun (items_view pieces.now)) }
 {
     let mut made = begun;
     for piece in pieces {
-        if let Err(fault) = add_piece(alloc, &mut made, piece, vars, line, fold)? {
+        if let Err(fault) = add_piece(alloc, &mut made, piece, vars, line, fold, uses)? {
             return Ok(Err(fault));
         }
     }
@@ -189,7 +198,8 @@ pub fn make_instance(
         ≡ instance_of (known_of vars.now line pattern.now.fold) pattern.now.frame (items_view pattern.now.pieces)) }
 {
     let pieces = pattern.pieces.as_slice();
-    let names = missing_names(alloc, pieces, vars)?;
+    let uses = uses_names(pieces);
+    let names = missing_names(alloc, pieces, vars, uses)?;
     if !names.is_empty() {
         return Ok(Instance::Undefined(names));
     }
@@ -199,7 +209,7 @@ pub fn make_instance(
         count: 0,
         groups: Groups::new(alloc),
     };
-    match add_pieces(alloc, begun, pieces, vars, line, pattern.fold)? {
+    match add_pieces(alloc, begun, pieces, vars, line, pattern.fold, uses)? {
         Ok(made) => finished(alloc, made, pattern.frame),
         Err(fault) => Ok(Instance::Faulty(fault)),
     }

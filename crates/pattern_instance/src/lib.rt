@@ -14,3 +14,4 @@ mod part;
 pub use gift::Gift;
 pub use instance::{Instance, make_instance};
 pub use name_list::NameList;
+pub use part::evaluated;

@@ -1,11 +1,11 @@
 //! The names that a pattern uses and that have no value.
-ghost use Rattle.std.specs.Prelude.{◌≡◌, ◌++◌, ◌∷◌, ℕ, Bool, IfOk, List, OnOk};
+ghost use Rattle.std.specs.Prelude.{◌≡◌, false, ◌++◌, ◌∷◌, ℕ, Bool, IfOk, List, OnOk};
 ghost use Rattle.num_exprs.specs.Block.{Num};
 ghost use Rattle.num_exprs.specs.View.{num_view};
 ghost use Rattle.num_base.specs.Term.{term_of};
 ghost use Rattle.std.specs.Option.{option_map};
 ghost use Rattle.pattern_instance.specs.Known.{known_of};
-ghost use Rattle.pattern_instance.specs.Missing.{Names, each_once, lacking, lacking_in, missing, unknown};
+ghost use Rattle.pattern_instance.specs.Missing.{Names, each_once, lacking, lacking_in, missing, unknown, uses_names};
 ghost use Rattle.pattern_instance.specs.Views.{still_told};
 ghost use Rattle.pattern_parse.specs.Item.{Item, recall};
 ghost use Rattle.pattern_parse.specs.PieceView.{item_view, items_view};
@@ -86,16 +86,41 @@ fn tell_piece(
     }
 }
 
-/// The names that pieces use and that have no value, each once in order of first use.
+/// Whether one of the pieces uses names.
+pub(crate) fn uses_names(pieces: &[Piece]) -> bool
+    ensures { result ≡ uses_names (items_view pieces.now) }
+{
+    for piece in pieces {
+        match piece {
+            Piece::Recall { .. } => return true,
+            Piece::Num { block, .. } => {
+                if block.expr.is_some() {
+                    return true;
+                }
+            }
+            Piece::Plain(_) => {}
+            Piece::Regex(_) => {}
+            Piece::Define { .. } => {}
+        }
+    }
+    false
+}
+
+/// The names that pieces use and that have no value, each once in order of first use. `uses` tells whether they use names.
 pub(crate) fn missing_names(
     alloc: Global,
     pieces: &[Piece],
     vars: &Vars,
+    uses: bool,
 ) -> Result<Items<Bytes>, NoMemory>
+    requires { uses ≡ false → uses_names (items_view pieces.now) ≡ false }
     ensures { (at : ℕ) (fold : Bool) → IfOk result (λ names.
         names ≡ missing (known_of vars.now at fold) (items_view pieces.now)) }
 {
     let mut missing = NameList::new(alloc);
+    if !uses {
+        return Ok(missing.into_items());
+    }
     let mut defined = Groups::new(alloc);
     for piece in pieces {
         tell_piece(alloc, &mut missing, &mut defined, piece, vars)?;

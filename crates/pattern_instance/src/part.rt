@@ -164,8 +164,8 @@ fn gather(numbers: &mut Numbers, expr: &Expr, vars: &Vars) -> Result<(), NoMemor
     }
 }
 
-/// The value of an expression.
-fn evaluated(
+/// The value of an expression of a directive of this line, where variables have their values.
+pub fn evaluated(
     alloc: Global,
     expr: &Expr,
     vars: &Vars,
