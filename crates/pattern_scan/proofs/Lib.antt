@@ -1,3 +1,4 @@
 pub mod NamesLemmas
+pub mod NumberTextLemmas
 pub mod SeekLemmas
 pub mod StoredLemmas

@@ -1,5 +1,5 @@
--- A pattern whose pieces are all plain or stored text is sought as those bytes: its instance is that text, and gives nothing.
--- By induction over the pieces; what each of them adds is in `one_text`.
+-- A pattern whose pieces are all text is sought as those bytes: its instance is that text, and gives nothing. By induction
+-- over the pieces; what each of them adds is in `one_text`.
 -- The hard one is `all_text`.
 use Rattle.std.proofs.Common.{◌≡◌, ℕ, ◌+◌, ◌<◌, ◌≤◌, false, true≢false, is_some, IfSome, Option, Some, None, List, [], ◌∷◌, ◌++◌, length, map, drop, drop-cons, add-one, get_or, append_assoc, append-nil, Ok, refl, sym, ap, ◌∙◌, subst}
 use Rattle.std.specs.Prelude.{◌||◌, if◌then◌else◌}
@@ -22,39 +22,40 @@ use Rattle.pattern_parse.specs.PieceView.{item_view, items_view}
 use Rattle.pattern_parse.specs.declared.pattern.Frame.TheVariants.{Open}
 use Rattle.pattern_parse.specs.declared.pattern.Pattern.{Pattern}
 use Rattle.pattern_parse.specs.declared.pattern.Piece.{Piece}
+use Rattle.pattern_scan.proofs.NumberTextLemmas.{number_is}
 use Rattle.pattern_scan.proofs.SeekLemmas.{hit_sought}
 use Rattle.pattern_scan.specs.Seek.{IsShown, answer_of, is_expressed, sought, sought_of}
-use Rattle.pattern_scan.specs.Stored.{AreText, IsStored, piece_text}
+use Rattle.pattern_scan.specs.Stored.{AddsRun, AreText, IsStored, piece_text}
 use Rattle.pattern_vars.specs.declared.vars.Held.{Held}
 
 -- ALONG THE PIECES
 
 -- the first pieces are a text, whatever the others are
-abbrev pub Begins : (List ℕ → Option (List ℕ)) → List Piece → ℕ → List ℕ → Type 0
-Begins stored pieces i text =
-    (rest : List ℕ) → AreText stored (items_view (drop i pieces)) rest → AreText stored (items_view pieces) (text ++ rest)
+abbrev pub Begins : Known → List Piece → ℕ → List ℕ → Type 0
+Begins known pieces i text =
+    (rest : List ℕ) → AreText known (items_view (drop i pieces)) rest → AreText known (items_view pieces) (text ++ rest)
 
-pub one_run : (stored : List ℕ → Option (List ℕ)) (pieces : List Piece) (i : ℕ) (piece : Piece) (run text new : List ℕ)
-    → i < length pieces → piece ≡ get_or pieces i piece → piece_text stored (item_view piece) ≡ Some run
-    → new ≡ text ++ run → Begins stored pieces i text → Begins stored pieces (i + 1) new
-one_run stored pieces i piece run text new low is run_is added begins = λ rest h.
+pub one_run : (known : Known) (pieces : List Piece) (i : ℕ) (piece : Piece) (text new : List ℕ)
+    → i < length pieces → piece ≡ get_or pieces i piece → AddsRun (piece_text known (item_view piece)) text new
+    → Begins known pieces i text → Begins known pieces (i + 1) new
+one_run known pieces i piece text new low is adds begins = λ rest h.
     let here : drop i pieces ≡ piece ∷ drop (i + 1) pieces =
     drop-cons pieces i piece low ∙ (λ n. sym is n ∷ drop (sym (add-one i) n) pieces) in
-    subst (AreText stored (items_view pieces)) (sym (ap (λ xs. xs ++ rest) added ∙ append_assoc text run rest))
-    (begins (run ++ rest) (subst (λ ps. AreText stored (items_view ps) (run ++ rest)) (sym here)
-    (run, rest, run_is, h, refl)))
+    subst (AreText known (items_view pieces)) (sym (ap (λ xs. xs ++ rest) adds.2 ∙ append_assoc text adds.0 rest))
+    (begins (adds.0 ++ rest) (subst (λ ps. AreText known (items_view ps) (adds.0 ++ rest)) (sym here)
+    (adds.0, rest, adds.1, h, refl)))
 
-pub all_runs : (stored : List ℕ → Option (List ℕ)) (pieces : List Piece) (i : ℕ) (text : List ℕ) → length pieces ≤ i
-    → Begins stored pieces i text → AreText stored (items_view pieces) text
-all_runs stored pieces i text past begins =
-    subst (AreText stored (items_view pieces)) (append-nil text)
-    (begins [] (subst (λ ps. AreText stored (items_view ps) []) (sym (drop_all i pieces past)) refl))
+pub all_runs : (known : Known) (pieces : List Piece) (i : ℕ) (text : List ℕ) → length pieces ≤ i
+    → Begins known pieces i text → AreText known (items_view pieces) text
+all_runs known pieces i text past begins =
+    subst (AreText known (items_view pieces)) (append-nil text)
+    (begins [] (subst (λ ps. AreText known (items_view ps) []) (sym (drop_all i pieces past)) refl))
 
 -- THE INSTANCE
 
 -- what a piece that is text adds: that text alone
 one_text : (known : Known) (n : ℕ) (one : Item) (items : List Item) (run : List ℕ) → known.fold ≡ false
-    → piece_text known.text one ≡ Some run
+    → piece_text known one ≡ Some run
     → (part_of known n empty one ≡ Ok (ungrouped (tree.plain run) None)) × (groups_behind n empty one ≡ empty)
     × (unknown known empty (one ∷ items) ≡ unknown known empty items) × (is_expressed (one ∷ items) ≡ is_expressed items)
 one_text known n (plain bytes) items run as_is is =
@@ -68,7 +69,9 @@ one_text known n (recall name) items run as_is is = (
       else name ∷ unknown known empty items),
   refl,
 )
-one_text known n (number num format) items run as_is is = absurd (none-some run is)
+one_text known n (number num format) items run as_is is =
+    let told = number_is known n num.defines format num.expr (unknown known empty items) run as_is is in
+    (told.0, refl, told.1, refl)
 
 -- the parts of pieces that are text
 pub record Texts (known : Known) (n : ℕ) (items : List Item) (bytes : List ℕ) : Type 0 where
@@ -79,7 +82,7 @@ pub record Texts (known : Known) (n : ℕ) (items : List Item) (bytes : List ℕ
   pub plainly : is_expressed items ≡ false
 
 all_text : (known : Known) (n : ℕ) (items : List Item) (bytes : List ℕ) → known.fold ≡ false
-    → AreText known.text items bytes → Texts known n items bytes
+    → AreText known items bytes → Texts known n items bytes
 all_text known n [] bytes as_is are =
     record { texts = []; joins = sym are; parts = refl; known_all = refl; plainly = refl }
 all_text known n (one ∷ items) bytes as_is are =
@@ -94,7 +97,7 @@ all_text known n (one ∷ items) bytes as_is are =
       plainly = first.3 ∙ rest.plainly;
     }
 
-text_made : (known : Known) (items : List Item) (bytes : List ℕ) → known.fold ≡ false → AreText known.text items bytes
+text_made : (known : Known) (items : List Item) (bytes : List ℕ) → known.fold ≡ false → AreText known items bytes
     → (t : Tree) × IsText t bytes × (instance_of known Open items ≡ made t [])
 text_made known items bytes as_is are =
     let all = all_text known 0 items bytes as_is are in (
@@ -107,7 +110,7 @@ text_made known items bytes as_is are =
 -- SEEKING
 
 pub stored_sought : (vars : FinMap name_cmp Held) (line : ℕ) (pattern : Pattern) (needle text : List ℕ) (from : ℕ)
-    (hit : Option Hit) → IsStored pattern vars needle → ((t : Tree) → IsText t needle → FindsHit text t from hit)
+    (hit : Option Hit) → IsStored pattern vars line needle → ((t : Tree) → IsText t needle → FindsHit text t from hit)
     → answer_of false text [] hit ≡ sought pattern vars text from line
 stored_sought vars line pattern needle text from hit is finds =
     let items = items_view pattern.pieces in
@@ -117,13 +120,13 @@ stored_sought vars line pattern needle text from hit is finds =
     ∙ ap (sought_of false text from) one.2)
 
 -- what is told of a text is so of the one that was told
-pub stored_is : (pattern : Pattern) (vars : FinMap name_cmp Held) (told : Option (List ℕ)) (needle : List ℕ)
-    → IfSome told (IsStored pattern vars) → told ≡ Some needle → IsStored pattern vars needle
-stored_is pattern vars told needle told_is is = subst (λ one. IfSome one (IsStored pattern vars)) is told_is
+pub stored_is : (pattern : Pattern) (vars : FinMap name_cmp Held) (line : ℕ) (told : Option (List ℕ)) (needle : List ℕ)
+    → IfSome told (IsStored pattern vars line) → told ≡ Some needle → IsStored pattern vars line needle
+stored_is pattern vars line told needle told_is is = subst (λ one. IfSome one (IsStored pattern vars line)) is told_is
 
 -- nothing need be shown for it
 pub stored_shown : (vars : FinMap name_cmp Held) (line : ℕ) (pattern : Pattern) (needle text : List ℕ) (from shown : ℕ)
-    → IsStored pattern vars needle
+    → IsStored pattern vars line needle
     → IsShown (is_expressed (items_view pattern.pieces)) text from
     (instance_of (known_of vars line pattern.fold) pattern.frame (items_view pattern.pieces)) shown
 stored_shown vars line pattern needle text from shown is =

@@ -1,31 +1,52 @@
--- The text that a pattern stands for where its pieces are all plain or stored text. After LLVM Command Guide, FileCheck,
--- 'FileCheck String Substitution Blocks'. Own rule: such a pattern is sought as these bytes.
-use Rattle.std.specs.Prelude.{◌≡◌, ℕ, ◌++◌, false, Option, Some, None, List, [], ◌∷◌}
+-- The text that a pattern stands for where its pieces are all plain or stored text, or numbers that have a value. After
+-- LLVM Command Guide, FileCheck, 'FileCheck String Substitution Blocks' and 'FileCheck Numeric Substitution Blocks'. Own
+-- rule: such a pattern is sought as these bytes.
+use Rattle.std.specs.Prelude.{◌≡◌, ℕ, ℤ, ◌++◌, false, Option, Some, None, List, [], ◌∷◌, Result, Ok, Err}
 use Rattle.std.specs.FinMap.{FinMap}
+use Rattle.num_base.specs.Eval.{value_of}
 use Rattle.num_base.specs.Names.{name_cmp}
+use Rattle.num_base.specs.Term.{Term}
+use Rattle.num_base.specs.declared.evaluation.EvalFault.{EvalFault}
+use Rattle.num_base.specs.declared.format.Format.{Format}
+use Rattle.num_spell.specs.Spelling.{prints}
+use Rattle.pattern_instance.specs.Known.{Known, known_of}
 use Rattle.pattern_parse.specs.Item.{Item, plain, regex, define, recall, number}
 use Rattle.pattern_parse.specs.PieceView.{items_view}
 use Rattle.pattern_parse.specs.declared.pattern.Frame.TheVariants.{Open}
 use Rattle.pattern_parse.specs.declared.pattern.Pattern.{Pattern}
-use Rattle.pattern_vars.specs.Vars.{text_of}
 use Rattle.pattern_vars.specs.declared.vars.Held.{Held}
 
--- the bytes of a piece that is plain text, or recalls one of these texts
-abbrev pub piece_text : (List ℕ → Option (List ℕ)) → Item → Option (List ℕ)
-piece_text stored (plain bytes) = Some bytes
-piece_text stored (regex t) = None
-piece_text stored (define name t) = None
-piece_text stored (recall name) = stored name
-piece_text stored (number num format) = None
+-- the printed bytes of a value, if it is one that the format prints
+abbrev pub printed : Format → Result ℤ EvalFault → Option (List ℕ)
+printed format (Ok value) = prints format value
+printed format (Err fault) = None
+
+-- the bytes of a number that defines no name
+abbrev pub number_text : Known → Option (List ℕ) → Format → Option Term → Option (List ℕ)
+number_text known (Some name) format t = None
+number_text known None format None = None
+number_text known None format (Some t) = printed format (value_of known.number known.at t)
+
+-- the bytes of a piece that is text
+abbrev pub piece_text : Known → Item → Option (List ℕ)
+piece_text known (plain bytes) = Some bytes
+piece_text known (regex t) = None
+piece_text known (define name t) = None
+piece_text known (recall name) = known.text name
+piece_text known (number num format) = number_text known num.defines format num.expr
+
+-- these bytes were added
+abbrev pub AddsRun : Option (List ℕ) → List ℕ → List ℕ → Type 0
+AddsRun told old new = (run : List ℕ) × (told ≡ Some run) × (new ≡ old ++ run)
 
 -- pieces are texts one behind the other, which are these bytes
-abbrev pub AreText : (List ℕ → Option (List ℕ)) → List Item → List ℕ → Type 0
-AreText stored [] bytes = bytes ≡ []
-AreText stored (one ∷ items) bytes =
-    (run rest : List ℕ) × (piece_text stored one ≡ Some run) × AreText stored items rest × (bytes ≡ run ++ rest)
+abbrev pub AreText : Known → List Item → List ℕ → Type 0
+AreText known [] bytes = bytes ≡ []
+AreText known (one ∷ items) bytes =
+    (run rest : List ℕ) × (piece_text known one ≡ Some run) × AreText known items rest × (bytes ≡ run ++ rest)
 
--- a pattern stands for these bytes as they are
-pub record IsStored (pattern : Pattern) (vars : FinMap name_cmp Held) (bytes : List ℕ) : Type 0 where
+-- the pattern of a directive of a line stands for these bytes as they are
+pub record IsStored (pattern : Pattern) (vars : FinMap name_cmp Held) (line : ℕ) (bytes : List ℕ) : Type 0 where
   pub fold : pattern.fold ≡ false
   pub frame : pattern.frame ≡ Open
-  pub pieces : AreText (text_of vars) (items_view pattern.pieces) bytes
+  pub pieces : AreText (known_of vars line false) (items_view pattern.pieces) bytes

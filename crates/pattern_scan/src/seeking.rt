@@ -96,7 +96,7 @@ pub fn seek<L: Ledger>(
     if let Some(needle) = plain_text(pattern) {
         return Ok(plain_answer(alloc, find_text(alloc, needle, text, from)));
     }
-    if let Some(needle) = stored_text(alloc, pattern, vars)? {
+    if let Some(needle) = stored_text(alloc, pattern, vars, line)? {
         return Ok(plain_answer(alloc, find_text(alloc, needle.as_slice(), text, from)));
     }
     seek_once(alloc, pattern, vars, text, from, line, steps)

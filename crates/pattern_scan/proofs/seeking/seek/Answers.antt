@@ -27,7 +27,7 @@ returns-in-Some-2-clause-value g c =
     c.plain_answer-in-Some-2.ensures c.args.text.now
     ∙ stored_sought c.args.vars.now c.args.line c.args.pattern.now c.as_slice.result.now c.args.text.now c.args.from
     c.find_text-in-Some-2.result
-    (stored_is c.args.pattern.now c.args.vars.now c.in_ok-needle.field-0 c.as_slice.result.now c.in_ok-needle.ensures
+    (stored_is c.args.pattern.now c.args.vars.now c.args.line c.in_ok-needle.field-0 c.as_slice.result.now c.in_ok-needle.ensures
     (c.in-Some-2.is ∙ ap Some (sym c.as_slice.ensures)))
     c.find_text-in-Some-2.ensures
 
@@ -45,7 +45,7 @@ returns-in-Some-2-clause-named g c = λ placed.
 pub returns-in-Some-2-clause-least : goal.returns-in-Some-2-clause-least
 returns-in-Some-2-clause-least g c =
     stored_shown c.args.vars.now c.args.line c.args.pattern.now c.in-Some-2.needle c.args.text.now c.args.from _
-    (stored_is c.args.pattern.now c.args.vars.now c.in_ok-needle.field-0 c.in-Some-2.needle c.in_ok-needle.ensures
+    (stored_is c.args.pattern.now c.args.vars.now c.args.line c.in_ok-needle.field-0 c.in-Some-2.needle c.in_ok-needle.ensures
     c.in-Some-2.is)
 
 pub returns-clause-within : goal.returns-clause-within
