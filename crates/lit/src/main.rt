@@ -51,6 +51,6 @@ fn main(rt: HostRuntime) -> ExitCode {
         Err(error) => return ExitCode::from(no_base(&error, &mut err)),
     };
     let mut out = StdOut::new(rt.stdout());
-    let mut tree = StdTree::new(rt, base);
+    let mut tree = StdTree::current(rt, base);
     ExitCode::from(lit_run(alloc, words.as_slice(), &mut tree, &mut out, &mut err))
 }

@@ -10,11 +10,13 @@ use std::{rt, str};
 use tt_base::{Bytes, Items, NoMemory};
 use tt_outside::{FilesFault, Item, ItemKind, Tree, TreeFault};
 
-/// The folders of a runtime: `StdTree::new(rt, base)`.
+/// The folders of a runtime: `StdTree::new(rt, base)`, or `StdTree::current(rt, base)`.
 #[derive(Drop)]
 pub struct StdTree<R> {
     rt: R,
     base: Bytes,
+    /// Whether the base is the current directory.
+    is_current: bool,
     faults: u64,
 }
 
@@ -27,7 +29,34 @@ impl<R> StdTree<R> {
         StdTree {
             rt,
             base,
+            is_current: false,
             faults: 0,
+        }
+    }
+
+    /// The same, where the path is that of the current directory, as long as that stays the same. What lies below it is
+    /// asked for by its path from there, which the system finds sooner.
+    pub fn current(rt: R, base: Bytes) -> StdTree<R>
+        ensures base { tree_base result ≡ base }
+        ensures faults { tree_faults result ≡ 0 }
+    {
+        StdTree {
+            rt,
+            base,
+            is_current: true,
+            faults: 0,
+        }
+    }
+
+    /// The path by which the system is asked for another.
+    fn asked<'a>(&'a self, path: &'a [u8]) -> &'a [u8] {
+        if !self.is_current {
+            return path;
+        }
+        match path.strip_prefix(self.base.as_slice()) {
+            Some([]) => b".",
+            Some([b'/', next, ..]) if *next != b'/' => &path[self.base.len() + 1..],
+            _ => path,
         }
     }
 }
@@ -44,7 +73,7 @@ impl<R: rt::Files> Tree for StdTree<R> {
     }
 
     fn list(&mut self, alloc: Global, dir: &[u8]) -> Result<Items<Item>, TreeFault> {
-        let answer = list_folder(&self.rt, alloc, dir);
+        let answer = list_folder(&self.rt, alloc, self.asked(dir));
         if matches!(&answer, Err(TreeFault::Failed)) {
             self.faults = self.faults.saturating_add(1);
         }
@@ -52,7 +81,7 @@ impl<R: rt::Files> Tree for StdTree<R> {
     }
 
     fn read_all(&mut self, alloc: Global, name: &[u8], limit: u64) -> Result<Bytes, TreeFault> {
-        let answer = read_file(&self.rt, alloc, name, limit);
+        let answer = read_file(&self.rt, alloc, self.asked(name), limit);
         if matches!(&answer, Err(TreeFault::Failed)) {
             self.faults = self.faults.saturating_add(1);
         }
@@ -125,12 +154,15 @@ fn unlisted<R: rt::Files>(rt: &R, path: &str, error: &Error) -> TreeFault
 /// How many bytes of names are taken from a folder at once. A name has 255 at most.
 const NAMES: usize = 8192;
 
+/// For how many items of a folder there is room at first.
+const FIRST_ITEMS: usize = 64;
+
 /// A path with a slash behind it.
-fn with_slash(alloc: Global, path: &str) -> Result<Vec<u8>, AllocError> {
-    let mut text = Vec::with_capacity(alloc, path.len().saturating_add(NAMES))?;
-    text.extend_from_slice(path.as_bytes())?;
+fn with_slash(alloc: Global, path: &str) -> Result<String, AllocError> {
+    let mut text = String::with_capacity(alloc, path.len().saturating_add(1))?;
+    text.push_str(path)?;
     if !path.ends_with('/') {
-        text.push(b'/')?;
+        text.push('/')?;
     }
     Ok(text)
 }
@@ -176,55 +208,63 @@ fn list_entries<R: rt::Files, D: Read>(
 ) -> Result<Items<Item>, TreeFault>
     ensures { result ≢ Err TreeFault.TooLarge }
 {
-    let Ok(mut path) = with_slash(alloc, dir) else {
+    let Ok(front) = with_slash(alloc, dir) else {
         return Err(TreeFault::NoMemory);
     };
-    let mut items = Vec::new(alloc);
-    add_all(rt, alloc, folder, &mut path, &mut items)?;
+    let Ok(mut items) = Vec::with_capacity(alloc, FIRST_ITEMS) else {
+        return Err(TreeFault::NoMemory);
+    };
+    add_all(rt, alloc, folder, front.as_str(), &mut items)?;
     by_name(alloc, items)
 }
 
-/// Adds all items of a folder. `path` is its path, with a slash behind it.
+/// Adds all items of a folder. `front` is its path, with a slash behind it.
 fn add_all<R: rt::Files, D: Read>(
     rt: &R,
     alloc: Global,
     folder: &mut D,
-    path: &mut Vec<u8>,
+    front: &str,
     items: &mut Vec<Fronted>,
 ) -> Result<(), TreeFault>
     ensures { result ≢ Err TreeFault.TooLarge }
 {
     let mut names = [0u8; NAMES];
+    let Ok(mut path) = String::with_capacity(alloc, front.len().saturating_add(NAMES)) else {
+        return Err(TreeFault::NoMemory);
+    };
     for _ in 0..u64::MAX {
         match folder.read(&mut names) {
             Ok(0) => return Ok(()),
-            Ok(count) => add_items(rt, alloc, path, &names[..count], items)?,
+            Ok(count) => add_items(rt, alloc, front, &mut path, &names[..count], items)?,
             Err(error) => return Err(fault_of(&error)),
         }
     }
     Err(TreeFault::Failed)
 }
 
-/// Adds the items of names, each of which ends in a NUL. `path` is as above.
+/// Adds the items of names, each of which ends in a NUL. `front` is as above, and `path` is where their paths are made.
 fn add_items<R: rt::Files>(
     rt: &R,
     alloc: Global,
-    path: &mut Vec<u8>,
+    front: &str,
+    path: &mut String,
     names: &[u8],
     items: &mut Vec<Fronted>,
 ) -> Result<(), TreeFault>
     ensures { result ≢ Err TreeFault.TooLarge }
 {
-    let front = path.len();
     for name in names.split(|byte| *byte == 0) {
         if name.is_empty() || name == b".".as_slice() || name == b"..".as_slice() {
             continue;
         }
-        path.truncate(front);
-        if path.extend_from_slice(name).is_err() {
+        let Ok(text) = str::from_utf8(name) else {
+            return Err(TreeFault::Failed);
+        };
+        path.clear();
+        if path.push_str(front).is_err() || path.push_str(text).is_err() {
             return Err(TreeFault::NoMemory);
         }
-        match item_of(rt, alloc, name, path.as_slice()) {
+        match item_of(rt, alloc, name, path.as_str()) {
             Ok(item) => {
                 if items.push((front_of(name), item)).is_err() {
                     return Err(TreeFault::NoMemory);
@@ -234,17 +274,13 @@ fn add_items<R: rt::Files>(
             Err(fault) => return Err(fault),
         }
     }
-    path.truncate(front);
     Ok(())
 }
 
 /// An item of a folder.
-fn item_of<R: rt::Files>(rt: &R, alloc: Global, name: &[u8], path: &[u8]) -> Result<Item, TreeFault>
+fn item_of<R: rt::Files>(rt: &R, alloc: Global, name: &[u8], path: &str) -> Result<Item, TreeFault>
     ensures { result ≢ Err TreeFault.TooLarge }
 {
-    let Ok(path) = str::from_utf8(path) else {
-        return Err(TreeFault::Failed);
-    };
     match fs::symlink_metadata(rt, path) {
         Ok(here) => match Bytes::from_slice(alloc, name) {
             Ok(name) => Ok(Item {
