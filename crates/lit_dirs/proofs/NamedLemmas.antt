@@ -1,13 +1,14 @@
--- No replacement of a test has an empty name, since none of its suite has one.
-use Rattle.std.proofs.Common.{◌<◌, Bool, true, false, cond, List, [], ◌∷◌, length}
+-- No replacement of a test has an empty name, since none of its suite has one. So each path has a test.
+use Rattle.std.proofs.Common.{◌≡◌, ◌<◌, ℕ, Bool, true, false, cond, List, [], ◌∷◌, ◌++◌, codes, length, map, refl}
 use Rattle.std.specs.List.{All, flat_map}
 use Rattle.std.proofs.lemmas.List.Elements.{All-nil, All-append, All-head, All-tail}
 use Rattle.tt_outside.specs.declared.request.Pair.{Pair}
 use Rattle.lit_suite.specs.declared.suite_file.Part.{Part}
 use Rattle.lit_suite.specs.declared.suite_file.Suite.{Suite}
 use Rattle.lit_suite.specs.Whole.{AreNamed, IsWhole}
-use Rattle.lit_paths.specs.Paths.{Parts}
-use Rattle.lit_dirs.specs.Tests.{holds_path, parts_over, substitutions_of}
+use Rattle.tt_outside.specs.declared.test_data.Test.{Test}
+use Rattle.lit_paths.specs.Paths.{Parts, dir_of, inner_text_of, text_of}
+use Rattle.lit_dirs.specs.Tests.{IsTestOf, features_of, holds_path, name_of, parts_over, substitutions_of, temp_dir_of, tool_of, work_dir_of}
 
 abbrev IsFull : Pair → Type 0
 IsFull pair = 0 < length pair.name
@@ -32,3 +33,40 @@ pub replacements_are_named : (suite : Suite) (below : Parts) → IsWhole suite �
 replacements_are_named suite below whole =
     All-append IsFull (added (parts_over suite.parts below)) suite.substitutions
     (parts_are_named suite.parts below whole.parts_named) whole.named
+
+-- the test of a path, but with this name
+abbrev test_with : (root : Parts) (suite : Suite) (below : Parts) (name : List ℕ) → IsWhole suite → Test
+test_with root suite below name whole = record {
+  name = name;
+  path = text_of (root ++ below);
+  source_dir = text_of (root ++ dir_of below);
+  work_dir = text_of (work_dir_of root suite below);
+  temp_dir = text_of (temp_dir_of root suite below);
+  temp = text_of (temp_dir_of root suite below ++ (name_of below ++ codes ".tmp") ∷ []);
+  features = features_of suite below;
+  substitutions = substitutions_of suite below;
+  tools = map (tool_of root) suite.tools;
+  environment = suite.environment;
+  named = replacements_are_named suite below whole;
+}
+
+-- some test has this name, and is that of a path if the name is
+pub test_there : (root : Parts) (suite : Suite) (below : Parts) (name : List ℕ) → IsWhole suite
+    → (test : Test) × (name ≡ test.name)
+    × (name ≡ suite.name ++ codes " :: " ++ inner_text_of below → IsTestOf root suite below test)
+test_there root suite below name whole = (
+  test_with root suite below name whole,
+  refl,
+  λ is. record {
+    named = is;
+    file = refl;
+    source = refl;
+    work = refl;
+    temps = refl;
+    temporary = refl;
+    features = refl;
+    substitutions = refl;
+    tools = refl;
+    environment = refl;
+  },
+)

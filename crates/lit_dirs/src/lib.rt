@@ -11,5 +11,5 @@ mod passing;
 
 pub use fault::DiscoverFault;
 pub use looking::{list_dir, look_in};
-pub use making::test_of;
+pub use making::{name_of, test_of};
 pub use passing::{has_suffix, is_passed};

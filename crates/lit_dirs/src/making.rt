@@ -94,6 +94,15 @@ fn copied_pairs(alloc: Global, pairs: &[Pair]) -> Result<Items<Pair>, NoMemory>
     Ok(copy)
 }
 
+/// The name of the test of a file below the directory of its suite.
+pub fn name_of(alloc: Global, root: &[Bytes], suite: &Suite, path: &[u8]) -> Result<Bytes, NoMemory>
+    ensures { (below : Parts) → path.now ≡ text_of (root.now ++ below) → below ≢ []
+        → IfOk result (λ name. name ≡ suite.now.name ++ codes " :: " ++ inner_text_of below) }
+{
+    let inner = inner_text(behind_path(root, path));
+    full_name(alloc, suite.name.as_slice(), inner)
+}
+
 /// The test of a file below the directory of its suite.
 #[tactic(auto, using(crate::proofs::NamedLemmas::replacements_are_named))]
 pub fn test_of(alloc: Global, root: &[Bytes], suite: &Suite, path: Bytes) -> Result<Test, NoMemory>

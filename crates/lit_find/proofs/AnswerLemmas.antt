@@ -13,7 +13,7 @@ use Rattle.lit_dirs.specs.declared.fault.DiscoverFault.{DiscoverFault}
 use Rattle.lit_dirs.specs.declared.fault.DiscoverFault.TheVariants.{Missing, TooMany, NoTests, TreeFault, NoMemory}
 use Rattle.lit_look.specs.Suites.{nearest}
 use Rattle.lit_look.specs.declared.seen.Looked.{Looked}
-use Rattle.lit_find.specs.Answers.{GivesTests, GivesWords}
+use Rattle.lit_find.specs.Answers.{GivesTests, GivesWords, Walks}
 use Rattle.lit_find.specs.Discovery.{IsBelow, IsLookedAt, IsTest, LooksAt, has_suffix}
 use Rattle.lit_find.specs.Found.{AnswersTo, AreMade, AreTests, Discovers}
 use Rattle.lit_find.specs.Refusals.{IsClear, IsRefused, RefusesWord}
@@ -186,12 +186,24 @@ nothing_yet nodes walk none pending found = record {
     no_word : (dir : Parts) → IsLookedAt nodes [] dir → ⊥
     no_word dir any = let (word, within, at) = its_word (LooksAt nodes dir) [] any in none_in word within
 
--- an answer is right where the tree tells what stands in it
-pub found_where_told : (told : Option (List Node)) (root base : List ℕ) (texts : List (List ℕ)) (result : Result (List
-    Test) DiscoverFault)
+-- ---- where the tree tells what stands in it
+
+pub walks_where_told : (told : Option (List Node)) (root base : List ℕ) (texts : List (List ℕ)) (result : Result (Walk ×
+    List Looked) DiscoverFault)
     → base ≡ root → IfSome told (λ nodes. are_nested nodes ≡ true)
-    → ((nodes : List Node) → told ≡ Some nodes → are_nested nodes ≡ true
-    → AnswersTo nodes (map (joined (parts_of base)) texts) result) → Discovers told root texts result
-found_where_told None root base texts result same nested right = tt
-found_where_told (Some nodes) root base texts result same nested right =
-    subst (λ one. AnswersTo nodes (map (joined (parts_of one)) texts) result) same (right nodes refl nested)
+    → ((nodes : List Node) → told ≡ Some nodes → are_nested nodes ≡ true → Walks (Some nodes) base texts result)
+    → Walks told root texts result
+walks_where_told None root base texts (Ok done) same nested right = tt
+walks_where_told None root base texts (Err fault) same nested right = tt
+walks_where_told (Some nodes) root base texts result same nested right =
+    subst (λ one. Walks (Some nodes) one texts result) same (right nodes refl nested)
+
+pub discovers : (told : Option (List Node)) (base : List ℕ) (texts : List (List ℕ)) (walk : Walk) (seen : List Looked)
+    (result : Result (List Test) DiscoverFault) → Walks told base texts (Ok (walk, seen))
+    → ((nodes : List Node) (words : List Parts) → All (IsRooted nodes seen) walk.found
+    → All (λ place. IsTest nodes words place.path) walk.found → GivesTests nodes words walk.found result)
+    → Discovers told base texts result
+discovers None base texts walk seen result walks gives = tt
+discovers (Some nodes) base texts walk seen result (nested, covered) gives =
+    let words = map (joined (parts_of base)) texts in
+    answers nodes words seen walk result nested covered (gives nodes words covered.current.rooted covered.tests)

@@ -34,11 +34,20 @@ IsMadeOf seen text suite test =
     × ((below : Parts) → text ≡ text_of (rooted.root ++ below) → list_all is_part below ≡ true → below ≢ []
     → IsTestOf rooted.root rooted.suite below test)
 
+-- the name of a file's test
+abbrev pub IsNamedOf : List Looked → List ℕ → ℕ → List ℕ → Type 0
+IsNamedOf seen text suite name = (test : Test) × IsMadeOf seen text suite test × (name ≡ test.name)
+
 -- these are the tests of some places, in byte order
 pub record AreMade (nodes : List Node) (words : List Parts) (places : List Place) (tests : List Test) : Type 0 where
   pub ascending : IsStrictlySortedBy (slice_cmp nat_cmp) (map (λ test. test.path) tests)
   pub right : All (IsRight nodes words) tests
   pub texts : map (λ test. test.path) tests ≡ map (λ place. text_of place.path) places
+
+-- these are the names of the tests of some places, in the order of the tests
+abbrev pub AreNames : List Node → List Parts → List Place → List (List ℕ) → Type 0
+AreNames nodes words places names =
+    (tests : List Test) × AreMade nodes words places tests × (names ≡ map (λ test. test.name) tests)
 
 -- the tests are those of the paths that the words make tests, each once, in byte order
 pub record AreTests (nodes : List Node) (words : List Parts) (tests : List Test) : Type 0 where
@@ -67,3 +76,9 @@ AnswersTo nodes words (Err NoMemory) = ⊤
 abbrev pub Discovers : Option (List Node) → List ℕ → List (List ℕ) → Result (List Test) DiscoverFault → Type 0
 Discovers None base words result = ⊤
 Discovers (Some nodes) base words result = AnswersTo nodes (map (joined (parts_of base)) words) result
+
+-- the names of the tests that a discovery answers, or its refusal
+abbrev pub DiscoversNames : Option (List Node) → List ℕ → List (List ℕ) → Result (List (List ℕ)) DiscoverFault → Type 0
+DiscoversNames nodes base words (Ok names) =
+    (tests : List Test) × Discovers nodes base words (Ok tests) × (names ≡ map (λ test. test.name) tests)
+DiscoversNames nodes base words (Err fault) = Discovers nodes base words (Err fault)

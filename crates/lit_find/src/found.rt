@@ -4,14 +4,14 @@ ghost use Rattle.std.specs.List.{list_all};
 ghost use Rattle.tt_outside.specs.TreeMap.{is_part};
 ghost use Rattle.lit_find.specs.Discovery.{IsTest};
 ghost use Rattle.lit_find.specs.Entries.{AreAscending, KeysAreTexts, file_of, placed};
-ghost use Rattle.lit_find.specs.Found.{AreMade, IsMadeOf};
+ghost use Rattle.lit_find.specs.Found.{AreMade, AreNames, IsMadeOf, IsNamedOf};
 ghost use Rattle.lit_find.specs.Places.{place_in, put, text_order};
 ghost use Rattle.lit_find.specs.Walk.{IsRooted};
 ghost use Rattle.lit_look.specs.Seen.{HasWhole};
 ghost use Rattle.lit_paths.specs.Paths.{Parts, path_in, text_of};
 ghost use Rattle.tt_outside.specs.declared.tree.Node.{Node};
 
-use lit_dirs::test_of;
+use lit_dirs::{name_of, test_of};
 use lit_look::{Looked, Seen};
 use lit_paths::text_of;
 use std::alloc::Global;
@@ -94,6 +94,23 @@ impl Found {
         }
         Ok(tests)
     }
+
+    /// The names of the tests of these files, in their order.
+    pub(crate) fn names(self, alloc: Global, seen: &Seen) -> Result<Items<Bytes>, NoMemory>
+        ensures { (nodes : List Node) (words : List Parts) → All (IsRooted nodes seen.now) self
+            → All (λ place. IsTest nodes words place.path) self → IfOk result (AreNames nodes words self) }
+    {
+        let looks = seen.as_slice();
+        let Ok(room) = Vec::with_capacity(alloc, self.held.len()) else {
+            return Err(NoMemory);
+        };
+        let mut names = Items::from_vec(room);
+        let files = in_order(alloc, self.held)?;
+        for (text, suite) in files {
+            names.push(name_at(alloc, looks, text.as_slice(), suite)?)?;
+        }
+        Ok(names)
+    }
 }
 
 /// Whether files stand in byte order of their paths, each once.
@@ -157,4 +174,18 @@ fn test_at(alloc: Global, looks: &[Looked], path: Bytes, number: usize) -> Resul
         return Err(NoMemory);
     };
     test_of(alloc, looked.dir.as_slice(), suite, path)
+}
+
+/// The name of the test of a file. `number` is that of its suite.
+fn name_at(alloc: Global, looks: &[Looked], path: &[u8], number: usize) -> Result<Bytes, NoMemory>
+    requires { All HasWhole looks.now }
+    ensures { IfOk result (IsNamedOf looks.now path.now number) }
+{
+    let Some(looked) = looks.get(number) else {
+        return Err(NoMemory);
+    };
+    let Some(suite) = &looked.suite else {
+        return Err(NoMemory);
+    };
+    name_of(alloc, looked.dir.as_slice(), suite, path)
 }

@@ -10,4 +10,4 @@ mod sorting;
 mod visit;
 mod words;
 
-pub use discovery::discover;
+pub use discovery::{discover, discover_names};

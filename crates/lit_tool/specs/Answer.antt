@@ -11,11 +11,18 @@ use Rattle.tt_outside.specs.declared.test_data.Test.{Test}
 use Rattle.tt_run.specs.declared.answer.Answer.{Answer}
 
 -- a name stands on a line, behind two spaces
+abbrev pub name_line : List ℕ → List ℕ
+name_line name = codes "  " ++ name ++ newline
+
 abbrev pub line_of : Test → List ℕ
-line_of test = codes "  " ++ test.name ++ newline
+line_of test = name_line test.name
 
 abbrev pub shown_text : List Test → List ℕ
 shown_text tests = (codes "-- Available Tests --" ++ newline) ++ flat_map line_of tests
+
+-- the same, of the names alone
+abbrev pub shown_names : List (List ℕ) → List ℕ
+shown_names names = (codes "-- Available Tests --" ++ newline) ++ flat_map name_line names
 
 abbrev pub status_of : Stop → ℕ
 status_of (Discovery TreeFault) = 3
@@ -28,3 +35,8 @@ row_of stop = record { out = []; err = unplaced (text_of stop); status = status_
 abbrev pub answer_to : Result (List Test) Stop → Answer
 answer_to (Ok tests) = record { out = shown_text tests; err = []; status = 0 }
 answer_to (Err stop) = row_of stop
+
+-- the same, of the names alone
+abbrev pub answer_by : Result (List (List ℕ)) Stop → Answer
+answer_by (Ok names) = record { out = shown_names names; err = []; status = 0 }
+answer_by (Err stop) = row_of stop

@@ -9,7 +9,7 @@ use Rattle.lit_dirs.specs.declared.fault.DiscoverFault.{DiscoverFault}
 use Rattle.lit_dirs.specs.declared.fault.DiscoverFault.TheVariants.{TreeFault, NoMemory}
 use Rattle.lit_words.specs.Asked.{Wanted}
 use Rattle.lit_words.specs.declared.fault.WordsFault.{WordsFault}
-use Rattle.lit_tool.specs.Kept.{kept_of}
+use Rattle.lit_tool.specs.Kept.{kept_of, names_in}
 use Rattle.lit_tool.specs.declared.stop.Stop.{Stop}
 use Rattle.lit_tool.specs.declared.stop.Stop.TheVariants.{Words, NotBuilt, Discovery}
 
@@ -38,6 +38,12 @@ abbrev pub shown_of : Wanted → Result (List Test) DiscoverFault → Result (Li
 shown_of wanted (Ok tests) = kept_of wanted tests
 shown_of wanted (Err fault) = Err (Discovery fault)
 
+-- the names of the tests that are kept of those found, or why there are none
+abbrev pub NamesShown : TreeRun → Wanted → Result (List (List ℕ)) Stop → Type 0
+NamesShown t wanted named =
+    (found : Result (List Test) DiscoverFault) × TreeSearched t wanted.paths found
+    × (named ≡ names_in (shown_of wanted found))
+
 -- from what is asked for, and whether tests are to be shown, to the tests: running them isn't built yet
 abbrev pub ShownFrom : TreeRun → Wanted → Bool → Result (List Test) Stop → Type 0
 ShownFrom t wanted false outcome = TreeRests t × (outcome ≡ Err NotBuilt)
@@ -48,3 +54,7 @@ ShownFrom t wanted true outcome =
 abbrev pub OutcomeFrom : TreeRun → Result Wanted WordsFault → Result (List Test) Stop → Type 0
 OutcomeFrom t (Ok wanted) outcome = ShownFrom t wanted wanted.show outcome
 OutcomeFrom t (Err fault) outcome = TreeRests t × (outcome ≡ Err (Words fault))
+
+-- from what the words ask for to the names of the tests
+abbrev pub NamesFrom : TreeRun → Result Wanted WordsFault → Result (List (List ℕ)) Stop → Type 0
+NamesFrom t asked named = (outcome : Result (List Test) Stop) × OutcomeFrom t asked outcome × (named ≡ names_in outcome)

@@ -1,26 +1,25 @@
 //! What is written of a run, and its status.
 ghost use Rattle.std.specs.Prelude.{◌≡◌, ◌≤◌, ◌++◌, IfOk, OnOk};
-ghost use Rattle.lit_tool.specs.Answer.{answer_to, line_of, row_of, shown_text, status_of};
+ghost use Rattle.lit_tool.specs.Answer.{answer_by, name_line, row_of, shown_names, status_of};
 
 use crate::message::{text_of, unplaced};
 use crate::stop::Stop;
 use lit_dirs::DiscoverFault;
 use std::alloc::Global;
 use tt_base::{Bytes, Items, NoMemory};
-use tt_outside::Test;
 use tt_run::Answer;
 
 /// What is written of a run.
 pub(crate) fn answer_to(
     alloc: Global,
-    outcome: &Result<Items<Test>, Stop>,
+    named: &Result<Items<Bytes>, Stop>,
 ) -> Result<Answer, NoMemory>
-    ensures value { IfOk result (λ answer. answer ≡ answer_to outcome.now) }
+    ensures value { IfOk result (λ answer. answer ≡ answer_by named.now) }
     ensures small { IfOk result (λ answer. answer.status ≤ 3) }
 {
-    match outcome {
-        Ok(tests) => Ok(Answer {
-            out: shown_text(alloc, tests.as_slice())?,
+    match named {
+        Ok(names) => Ok(Answer {
+            out: shown_names(alloc, names.as_slice())?,
             err: Bytes::new(alloc),
             status: 0,
         }),
@@ -28,23 +27,23 @@ pub(crate) fn answer_to(
     }
 }
 
-/// The names of tests, each on a line.
-fn shown_text(alloc: Global, tests: &[Test]) -> Result<Bytes, NoMemory>
-    ensures { IfOk result (λ text. text ≡ shown_text tests.now) }
+/// Names, each on a line.
+fn shown_names(alloc: Global, names: &[Bytes]) -> Result<Bytes, NoMemory>
+    ensures { IfOk result (λ text. text ≡ shown_names names.now) }
 {
     let mut text = Bytes::from_slice(alloc, b"-- Available Tests --\n")?;
-    for test in tests {
-        add_line(&mut text, test)?;
+    for name in names {
+        add_line(&mut text, name)?;
     }
     Ok(text)
 }
 
-/// Adds the line of a test.
-fn add_line(text: &mut Bytes, test: &Test) -> Result<(), NoMemory>
-    ensures { OnOk result (text.new ≡ text.old ++ line_of test.now) }
+/// Adds the line of a name.
+fn add_line(text: &mut Bytes, name: &Bytes) -> Result<(), NoMemory>
+    ensures { OnOk result (text.new ≡ text.old ++ name_line name.now) }
 {
     text.append(b"  ")?;
-    text.append(test.name.as_slice())?;
+    text.append(name.as_slice())?;
     text.append(b"\n")
 }
 

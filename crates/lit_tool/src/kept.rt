@@ -2,14 +2,14 @@
 ghost use Rattle.std.specs.Prelude.{◌≡◌, IfOk, IfSome};
 ghost use Rattle.lit_words.specs.Asked.{wanted};
 ghost use Rattle.lit_words.specs.Number.{IsShard};
-ghost use Rattle.lit_tool.specs.Kept.{has_place, kept_of, shard_from};
+ghost use Rattle.lit_tool.specs.Kept.{has_place, kept_of, names_in, names_of, shard_from, unless_none};
 
 use crate::stop::Stop;
 use lit_select::select;
 use lit_suite::shard;
 use lit_words::{Asked, Shard};
 use std::alloc::Global;
-use tt_base::{Items, NoMemory};
+use tt_base::{Bytes, Items, NoMemory};
 use tt_outside::Test;
 
 /// Whether the test of a place, counted from 0, belongs to a shard.
@@ -20,38 +20,63 @@ fn has_place(part: Shard, place: u64) -> bool
     shard(place, part.shards, part.run)
 }
 
-/// The tests of a shard, in their order.
+/// The names of a shard's tests, in their order.
 #[tactic(auto, using(crate::proofs::ShardLemmas::kept_more, crate::proofs::ShardLemmas::kept_less))]
-fn in_shard(alloc: Global, part: Shard, tests: Items<Test>) -> Result<Items<Test>, NoMemory>
+fn in_shard(alloc: Global, part: Shard, names: Items<Bytes>) -> Result<Items<Bytes>, NoMemory>
     requires { IsShard part }
-    ensures { IfOk result (λ kept. kept ≡ shard_from part 0 tests) }
+    ensures { IfOk result (λ kept. kept ≡ shard_from part 0 names) }
 {
     let mut kept = Items::new(alloc);
     let mut place = 0;
-    for test in tests.into_vec() {
+    for name in names.into_vec() {
         if has_place(part, place) {
-            kept.push(test)?;
+            kept.push(name)?;
         }
         place += 1;
     }
     Ok(kept)
 }
 
-/// The tests that are kept by what is asked for.
+/// The names of the selected tests that a shard keeps.
+pub(crate) fn unless_none(
+    alloc: Global,
+    shard: Option<Shard>,
+    names: Items<Bytes>,
+) -> Result<Result<Items<Bytes>, Stop>, NoMemory>
+    requires { IfSome shard IsShard }
+    ensures { IfOk result (λ kept. kept ≡ unless_none shard names) }
+{
+    if names.is_empty() {
+        return Ok(Err(Stop::NoneSelected));
+    }
+    match shard {
+        Some(part) => Ok(Ok(in_shard(alloc, part, names)?)),
+        None => Ok(Ok(names)),
+    }
+}
+
+/// The names of tests.
+fn names_of(alloc: Global, tests: Items<Test>) -> Result<Items<Bytes>, NoMemory>
+    ensures { IfOk result (λ names. names ≡ names_of tests) }
+{
+    let mut names = Items::new(alloc);
+    for test in tests.into_vec() {
+        names.push(test.name)?;
+    }
+    Ok(names)
+}
+
+/// The names of the tests that are kept by what is asked for.
+#[tactic(auto, using(crate::proofs::NameLemmas::names_kept))]
 pub(crate) fn kept_of(
     alloc: Global,
     asked: &Asked,
     tests: Items<Test>,
-) -> Result<Result<Items<Test>, Stop>, NoMemory>
+) -> Result<Result<Items<Bytes>, Stop>, NoMemory>
     requires { IfSome asked.now.shard IsShard }
-    ensures { IfOk result (λ kept. kept ≡ kept_of (wanted asked.now) tests) }
+    ensures { IfOk result (λ kept. kept ≡ names_in (kept_of (wanted asked.now) tests)) }
 {
     let tests = select(alloc, tests, &asked.select, &asked.drop)?;
-    if tests.is_empty() {
-        return Ok(Err(Stop::NoneSelected));
-    }
-    match asked.shard {
-        Some(part) => Ok(Ok(in_shard(alloc, part, tests)?)),
-        None => Ok(Ok(tests)),
-    }
+    let names = names_of(alloc, tests)?;
+    unless_none(alloc, asked.shard, names)
 }

@@ -1,24 +1,25 @@
 //! The top call.
-ghost use Rattle.std.specs.Prelude.{◌≡◌, ◌≢◌, ◌⊎◌, ◌≤◌, IfOk, List, Result};
+ghost use Rattle.std.specs.Prelude.{◌≡◌, ◌≢◌, ◌⊎◌, ◌≤◌, IfOk, IfSome, List, None, Result};
 ghost use Rattle.tt_outside.specs.Faults.{Rose};
 ghost use Rattle.tt_outside.specs.declared.test_data.Test.{Test};
 ghost use Rattle.tt_run.specs.Run.{Told, Written, stream};
 ghost use Rattle.opt_words.specs.Step.{texts};
-ghost use Rattle.lit_words.specs.Asked.{asked_by};
+ghost use Rattle.lit_words.specs.Asked.{asked_by, wanted};
+ghost use Rattle.lit_words.specs.Number.{IsShard};
 ghost use Rattle.lit_tool.specs.Answer.{answer_to};
 ghost use Rattle.lit_tool.specs.Message.{cannot_write, out_of_memory};
-ghost use Rattle.lit_tool.specs.Run.{OutcomeFrom, tree};
+ghost use Rattle.lit_tool.specs.Run.{NamesFrom, NamesShown, OutcomeFrom, tree};
 ghost use Rattle.lit_tool.specs.declared.stop.Stop.{Stop};
 
 use crate::answer::answer_to;
-use crate::kept::kept_of;
+use crate::kept::{kept_of, unless_none};
 use crate::stop::Stop;
 use lit_dirs::DiscoverFault;
-use lit_find::discover;
-use lit_words::{WordsFail, asked_by};
+use lit_find::{discover, discover_names};
+use lit_words::{Asked, WordsFail, asked_by};
 use std::alloc::Global;
-use tt_base::{Items, NoMemory};
-use tt_outside::{Sink, Test, Tree};
+use tt_base::{Bytes, Items, NoMemory};
+use tt_outside::{Sink, Tree};
 use tt_run::{tell, write_answer};
 
 /// Runs lit on words, which are without the program's name, and answers the status: 0 where the names of the tests are
@@ -45,22 +46,23 @@ pub fn lit_run<T: Tree, O: Sink, E: Sink>(
     ensures later { T.faults from.old ≤ T.faults from.new }
     ensures no_other { result ≤ 4 }
 {
-    let Ok(outcome) = outcome_from(alloc, words, from) else {
+    let Ok(named) = outcome_from(alloc, words, from) else {
         return tell_memory(err);
     };
-    let Ok(answer) = answer_to(alloc, &outcome) else {
+    let Ok(answer) = answer_to(alloc, &named) else {
         return tell_memory(err);
     };
     write_answer(b"lit: error: cannot write\n", &answer, out, err)
 }
 
-/// The tests that are shown, or why there are none.
+/// The names of the tests that are shown, or why there are none.
+#[tactic(auto, using(crate::proofs::NameLemmas::no_names))]
 fn outcome_from<T: Tree>(
     alloc: Global,
     words: &[String],
     from: &mut T,
-) -> Result<Result<Items<Test>, Stop>, NoMemory>
-    ensures value { IfOk result (OutcomeFrom (tree T.nodes T.root T.faults from.old from.new)
+) -> Result<Result<Items<Bytes>, Stop>, NoMemory>
+    ensures value { IfOk result (NamesFrom (tree T.nodes T.root T.faults from.old from.new)
         (asked_by (texts words.now))) }
     ensures nodes { T.nodes from.new ≡ T.nodes from.old }
     ensures root { T.root from.new ≡ T.root from.old }
@@ -74,8 +76,47 @@ fn outcome_from<T: Tree>(
     if !asked.show {
         return Ok(Err(Stop::NotBuilt));
     }
+    match (&asked.select, &asked.drop) {
+        (None, None) => all_from(alloc, &asked, from),
+        _ => chosen_from(alloc, &asked, from),
+    }
+}
+
+/// The names of the tests that are shown where no expression chooses among them: each test is its name alone.
+fn all_from<T: Tree>(
+    alloc: Global,
+    asked: &Asked,
+    from: &mut T,
+) -> Result<Result<Items<Bytes>, Stop>, NoMemory>
+    requires shard { IfSome asked.now.shard IsShard }
+    requires select { asked.now.select ≡ None }
+    requires drop { asked.now.drop ≡ None }
+    ensures value { IfOk result (NamesShown (tree T.nodes T.root T.faults from.old from.new) (wanted asked.now)) }
+    ensures nodes { T.nodes from.new ≡ T.nodes from.old }
+    ensures root { T.root from.new ≡ T.root from.old }
+    ensures later { T.faults from.old ≤ T.faults from.new }
+{
+    match discover_names(alloc, from, asked.paths.as_slice()) {
+        Ok(names) => unless_none(alloc, asked.shard, names),
+        Err(DiscoverFault::NoMemory) => Err(NoMemory),
+        Err(fault) => Ok(Err(Stop::Discovery(fault))),
+    }
+}
+
+/// The names of the tests that are shown where an expression chooses among them.
+fn chosen_from<T: Tree>(
+    alloc: Global,
+    asked: &Asked,
+    from: &mut T,
+) -> Result<Result<Items<Bytes>, Stop>, NoMemory>
+    requires { IfSome asked.now.shard IsShard }
+    ensures value { IfOk result (NamesShown (tree T.nodes T.root T.faults from.old from.new) (wanted asked.now)) }
+    ensures nodes { T.nodes from.new ≡ T.nodes from.old }
+    ensures root { T.root from.new ≡ T.root from.old }
+    ensures later { T.faults from.old ≤ T.faults from.new }
+{
     match discover(alloc, from, asked.paths.as_slice()) {
-        Ok(tests) => kept_of(alloc, &asked, tests),
+        Ok(tests) => kept_of(alloc, asked, tests),
         Err(DiscoverFault::NoMemory) => Err(NoMemory),
         Err(fault) => Ok(Err(Stop::Discovery(fault))),
     }

@@ -1,0 +1,76 @@
+-- What is made of tests and then named is made of their names.
+use Rattle.std.proofs.Common.{◌≡◌, ℕ, ◌+◌, Bool, true, false, if◌then◌else◌, List, [], ◌∷◌, map, Option, Some, None, IfOk, Result, Ok, Err, ap, sym, ◌∙◌, refl}
+use Rattle.std.specs.Option.{option_map}
+use Rattle.std.proofs.lemmas.List.Folds.{flat_map-map}
+use Rattle.ere_tree.specs.View.{view}
+use Rattle.ere_tree.specs.declared.ere.Ere.{Ere}
+use Rattle.lit_dirs.specs.declared.fault.DiscoverFault.TheVariants.{TreeFault, NoMemory}
+use Rattle.lit_find.specs.Found.{DiscoversNames}
+use Rattle.lit_select.specs.Selection.{selected}
+use Rattle.lit_words.specs.Asked.{Wanted, wanted}
+use Rattle.lit_words.specs.declared.asked.Asked.{Asked}
+use Rattle.lit_words.specs.declared.fault.WordsFault.{WordsFault}
+use Rattle.lit_words.specs.declared.number.Shard.{Shard}
+use Rattle.tt_outside.specs.declared.test_data.Test.{Test}
+use Rattle.tt_run.specs.declared.answer.Answer.{Answer}
+use Rattle.lit_tool.specs.Answer.{answer_by, answer_to, name_line}
+use Rattle.lit_tool.specs.Kept.{has_place, names_in, names_of, shard_from, unless_none}
+use Rattle.lit_tool.specs.Run.{NamesFrom, NamesShown, OutcomeFrom, TreeRests, TreeRun}
+use Rattle.lit_tool.specs.declared.stop.Stop.{Stop}
+
+map_more : {A B : Type 0} (f : A → B) (b : Bool) (x : A) (xs : List A) (ys : List B) → map f xs ≡ ys
+    → map f (if b then x ∷ xs else xs) ≡ (if b then f x ∷ ys else ys)
+map_more f true x xs ys same = ap (λ all. f x ∷ all) same
+map_more f false x xs ys same = same
+
+-- a shard of what is mapped
+shard_map : {A B : Type 0} (f : A → B) (s : Shard) (place : ℕ) (xs : List A)
+    → map f (shard_from s place xs) ≡ shard_from s place (map f xs)
+shard_map f s place [] = refl
+shard_map f s place (x ∷ xs) =
+    map_more f (has_place s place) x (shard_from s (place + 1) xs) (shard_from s (place + 1) (map f xs))
+    (shard_map f s (place + 1) xs)
+
+-- the names of those that are kept are those kept of the names
+pub names_kept : (shard : Option Shard) (tests : List Test)
+    → unless_none shard (names_of tests) ≡ names_in (unless_none shard tests)
+names_kept shard [] = refl
+names_kept None (test ∷ tests) = refl
+names_kept (Some s) (test ∷ tests) = ap Ok (sym (shard_map (λ (t : Test). t.name) s 0 (test ∷ tests)))
+
+-- what is written of the names is what is written of the tests
+answer_named : (outcome : Result (List Test) Stop) → answer_by (names_in outcome) ≡ answer_to outcome
+answer_named (Ok tests) = rw (flat_map-map name_line (λ (t : Test). t.name) tests)
+answer_named (Err stop) = refl
+
+pub answer_is : (outcome : Result (List Test) Stop) (named : Result (List (List ℕ)) Stop) (answer : Answer)
+    → answer ≡ answer_by named → named ≡ names_in outcome → answer ≡ answer_to outcome
+answer_is outcome named answer is same = is ∙ ap answer_by same ∙ answer_named outcome
+
+-- where there are no tests there are no names
+pub no_names : (t : TreeRun) (asked : Result Wanted WordsFault) (stop : Stop)
+    → OutcomeFrom t asked (Err stop) → NamesFrom t asked (Err stop)
+no_names t asked stop from = (Err stop, from, refl)
+
+-- no answer is a refusal
+pub no_err : {A E : Type 0} (x : A) (fault : E) → Ok x ≡ Err fault → ⊥
+no_err x fault is = cc
+
+-- with no expression all tests are selected
+all_selected : (select drop : Option Ere) (tests : List Test) → select ≡ None → drop ≡ None
+    → tests ≡ selected (option_map view select) (option_map view drop) tests
+all_selected select drop tests no_select no_drop = rw (no_select, no_drop)
+
+-- then the names found are those of all tests
+pub all_shown : {E : Type 0} (t : TreeRun) (asked : Asked) (names : List (List ℕ))
+    (result : Result (Result (List (List ℕ)) Stop) E) → asked.select ≡ None → asked.drop ≡ None
+    → DiscoversNames t.nodes t.base asked.paths (Ok names) → TreeRests t
+    → IfOk result (λ kept. kept ≡ unless_none asked.shard names) → IfOk result (NamesShown t (wanted asked))
+all_shown t asked names (Err fault) no_select no_drop found rests is = tt
+all_shown t asked names (Ok kept) no_select no_drop (tests, discovers, same) rests is = (
+  Ok tests,
+  (discovers, λ bad. absurd (no_err tests TreeFault bad), λ _. rests, no_err tests NoMemory),
+  is ∙ ap (unless_none asked.shard) same ∙ names_kept asked.shard tests
+      ∙ ap (λ all. names_in (unless_none asked.shard all))
+      (all_selected asked.select asked.drop tests no_select no_drop),
+)
