@@ -198,12 +198,15 @@ const FOUND: &str = r"a[[X:b*]]~cabb~ 1 4 X=bb
 [[#%.2u,X:]]~007~ 0 2 #X=0
 [[@LINE+1]]:[[#@LINE]]~8:7~ 0 3
 [[#%d,0-N]]~-255~ 0 4
+add [[T]], #[[#N+1]]~add a.b, #255 add a.b, #256~ 14 27
+[[T]][[#M:N]]~a.b255~ 0 6 #M=255
 abc~ababc~ 2 5
 abc~abab~ absent";
 
 const REFUSED: &str = r"[[X]]~x~ undefined X
 [[Y]][[#M]][[Y]][[X]]~x~ undefined Y M X
 [[#M+div(1,0)]]~x~ undefined M
+[[T]] [[#M]]~a.b 1~ undefined M
 [[#div(N,0)]]~x~ zero divisor
 [[#0-N]]~x~ range
 [[#170141183460469231731687303715884105727+1]]~0~ range

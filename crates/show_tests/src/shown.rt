@@ -51,6 +51,15 @@ fn selection_comes_before_shards(rt: HostRuntime) -> Result<(), Fail> {
             "--show-tests|demo|--select|a\\.txt|--num-shards|2|--run-shard|2",
             HEAD,
         ),
+        ("--show-tests|demo|--num-shards=9|--run-shard=8", HEAD),
+        (
+            "--show-tests|demo|--select=[a-d][.]|--num-shards=3|--run-shard=3",
+            one,
+        ),
+        (
+            "--show-tests|demo|--drop=:: a|--num-shards=2|--run-shard=1",
+            two,
+        ),
     ] {
         assert!(rt; tells(alloc, &DEMO, line, due)?, "{line}");
     }
