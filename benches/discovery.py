@@ -49,14 +49,16 @@ def main():
     wants.add_argument("--lit", default=None, help="LLVM's lit.py")
     wants.add_argument("program", nargs="?", help="the lit to time")
     given = wants.parse_args()
-    ours = given.program or built("lit")
-    found = [given.lit] if given.lit else sorted(glob.glob("/usr/lib/llvm-*/build/utils/lit/lit.py"))[-1:]
+    ours = os.path.abspath(given.program or built("lit"))
+    found = [os.path.abspath(given.lit)] if given.lit else sorted(glob.glob("/usr/lib/llvm-*/build/utils/lit/lit.py"))[-1:]
     print("| case | ours | memory | LLVM | memory | time, ours / LLVM | memory, ours / LLVM |\n|---|---|---|---|---|---|---|")
     with tempfile.TemporaryDirectory() as top:
         tree(top)
+        # As users do, each lit is run from above the tests.
+        os.chdir(top)
         for case, path in [("20,000 tests in 200 folders", ""), ("one test, named directly", "d100/t50.txt")]:
-            runs = [[ours, "--show-tests", os.path.join(top, "ours", path)]]
-            runs += [[sys.executable, one, "--show-tests", os.path.join(top, "llvm", path)] for one in found]
+            runs = [[ours, "--show-tests", os.path.join("ours", path)]]
+            runs += [[sys.executable, one, "--show-tests", os.path.join("llvm", path)] for one in found]
             row(case, runs, os.devnull, 0, given.rounds)
 
 
