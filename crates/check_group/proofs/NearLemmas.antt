@@ -1,22 +1,19 @@
 -- A plain text that begins nowhere before a place is first where it first is from there on.
 -- Shown: an occurrence in the rest of a text is one in the text, and none begins between the two places.
-use Rattle.std.proofs.Common.{◌≡◌, ℕ, ◌+◌, ◌-◌, ◌<◌, ◌≤◌, ⊎_elim, List, [], ◌∷◌, length, take, drop, length-drop, min, Some, None, Result, Ok, Err, refl, sym, ◌∙◌, ap, subst, arith}
+use Rattle.std.proofs.Common.{◌≡◌, ℕ, ◌+◌, ◌-◌, ◌<◌, ◌≤◌, ⊎_elim, List, [], ◌∷◌, length, take, drop, length-drop, Some, None, Ok, Err, refl, sym, ◌∙◌, ap, subst, arith}
 use Rattle.std.proofs.lemmas.Bool.{cases_lt}
 use Rattle.std.proofs.lemmas.List.{drop-drop}
 use Rattle.ere_tree.specs.declared.hit.Hit.{Hit}
 use Rattle.pattern_hits.proofs.PlainLemmas.{found_none, found_some}
-use Rattle.pattern_parse.specs.Item.{Item, plain}
-use Rattle.pattern_parse.specs.declared.pattern.Pattern.{Pattern}
-use Rattle.pattern_scan.specs.Seek.{IsPlain, sought}
+use Rattle.pattern_parse.specs.Item.{plain}
+use Rattle.pattern_scan.specs.Seek.{IsPlain}
 use Rattle.pattern_scan.proofs.SeekLemmas.{plain_sought}
 use Rattle.tt_base.specs.Occurrence.{IsFirstIn, StandsAt, StandsNowhere}
 use Rattle.tt_base.specs.Place.{span_of}
 use Rattle.check_group.specs.Changes.{Variables}
 use Rattle.check_group.specs.Matches.{answered, looked}
 use Rattle.check_group.specs.Near.{BeginsNowhere}
-use Rattle.check_group.specs.declared.answer.Met.{Met}
 use Rattle.check_group.specs.declared.directive.Check.{Check}
-use Rattle.check_group.specs.declared.fault.FaultKind.{FaultKind}
 use Rattle.check_group.specs.declared.fault.FaultKind.TheVariants as fault
 
 module _ (text needle : List ℕ) (from : ℕ) where

@@ -1,7 +1,5 @@
 -- A plain text of which a window isn't in a slice is sought there in vain.
 use Rattle.std.proofs.Common.{◌≡◌, ℕ, ◌+◌, Bool, List, None, drop, length, refl, sym}
-use Rattle.num_base.specs.Names.{name_cmp}
-use Rattle.std.specs.FinMap.{FinMap}
 use Rattle.tt_base.specs.Occurrence.{StandsNowhere}
 use Rattle.text_windows.specs.Windows.{Covers}
 use Rattle.pattern_hits.proofs.PlainLemmas.{found_none}

@@ -17,6 +17,7 @@ use ere_auto::Steps;
 use pattern_scan::plain_text;
 use pattern_vars::Vars;
 use std::alloc::Global;
+use std::collections::VecDeque;
 use std::sync::ledger::Ledger;
 use tt_base::{NoMemory, Span};
 
@@ -28,7 +29,7 @@ fn place_member<L: Ledger>(
     check: &Check,
     vars: &Vars,
     text: &[u8],
-    ranges: &[Span],
+    ranges: &VecDeque<Span>,
     place: usize,
     from: usize,
     earliest: usize,
@@ -39,12 +40,12 @@ fn place_member<L: Ledger>(
     requires within { earliest ≤ length text.now }
     requires nowhere { BeginsNowhere text.now check.now place earliest }
     requires ready { IsReady vars.now check.now }
-    requires ranges { All (EndsBy (length text.now)) ranges.now }
-    requires in_order { AreInOrder ranges.now }
-    requires tried { IsTriedFrom text.now vars.now ranges.now check.now place from }
-    ensures value { IfOk result (λ met. met ≡ placed text.now vars.now ranges.now check.now place) }
+    requires ranges { All (EndsBy (length text.now)) ranges.now.items }
+    requires in_order { AreInOrder ranges.now.items }
+    requires tried { IsTriedFrom text.now vars.now ranges.now.items check.now place from }
+    ensures value { IfOk result (λ met. met ≡ placed text.now vars.now ranges.now.items check.now place) }
     ensures fits { IfOk result (λ met. IfOk met (Fits vars.now place (length text.now))) }
-    ensures free { IfOk result (λ met. IfOk met (λ m. lowest m.span ranges.now ≡ None)) }
+    ensures free { IfOk result (λ met. IfOk met (λ m. lowest m.span ranges.now.items ≡ None)) }
 {
     let mut tries = Tries::Fresh;
     let mut from = from;
@@ -55,7 +56,7 @@ fn place_member<L: Ledger>(
             Ok(m) => {
                 // The tries' starts rise, so no later try overlaps what ends at or before this match's start.
                 at = passed(ranges, at, m.span.from);
-                match lowest_overlapped(m.span, ranges.split_at(at).1) {
+                match lowest_overlapped(m.span, ranges, at) {
                     None => return Ok(Ok(m)),
                     Some(range) => from = range.to,
                 }
@@ -123,7 +124,7 @@ pub fn place_group<L: Ledger>(
         (IsPartWay (group_at text.now place vars.old checks.now).changes vars.old vars.new) }
 {
     let known = firsts_of(alloc, checks, text.split_at(place).1)?;
-    let mut ranges: Vec<Span> = Vec::new(alloc);
+    let mut ranges = VecDeque::new(alloc);
     let mut reached = Matched {
         from: text.len(),
         to: place,
@@ -136,7 +137,7 @@ pub fn place_group<L: Ledger>(
             check,
             vars,
             text,
-            ranges.as_slice(),
+            &ranges,
             place,
             from,
             earliest(&known, check, text, place),

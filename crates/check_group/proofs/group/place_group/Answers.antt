@@ -1,11 +1,10 @@
-use Rattle.std.proofs.Common.{◌≡◌, ◌-◌, ◌<◌, IfOk, None, Ok, get_or, length, sym, ◌∙◌, ap, subst, arith, All}
+use Rattle.std.proofs.Common.{◌≡◌, IfOk, None, Ok, length, sym, ◌∙◌, ap, subst, arith, All}
 use Rattle.std.proofs.Math.Nat.{le_refl}
 use Rattle.check_group.specs.Group.{AreInOrder, EndsBy, group, group_at, lowest, placed}
 use Rattle.check_group.specs.Changes.{IsReady}
 use Rattle.check_group.specs.Continues.{Continues, LiesIn}
 use Rattle.check_group.specs.Matches.{Fits}
 use Rattle.check_group.specs.Near.{AreFirstsOf}
-use Rattle.check_group.specs.declared.directive.Check.{Check}
 use Rattle.check_group.proofs.ContinuesLemmas.{continues_part_way, continues_ready, continues_whole, part_way_any}
 use Rattle.check_group.proofs.GroupLemmas.{group_goes_on, group_ends_failed, group_ends, reach_lies}
 use Rattle.check_group.proofs.OrderLemmas.{order_placed}
@@ -35,25 +34,19 @@ place_member-requires-clause-ready g c =
     (subst (IsReady c.args.vars.now) (sym c.index-checks-index.is) (c.requires.ready l.index c.index-checks-index.result c.loop-index-test.true))
 
 pub place_member-requires-clause-tried : goal.place_member-requires-clause-tried
-place_member-requires-clause-tried g c = (begins_well c.args.text.now c.loop-index.vars c.as_slice.result.now c.args.place c.loop-index.behind c.first_try-from.result
+place_member-requires-clause-tried g c = (begins_well c.args.text.now c.loop-index.vars c.loop-index.ranges.items c.args.place c.loop-index.behind c.first_try-from.result
     c.args.checks.now c.loop-index.index c.index-checks-index.result c.requires.here c.index-checks-index.is c.first_try-from.ensures
-    (subst (λ ranges. (any : Check) → 0 < c.loop-index.index
-    → Resumes c.args.text.now c.loop-index.vars ranges c.args.place (get_or c.args.checks.now (c.loop-index.index - 1) any) c.loop-index.behind)
-    (sym c.as_slice.ensures.value) c.loop-index.invariant.resumes)).2
+    c.loop-index.invariant.resumes).2
 
 pub place_member-requires-clause-later : goal.place_member-requires-clause-later
-place_member-requires-clause-later g c = (begins_well c.args.text.now c.loop-index.vars c.as_slice.result.now c.args.place c.loop-index.behind c.first_try-from.result
+place_member-requires-clause-later g c = (begins_well c.args.text.now c.loop-index.vars c.loop-index.ranges.items c.args.place c.loop-index.behind c.first_try-from.result
     c.args.checks.now c.loop-index.index c.index-checks-index.result c.requires.here c.index-checks-index.is c.first_try-from.ensures
-    (subst (λ ranges. (any : Check) → 0 < c.loop-index.index
-    → Resumes c.args.text.now c.loop-index.vars ranges c.args.place (get_or c.args.checks.now (c.loop-index.index - 1) any) c.loop-index.behind)
-    (sym c.as_slice.ensures.value) c.loop-index.invariant.resumes)).0
+    c.loop-index.invariant.resumes).0
 
 pub place_member-requires-clause-here : goal.place_member-requires-clause-here
-place_member-requires-clause-here g c = (begins_well c.args.text.now c.loop-index.vars c.as_slice.result.now c.args.place c.loop-index.behind c.first_try-from.result
+place_member-requires-clause-here g c = (begins_well c.args.text.now c.loop-index.vars c.loop-index.ranges.items c.args.place c.loop-index.behind c.first_try-from.result
     c.args.checks.now c.loop-index.index c.index-checks-index.result c.requires.here c.index-checks-index.is c.first_try-from.ensures
-    (subst (λ ranges. (any : Check) → 0 < c.loop-index.index
-    → Resumes c.args.text.now c.loop-index.vars ranges c.args.place (get_or c.args.checks.now (c.loop-index.index - 1) any) c.loop-index.behind)
-    (sym c.as_slice.ensures.value) c.loop-index.invariant.resumes)).1
+    c.loop-index.invariant.resumes).1
 
 pub returns-in_err-place_among-in-Ok-clause-part_way : goal.returns-in_err-place_among-in-Ok-clause-part_way
 returns-in_err-place_among-in-Ok-clause-part_way g c =
@@ -66,8 +59,7 @@ returns-in-Err-clause-value g c =
     let l = c.loop-index in
     group_ends_failed a.text.now a.place l.vars l.ranges.items l.reached a.checks.now l.index
     (group_at a.text.now a.place a.vars.now a.checks.now) a.vars.now c.index-checks-index.result c.in-Err.kind c.loop-index-test.true
-    c.index-checks-index.is (sym c.in-Err.is ∙ c.in_ok-m.ensures.value
-    ∙ ap (λ ranges. placed a.text.now l.vars ranges c.index-checks-index.result a.place) c.as_slice.ensures.value) l.invariant.rest
+    c.index-checks-index.is (sym c.in-Err.is ∙ c.in_ok-m.ensures.value) l.invariant.rest
 
 pub loop-index-preserved : goal.loop-index-preserved
 loop-index-preserved g c =
@@ -78,11 +70,9 @@ loop-index-preserved g c =
     let fits : Fits l.vars a.place (length a.text.now) m =
     subst (λ met. IfOk met (Fits l.vars a.place (length a.text.now))) c.in-Ok.is c.in_ok-m.ensures.fits in
     let free : lowest m.span l.ranges.items ≡ None =
-    subst (λ ranges. lowest m.span ranges ≡ None) c.as_slice.ensures.value
-    (subst (λ met. IfOk met (λ m. lowest m.span c.as_slice.result.now ≡ None)) c.in-Ok.is c.in_ok-m.ensures.free) in
+    subst (λ met. IfOk met (λ m. lowest m.span l.ranges.items ≡ None)) c.in-Ok.is c.in_ok-m.ensures.free in
     let met : Ok m ≡ placed a.text.now l.vars l.ranges.items c.index-checks-index.result a.place =
-    sym c.in-Ok.is ∙ c.in_ok-m.ensures.value
-    ∙ ap (λ ranges. placed a.text.now l.vars ranges c.index-checks-index.result a.place) c.as_slice.ensures.value in
+    sym c.in-Ok.is ∙ c.in_ok-m.ensures.value in
     record {
       known = l.invariant.known;
       in_order = subst AreInOrder (sym placed_now) (order_placed m.span l.ranges.items l.invariant.in_order free);

@@ -1,9 +1,6 @@
-use Rattle.std.proofs.Common.{◌≤◌, IfOk, length, sym, ◌∙◌, ap, subst, arith, All, take}
+use Rattle.std.proofs.Common.{◌≤◌, IfOk, length, sym, ◌∙◌, subst, arith, take}
 use Rattle.std.proofs.Math.Nat.{le_trans}
-use Rattle.std.proofs.lemmas.List.Elements.{All-drop}
-use Rattle.check_group.specs.Group.{AreInOrder, EndsBy, lowest}
 use Rattle.check_group.specs.Matches.{Fits, looked}
-use Rattle.check_group.proofs.OrderLemmas.{order_drop}
 use Rattle.check_group.proofs.TriedLemmas.{ends_later, lowest_drop, tried_free, tried_on}
 use Rattle.check_group.proofs.group.place_member.Goals as goal
 
@@ -17,22 +14,18 @@ loop-tries-init g c = record {
   chain = c.requires.tried;
 }
 
-pub lowest_overlapped-requires : goal.lowest_overlapped-requires
-lowest_overlapped-requires g c =
-    subst AreInOrder (sym c.split_at.ensures.back) (order_drop c.passed-at.result c.args.ranges.now c.requires.in_order)
-
 pub returns-in-None-clause-free : goal.returns-in-None-clause-free
 returns-in-None-clause-free g c =
-    lowest_drop c.in-Ok.m.span c.passed-at.result c.args.ranges.now c.passed-at.ensures.before
-    ∙ sym (c.in-None.ensures.value ∙ ap (lowest c.in-Ok.m.span) c.split_at.ensures.back)
+    lowest_drop c.in-Ok.m.span c.passed-at.result c.args.ranges.now.items c.passed-at.ensures.before
+    ∙ sym c.in-None.ensures.value
 
 pub returns-in-None-clause-value : goal.returns-in-None-clause-value
 returns-in-None-clause-value g c =
     let a = c.args in
     let chain = c.loop-tries.invariant.chain in
-    tried_free (looked a.text.now a.vars.now a.check.now 0) a.ranges.now c.loop-tries.from chain.0 c.passed-at.result c.in-Ok.m
+    tried_free (looked a.text.now a.vars.now a.check.now 0) a.ranges.now.items c.loop-tries.from chain.0 c.passed-at.result c.in-Ok.m
     (sym c.in-Ok.is ∙ c.in_ok-kind.ensures.value) c.passed-at.ensures.before
-    (c.in-None.ensures.value ∙ ap (lowest c.in-Ok.m.span) c.split_at.ensures.back)
+    c.in-None.ensures.value
     ∙ chain.2
 
 pub loop-tries-smaller : goal.loop-tries-smaller
@@ -43,31 +36,28 @@ loop-tries-smaller g c =
     let fits : Fits a.vars.now c.loop-tries.from (length a.text.now) m =
     subst (λ met. IfOk met (Fits a.vars.now c.loop-tries.from (length a.text.now))) c.in-Ok.is c.in_ok-kind.ensures.fits in
     let ends : range.to ≤ length a.text.now =
-    c.in-Some.ensures.within (length a.text.now)
-    (subst (All (EndsBy (length a.text.now))) (sym c.split_at.ensures.back) (All-drop (EndsBy (length a.text.now)) c.passed-at.result a.ranges.now c.requires.ranges)) in
+    c.in-Some.ensures.within (length a.text.now) c.requires.ranges in
     omega (arith, fits.low, c.in-Some.ensures.behind, ends)
 
 pub loop-tries-preserved : goal.loop-tries-preserved
 loop-tries-preserved g c =
     let a = c.args in
-    let back = c.split_at.ensures.back in
     let m = c.in-Ok.m in
     let range = c.in-Some.range in
     let chain = c.loop-tries.invariant.chain in
     let fits : Fits a.vars.now c.loop-tries.from (length a.text.now) m =
     subst (λ met. IfOk met (Fits a.vars.now c.loop-tries.from (length a.text.now))) c.in-Ok.is c.in_ok-kind.ensures.fits in
     let ends : range.to ≤ length a.text.now =
-    c.in-Some.ensures.within (length a.text.now)
-    (subst (All (EndsBy (length a.text.now))) (sym back) (All-drop (EndsBy (length a.text.now)) c.passed-at.result a.ranges.now c.requires.ranges)) in
-    let on = tried_on (looked a.text.now a.vars.now a.check.now 0) a.ranges.now c.loop-tries.from chain.0 c.passed-at.result
+    c.in-Some.ensures.within (length a.text.now) c.requires.ranges in
+    let on = tried_on (looked a.text.now a.vars.now a.check.now 0) a.ranges.now.items c.loop-tries.from chain.0 c.passed-at.result
     (length a.text.now) m range (sym c.in-Ok.is ∙ c.in_ok-kind.ensures.value) c.passed-at.ensures.before
-    (c.in-Some.ensures.value ∙ ap (lowest m.span) back) (omega (arith, fits.low, c.in-Some.ensures.behind)) ends chain.1 in
+    c.in-Some.ensures.value (omega (arith, fits.low, c.in-Some.ensures.behind)) ends chain.1 in
     record {
       behind = omega (arith, c.loop-tries.invariant.behind, fits.low, c.in-Some.ensures.behind);
       same = c.look_near.ensures.same;
       within = ends;
       at = c.passed-at.ensures.within;
-      passed = ends_later m.span.from range.to (take c.passed-at.result a.ranges.now) (omega (arith, c.in-Some.ensures.behind))
+      passed = ends_later m.span.from range.to (take c.passed-at.result a.ranges.now.items) (omega (arith, c.in-Some.ensures.behind))
           c.passed-at.ensures.before;
       chain = (on.0, on.1, on.2 ∙ chain.2);
     }

@@ -9,10 +9,10 @@ invariant-loop-tries g l = record {
   behind : l.place ≤ l.from;
   same : AreFor l.tries l.check l.vars;
   within : l.from ≤ length l.text;
-  at : l.at ≤ length l.ranges;
-  passed : All (EndsBy l.from) (take l.at l.ranges);
+  at : l.at ≤ length l.ranges.items;
+  passed : All (EndsBy l.from) (take l.at l.ranges.items);
   chain : (left : ℕ) × (length l.text ≤ l.from + left)
-      × (tried (looked l.text l.vars l.check 0) l.ranges left l.from ≡ placed l.text l.vars l.ranges l.check l.place);
+      × (tried (looked l.text l.vars l.check 0) l.ranges.items left l.from ≡ placed l.text l.vars l.ranges.items l.check l.place);
 }
 
 abbrev pub decreases-loop-tries : goal.decreases-loop-tries

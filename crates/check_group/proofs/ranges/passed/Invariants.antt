@@ -5,8 +5,8 @@ use Rattle.check_group.proofs.ranges.passed.Given as goal
 abbrev pub invariant-loop-low : goal.invariant-loop-low
 invariant-loop-low l = record {
   ordered : l.low ≤ l.high;
-  within : l.high ≤ length l.ranges;
-  before : All (EndsBy l.from) (take l.low l.ranges);
+  within : l.high ≤ length l.ranges.items;
+  before : All (EndsBy l.from) (take l.low l.ranges.items);
 }
 
 abbrev pub decreases-loop-low : goal.decreases-loop-low

@@ -1,4 +1,4 @@
-use Rattle.std.proofs.Common.{◌≡◌, subst, drop}
+use Rattle.std.proofs.Common.{subst, drop}
 use Rattle.check_group.specs.Region.{AreOf}
 use Rattle.check_group.proofs.RegionLemmas.{lacks}
 use Rattle.check_group.proofs.region.is_told_absent.Goals as goal
