@@ -4,7 +4,8 @@
 use Rattle.std.proofs.Common.{◌≡◌, ℕ, ◌+◌, ◌-◌, ◌<◌, zero, suc, Bool, true, false, IsTrue, IsFalse, true≢false, if◌then◌else◌, ◌==◌, List, [], ◌∷◌, ◌++◌, Option, Some, None, is_some, length, length-append, append_assoc, ◌&&◌, not, take, drop, inl, inr, arith, refl, sym, subst, ap, ◌∙◌}
 use Rattle.std.proofs.lemmas.Option.{same_Some}
 use Rattle.std.proofs.lemmas.Bool.{eqb-true}
-use Rattle.std.proofs.lemmas.List.{drop-drop}
+use Rattle.std.proofs.lemmas.List.{drop-drop, drop_all, take_all}
+use Rattle.std.proofs.Math.Nat.{le_refl}
 use Rattle.std.proofs.Math.Seq.{drop-append_seam, take-append_seam}
 use Rattle.std.proofs.lemmas.Bool.Decides.{nat_tests, eqb_tells}
 use Rattle.pattern_parse.specs.Ends.{one_more, is_text, run_of, up_to_end, closed, end_of}
@@ -207,6 +208,26 @@ run_is (b ∷ rest) = each (is_text (front_at (b ∷ rest))) refl (run_is rest)
 pub some_run : (body : List ℕ) → front_at body ≡ Text → 0 < run_of body
 some_run [] h = absurd (omega (arith, ap rank h))
 some_run (b ∷ rest) h = rw (ap is_text h) (omega arith)
+
+-- a body of plain text alone is one piece
+pub text_alone : (body : List ℕ) → 0 < length body → run_of body ≡ length body → IsCut body (text body ∷ []) over
+text_alone body some whole = (
+  front body (omega (arith, some, whole)),
+  [],
+  subst (λ rest. IsRun body body rest) (drop_all (length body) body (le_refl (length body)))
+      (subst (λ bytes. IsRun bytes body (drop (length body) body)) (take_all (length body) body (le_refl (length body)))
+      (subst (λ n. IsRun (take n body) body (drop n body)) whole (run_is body))),
+  refl,
+)
+  where
+    front : (body : List ℕ) → 0 < run_of body → front_at body ≡ Text
+    front [] low = absurd (omega (arith, low))
+    front (b ∷ rest) low = each (is_text (front_at (b ∷ rest))) refl low
+      where
+        each : (v : Bool) → is_text (front_at (b ∷ rest)) ≡ v → 0 < (if v then suc (run_of rest) else 0)
+            → front_at (b ∷ rest) ≡ Text
+        each true is low = text_tells (front_at (b ∷ rest)) is
+        each false is low = absurd (omega (arith, low))
 
 pub two_out : (a b : Bool) → (a && b) ≡ true → (a ≡ true) × (b ≡ true)
 two_out true b h = (refl, h)

@@ -1,9 +1,11 @@
 -- A byte more of plain text, of a regular expression and of a block: what each loop of the code does with one byte. With the
 -- bytes that were passed added, the length of the rest stays the length of the whole. The hard one is `block_more`, by
 -- the cases of `end_step`.
-use Rattle.std.proofs.Common.{◌≡◌, ℕ, ◌+◌, ◌<◌, ◌≤◌, zero, suc, Bool, true, false, if◌then◌else◌, ◌==◌, List, [], ◌∷◌, Option, Some, None, length, drop, get_or, refl, sym, ap, ◌∙◌, arith}
+use Rattle.std.proofs.Common.{◌≡◌, ℕ, ◌+◌, ◌<◌, ◌≤◌, zero, suc, Bool, true, false, if◌then◌else◌, ◌≢◌, ◌==◌, ◌&&◌, not, List, [], ◌∷◌, Option, Some, None, length, drop, get_or, refl, sym, ap, ◌∙◌, arith}
 use Rattle.std.proofs.Math.Seq.{drop-cons}
+use Rattle.std.proofs.lemmas.Bool.{ne_eqb}
 use Rattle.std.proofs.lemmas.List.{drop_all}
+use Rattle.pattern_parse.specs.declared.cutting.Front.TheVariants.{Block, Regex, Text}
 use Rattle.pattern_parse.specs.Cut.{front_at, starts_twice}
 use Rattle.pattern_parse.specs.Ends.{one_more, is_text, run_of, up_to_end, closed, end_of, behind_byte, behind_close}
 use Rattle.pattern_parse.proofs.CutLemmas.{adds}
@@ -37,6 +39,19 @@ run_more text i low is =
     ap run_of e ∙ ap (λ v. if v then suc (run_of (drop (i + 1) text)) else 0)
     (ap (λ xs. is_text (front_at xs)) (sym e) ∙ is) in
     omega (arith, one)
+
+-- a byte that is no opening bracket
+pub run_past : (text : List ℕ) (i : ℕ) → i < length text → get_or text i 0 ≢ 123 → get_or text i 0 ≢ 91
+    → run_of (drop (i + 1) text) + (i + 1) ≡ run_of (drop i text) + i
+run_past text i low no_brace no_bracket =
+    run_more text i low (ap (λ xs. is_text (front_at xs)) (split text i low)
+    ∙ other (get_or text i 0) (drop (i + 1) text) (ne_eqb (get_or text i 0) 123 no_brace) (ne_eqb (get_or text i 0) 91 no_bracket))
+  where
+    other : (b : ℕ) (rest : List ℕ) → (b == 123) ≡ false → (b == 91) ≡ false → is_text (front_at (b ∷ rest)) ≡ true
+    other b [] brace bracket = refl
+    other b (c ∷ rest) brace bracket =
+        ap (λ v. is_text (if v && (c == 123) then Regex else if (b == 91) && (c == 91) && not (starts_twice 91 (c ∷ rest)) then Block else Text)) brace
+        ∙ ap (λ v. is_text (if v && (c == 91) && not (starts_twice 91 (c ∷ rest)) then Block else Text)) bracket
 
 pub run_stops : (text : List ℕ) (i : ℕ) → is_text (front_at (drop i text)) ≡ false → run_of (drop i text) ≡ 0
 run_stops text i other = each (drop i text) other

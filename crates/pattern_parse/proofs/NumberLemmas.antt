@@ -1,9 +1,8 @@
 -- The pieces of a body can be searched for: no group or reference of an expression has the number 0, and none has a number
 -- past the expression's length, by its productions; and the pieces with what encloses them are no longer than the body.
 -- The hard lemma is `item_within`: the numbers in what an item of the grammar gives.
-use Rattle.std.proofs.Common.{◌≡◌, ℕ, zero, suc, ◌+◌, ◌-◌, ◌*◌, ◌^◌, ◌<◌, ◌≤◌, max, Bool, true, false, true≢false, IsTrue, ◌&&◌, ◌||◌, ◌==◌, not, nat_le, nat_lt, cond, List, [], ◌∷◌, Option, Some, None, Result, Ok, Err, length, drop, map, inl, inr, refl, sym, ap, ◌∙◌, arith}
-use Rattle.std.specs.List.{list_any, sum}
-use Rattle.std.specs.Prelude.{All}
+use Rattle.std.proofs.Common.{◌≡◌, ℕ, zero, suc, ◌+◌, ◌≤◌, Bool, true, false, true≢false, IsTrue, ◌&&◌, ◌||◌, ◌==◌, not, nat_le, cond, List, [], ◌∷◌, Some, None, length, map, inl, inr, refl, sym, ap, ◌∙◌, arith}
+use Rattle.std.specs.List.{list_any}
 use Rattle.std.proofs.lemmas.Bool.Decides.{nat_tests}
 use Rattle.std.proofs.lemmas.List.{length-drop}
 use Rattle.ere_tree.specs.Tree.{Tree, Trees, empty, plain, set, line_start, line_end, cat, alt, repeat, group, back, none, then, trees_of}
@@ -11,7 +10,7 @@ use Rattle.ere_tree.specs.Shape.{greatest_number, greatest_number_of}
 use Rattle.ere_tree.specs.Case.{both_cases, is_folded}
 use Rattle.ere_tree.specs.Token.{Atom, Token, byte, one_of, same_as, item, bar, open_group, close_group}
 use Rattle.ere_tree.specs.Token as tokens
-use Rattle.ere_tree.specs.Grammar.{letter, branch_of, either_of, repeated, with_byte, atom_tree, with_item}
+use Rattle.ere_tree.specs.Grammar.{letter, branch_of, either_of}
 use Rattle.ere_tree.specs.Productions.{Alts, Branch, Item, alone, or, only, also, simple, empty_group, group_of, Takes, SpellsItem, SpellsBranch, SpellsAlts, groups_item, groups_branch, groups_alts, may_stand, SoundItem, SoundBranch, SoundAlts, with_token, parts_item, parts_branch, first_branch, other_branches, alts_tree, IsEre}
 use Rattle.pattern_parse.specs.Search.{IsNumbered, AreNumbered}
 use Rattle.pattern_parse.proofs.CutLemmas.{two_out}

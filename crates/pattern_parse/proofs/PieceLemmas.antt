@@ -2,21 +2,23 @@
 -- is what it says of the whole. So a refusal or the end at hand is the body's. The hard one is `one_more`; `pieces_are_one`
 -- follows from `one_cut`.
 use Rattle.std.specs.Bool.{MatchBool}
-use Rattle.pattern_parse.specs.Cut.{IsCut}
 use Rattle.pattern_parse.specs.Item.{plain, refused}
-use Rattle.pattern_parse.specs.Pieces.{PiecesAreOne, is_label, is_plain, nothing_said}
+use Rattle.pattern_parse.specs.Pieces.{IsPieces, PiecesAreOne, is_label, is_plain, nothing_said}
 use Rattle.pattern_parse.specs.declared.fault.PatKind.TheVariants.{TooLong}
 use Rattle.pattern_parse.proofs.CutLemmas.{one_cut}
-use Rattle.std.proofs.Common.{◌≡◌, ℕ, zero, suc, ◌+◌, ◌<◌, ◌≤◌, Bool, true, false, nat_lt, List, [], ◌∷◌, ◌++◌, Option, Some, None, Result, Ok, Err, add-one, ap, drop, drop-cons, get_or, length, map, refl, sym, take, ◌∙◌, arith}
+use Rattle.std.proofs.Common.{◌≡◌, ℕ, zero, suc, ◌+◌, ◌<◌, ◌≤◌, Bool, true, false, nat_lt, List, [], ◌∷◌, ◌++◌, Option, Some, None, Result, Ok, Err, add-one, ap, drop, drop-cons, get_or, length, map, refl, subst, sym, take, ◌∙◌, arith}
+use Rattle.std.proofs.lemmas.Bool.{le-ltb}
 use Rattle.std.proofs.lemmas.List.{drop_all, take_all}
 use Rattle.num_base.specs.declared.format.Format.{Format}
 use Rattle.pattern_parse.specs.Block.{Said}
-use Rattle.pattern_parse.specs.Cut.{Raw, Ending}
+use Rattle.pattern_parse.specs.Cut.{Ending, IsCut, Raw}
+use Rattle.pattern_parse.specs.Cut as cut
 use Rattle.pattern_parse.specs.Item.{Item}
 use Rattle.pattern_parse.specs.Pieces.{and_items, behind_items, behind_raw, items_behind, items_from, raw_read, unless_refused, ended}
 use Rattle.pattern_parse.specs.RawView.{raw_view}
 use Rattle.pattern_parse.specs.declared.cutting.Raw as raws
 use Rattle.pattern_parse.specs.declared.fault.PatFault.{PatFault}
+use Rattle.pattern_parse.specs.declared.pattern.Kind.{Kind}
 
 -- no bytes stand past the end
 pub none_there : (body : List ℕ) (from n : ℕ) → length body < from → [] ≡ take n (drop from body)
@@ -131,3 +133,20 @@ pieces_are_one body kind literal fold known told other one two =
     long true p same_told equal = same_told ∙ sym equal
     long false true same_told equal = same_told ∙ sym equal
     long false false same_told equal = cut_one same_told equal
+
+-- ---- a body that is plain text alone
+
+pub plain_alone : (body : List ℕ) (kind : Kind) (literal fold : Bool) (known : List ℕ → Option Format) (told : Result (List Item) PatFault)
+    → length body ≤ 65536 → told ≡ Ok (plain body ∷ []) → (is_plain kind literal ≡ false → IsCut body (cut.text body ∷ []) cut.over)
+    → IsPieces body kind literal fold known told
+plain_alone body kind literal fold known told short is alone =
+    subst (λ v. MatchBool v (told ≡ refused TooLong 0) (MatchBool (is_plain kind literal) (told ≡ Ok (plain body ∷ []))
+    ((raws : List Raw) × (ending : Ending) × IsCut body raws ending
+    × (told ≡ items_from fold known (is_label kind) nothing_said 0 raws ending))))
+    (sym (le-ltb 65536 (length body) short)) (each (is_plain kind literal) refl)
+  where
+    each : (v : Bool) → is_plain kind literal ≡ v → MatchBool v (told ≡ Ok (plain body ∷ []))
+        ((raws : List Raw) × (ending : Ending) × IsCut body raws ending
+        × (told ≡ items_from fold known (is_label kind) nothing_said 0 raws ending))
+    each true plain_kind = is
+    each false other = (cut.text body ∷ [], cut.over, alone other, is)

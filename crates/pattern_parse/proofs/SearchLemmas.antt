@@ -1,7 +1,7 @@
 -- The pieces of a body can be searched for. The numbers in an expression are at most its length (`ere_within`), so those
 -- of all pieces, with two more for each, are at most twice the body's length. The hard lemma is `cut_rooms`: the pieces,
 -- with what encloses them, are no longer than the body.
-use Rattle.std.proofs.Common.{◌≡◌, ℕ, zero, suc, ◌+◌, ◌*◌, ◌^◌, ◌<◌, ◌≤◌, Bool, true, false, ◌==◌, nat_lt, cond, List, [], ◌∷◌, Option, Some, None, Result, Ok, Err, length, drop, take, map, length-append, refl, sym, ap, subst, ◌∙◌, arith}
+use Rattle.std.proofs.Common.{◌≡◌, ℕ, ◌+◌, ◌*◌, ◌^◌, ◌<◌, ◌≤◌, Bool, true, false, ◌==◌, nat_lt, cond, List, [], ◌∷◌, Option, Some, None, Result, Ok, Err, length, drop, take, length-append, refl, sym, ap, subst, ◌∙◌, arith}
 use Rattle.std.specs.Bool.{MatchBool}
 use Rattle.std.specs.List.{prefix_len, sum_by}
 use Rattle.std.specs.Prelude.{All, codes, ℤ}
@@ -30,12 +30,11 @@ use Rattle.std.specs.Prelude.{is_some}
 use Rattle.num_exprs.specs.Block.{Reading, reading}
 use Rattle.num_exprs.specs.Name.{name_at}
 use Rattle.pattern_parse.specs.Block.{Said, and_said, decimal, is_used, line_number, uses_read, with_own, with_recall, behind_line, behind_name, block_number, block_read, defined_as, line_digits, line_read, number_of, text_read}
-use Rattle.pattern_parse.specs.Cut.{Inside, written, Raw, text, regex, block, Ending, over, no_regex_end, no_block_end, front_at, IsRun, IsUpToEnd, IsBlock, IsCut}
+use Rattle.pattern_parse.specs.Cut.{Inside, written, Raw, text, regex, block, Ending, IsRun, IsUpToEnd, IsBlock, IsCut}
 use Rattle.pattern_parse.specs.Item.{Item, refused}
 use Rattle.pattern_parse.specs.Item as item
 use Rattle.pattern_parse.specs.Pieces.{IsPieces, and_items, behind_raw, ended, is_label, is_plain, items_behind, items_from, nothing_said, raw_read, regex_read, unless_refused}
 use Rattle.pattern_parse.specs.Search.{HasNumbers, IsSearchable, greatest_of}
-use Rattle.pattern_parse.specs.declared.cutting.Front.TheVariants.{Text}
 use Rattle.pattern_parse.specs.declared.fault.PatFault.{PatFault}
 use Rattle.pattern_parse.specs.declared.fault.PatKind.TheVariants.{BadExpr, BadName, TooLong, VariableInLabel}
 use Rattle.pattern_parse.specs.declared.pattern.Kind.{Kind}

@@ -1,6 +1,6 @@
 //! Cutting a body into plain text, regular expressions and blocks.
-ghost use Rattle.std.specs.Prelude.{◌≡◌, ◌≤◌, ◌<◌, ◌+◌, ◌^◌, IfOk, IfSome, IsTrue, false, drop, length, map};
-ghost use Rattle.pattern_parse.specs.Cut.{IsCut, front_at, starts_twice};
+ghost use Rattle.std.specs.Prelude.{◌≡◌, ◌≤◌, ◌<◌, ◌+◌, ◌^◌, [], ◌∷◌, IfOk, IfSome, IsTrue, false, drop, length, map};
+ghost use Rattle.pattern_parse.specs.Cut.{IsCut, front_at, over, starts_twice, text};
 ghost use Rattle.pattern_parse.specs.Ends.{behind_byte, end_of, is_text, run_of, up_to_end};
 ghost use Rattle.pattern_parse.specs.RawView.{Steps, ending_view, raw_view};
 
@@ -88,19 +88,27 @@ fn begins_text(text: &[u8]) -> bool
 }
 
 /// How many bytes of plain text there are.
-#[tactic(auto, using(crate::proofs::EndLemmas::run_more, crate::proofs::EndLemmas::run_stops))]
+#[tactic(auto, using(crate::proofs::EndLemmas::run_more, crate::proofs::EndLemmas::run_past, crate::proofs::EndLemmas::run_stops))]
 fn run_length(text: &[u8]) -> usize
     ensures exact { result ≡ run_of text.now }
     ensures within { result ≤ length text.now }
 {
     let mut count: usize = 0;
     while count < text.len() {
-        if !begins_text(behind(text, count)) {
+        if matches!(text[count], b'{' | b'[') && !begins_text(behind(text, count)) {
             return count;
         }
         count += 1;
     }
     count
+}
+
+/// Whether a body is plain text alone, as most are.
+#[tactic(auto, using(crate::proofs::CutLemmas::text_alone))]
+pub(crate) fn is_text_alone(body: &[u8]) -> bool
+    ensures { IsTrue result → IsCut body.now (text body.now ∷ []) over }
+{
+    !body.is_empty() && run_length(body) == body.len()
 }
 
 /// How many bytes there are before the first `}}`.

@@ -8,7 +8,7 @@ ghost use Rattle.pattern_parse.specs.RawView.{ending_view, raw_view};
 ghost use Rattle.pattern_parse.specs.Search.{IsSearchable};
 
 use crate::block::{Read, behind_raw, raw_read, refused};
-use crate::cutting::{Ending, Raw, cut_body};
+use crate::cutting::{Ending, Raw, cut_body, is_text_alone};
 use crate::fault::{PatFail, PatFault, PatKind};
 use crate::formats::Formats;
 use crate::pattern::{Frame, Kind, Pattern, Piece};
@@ -196,7 +196,7 @@ fn read_body(
 {
     if body.len() > MAX_BODY {
         Ok(Err(refused(PatKind::TooLong, 0)))
-    } else if is_plain(kind, literal) {
+    } else if is_plain(kind, literal) || is_text_alone(body) {
         Ok(Ok(plain_body(alloc, body)?))
     } else {
         let cut = cut_body(alloc, body)?;
