@@ -1,7 +1,7 @@
 //! Which prefix is meant, with ample memory.
+use crate::fields::three;
 use prefix_tree::{PrefixTree, Standing};
 use std::alloc::Global;
-use std::test::Fail;
 use tt_base::{Bytes, Items, NoMemory};
 
 /// Names that stand between commas; none of an empty text.
@@ -16,40 +16,51 @@ pub(crate) fn list_of(alloc: Global, names: &str) -> Result<Items<Bytes>, NoMemo
     Ok(list)
 }
 
-/// Names, a text, and the number and the length of the longest one that the text begins with.
-const LONGEST: [(&str, &str, &str); 15] = [
-    ("A,AB,A-B,AB", "A: x", "0 1"),
-    ("A,AB,A-B,AB", "AB: x", "1 2"),
-    ("A,AB,A-B,AB", "A-B: x", "2 3"),
-    ("A,AB,A-B,AB", "A-C: x", "0 1"),
-    ("A,AB,A-B,AB", "BA", "none"),
-    ("ABC,A", "ABA", "1 1"),
-    ("ABC,A", "ABC", "0 3"),
-    ("ABC", "AB", "none"),
-    ("B,,C", "A", "1 0"),
-    ("B,,C", "", "1 0"),
-    ("", "A", "none"),
-    ("A,AB,A-B,AB,ABC", "ABC: x", "4 3"),
-    ("A,AB,A-B,AB,ABC", "ABD: x", "1 2"),
-    ("AB,ABC,A-B,D,E", "A-C: x", "none"),
-    ("B,,C,D,E", "A", "1 0"),
-];
-
-/// The number and the length of the longest prefix.
-fn longest(alloc: Global, names: &str, text: &str) -> Result<String, Fail> {
+/// The longest prefix of a list that a text begins with.
+fn longest(alloc: Global, names: &str, text: &str) -> Result<Option<Standing>, NoMemory> {
     let prefixes = list_of(alloc, names)?;
     let tree = PrefixTree::new(alloc, prefixes.as_slice())?;
-    match tree.longest(text.as_bytes()) {
-        Some(Standing { index, length }) => Ok(format!(in alloc; "{index} {length}")?),
-        None => Ok(String::from_str(alloc, "none")?),
+    Ok(tree.longest(text.as_bytes()))
+}
+
+/// The number and the length of a prefix.
+fn numbers_of(field: &str) -> Option<(usize, usize)> {
+    let (index, length) = field.split_once(' ')?;
+    Some((index.parse().ok()?, length.parse().ok()?))
+}
+
+/// Whether the longest prefix of a row is this, or none.
+fn is_longest(alloc: Global, row: &str) -> Result<bool, NoMemory> {
+    let Some((names, text, due)) = three(row) else {
+        return Ok(false);
+    };
+    match longest(alloc, names, text)? {
+        Some(Standing { index, length }) => Ok(numbers_of(due) == Some((index, length))),
+        None => Ok(due == "none"),
     }
 }
 
+/// Names, a text, and the number and the length of the longest one that the text begins with.
+const LONGEST: &str = "A,AB,A-B,AB => A: x => 0 1
+A,AB,A-B,AB => AB: x => 1 2
+A,AB,A-B,AB => A-B: x => 2 3
+A,AB,A-B,AB => A-C: x => 0 1
+A,AB,A-B,AB => BA => none
+ABC,A => ABA => 1 1
+ABC,A => ABC => 0 3
+ABC => AB => none
+B,,C => A => 1 0
+B,,C =>  => 1 0
+ => A => none
+A,AB,A-B,AB,ABC => ABC: x => 4 3
+A,AB,A-B,AB,ABC => ABD: x => 1 2
+AB,ABC,A-B,D,E => A-C: x => none
+B,,C,D,E => A => 1 0";
+
 #[test]
-fn the_longest_prefix_is_meant(rt: HostRuntime) -> Result<(), Fail> {
-    for (names, text, due) in LONGEST {
-        let found = longest(rt.alloc(), names, text)?;
-        assert!(rt; found.as_str() == due, "{names}, {text:?}: {found}");
+fn the_longest_prefix_is_meant(rt: HostRuntime) -> Result<(), NoMemory> {
+    for row in LONGEST.lines() {
+        assert!(rt; is_longest(rt.alloc(), row)?, "{row}");
     }
     Ok(())
 }

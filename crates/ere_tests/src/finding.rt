@@ -1,16 +1,17 @@
 //! Hits with their captures: rows by hand, and small expressions beside the list of all derivations.
 ghost use Rattle.std.specs.Prelude.{◌≡◌, ◌<◌, ◌≤◌, length};
 
-use crate::shown::{are_same, in_words, read};
+use crate::rows::{bytes_of, four};
+use crate::shown::{are_same, in_words};
 use ere_auto::Steps;
 use ere_match::find;
 use ere_slow::slow_hit;
 use ere_tree::{Ere, Hit, parse};
-use std::alloc::Global;
+use std::alloc::{AllocError, Global};
 use std::marker::Brand;
 use std::process::Abort;
 use std::sync::ledger::{Blank, Ledger};
-use std::test::Fail;
+use tt_base::NoMemory;
 
 fn found_by<L: Ledger>(
     alloc: Global,
@@ -18,52 +19,60 @@ fn found_by<L: Ledger>(
     text: &[u8],
     from: usize,
     blank: Blank,
-) -> Result<Option<Hit>, Fail>
+) -> Result<Option<Hit>, NoMemory>
     requires name { blank.name ≡ L.name }
     requires parts { blank.parts ≡ L.parts }
     requires some_part { 0 < blank.parts }
     requires inside { from ≤ length text.now }
 {
     let mut steps = Steps::<L>::new(blank);
-    Ok(find(alloc, ere, text, from, &mut steps)?)
+    find(alloc, ere, text, from, &mut steps)
 }
 
-/// The hit in the text from `from` on.
-fn found(alloc: Global, ere: &Ere, text: &[u8], from: usize) -> Result<Option<Hit>, Fail> {
+/// The hit in the text from `from` on. A place behind the text counts as want of memory.
+fn found(alloc: Global, ere: &Ere, text: &[u8], from: usize) -> Result<Option<Hit>, AllocError> {
     if from > text.len() {
-        return Err(Fail::from("no search"));
+        return Err(AllocError);
     }
-    found_by::<Brand>(alloc, ere, text, from, Blank::new(1))
+    found_by::<Brand>(alloc, ere, text, from, Blank::new(1)).or(Err(AllocError))
 }
 
 /// What is found in the text from a place on, in words.
-fn told(alloc: Global, pattern: &str, text: &str, from: usize) -> Result<String, Fail> {
-    let ere = read(alloc, pattern)?;
-    let hit = found(alloc, &ere, text.as_bytes(), from)?;
+fn told(alloc: Global, pattern: &str, text: &[u8], from: usize) -> Result<String, AllocError> {
+    let Ok(ere) = parse(alloc, pattern.as_bytes(), false) else {
+        return String::from_str(alloc, "refused");
+    };
+    let hit = found(alloc, &ere, text, from)?;
     in_words(alloc, &hit)
 }
 
+/// Whether a row has the hit of its expression in its text.
+fn is_found(alloc: Global, row: &str) -> Result<bool, AllocError> {
+    let Some((pattern, text, from, due)) = four(row) else {
+        return Ok(false);
+    };
+    let text = bytes_of(alloc, text)?;
+    Ok(told(alloc, pattern, text.as_slice(), from)?.as_str() == due)
+}
+
 /// An expression, a text, where the search begins, and the hit with its groups.
-const HITS: [(&str, &str, usize, &str); 12] = [
-    ("(a|ab)(c|bcd)(d*)", "abcd", 0, "0-4 0-2 2-3 3-4"),
-    ("(a?){3}", "a", 0, "0-1 1-1"),
-    ("(a*)*", "", 0, "0-0 none"),
-    ("(a*)+", "", 0, "0-0 0-0"),
-    ("$", "a\nb", 0, "1-1"),
-    ("^b", "ab", 1, "1-2"),
-    ("b|abc|a", "abcd", 0, "0-3"),
-    ("(b)+", "xabb", 2, "2-4 3-4"),
-    ("a*b", "aaaaaaaa", 0, "none"),
-    ("x((a*)(a*))b\\3", "xaabaa", 0, "0-6 1-3 1-1 1-3"),
-    ("(a)|(b)\\1", "b", 0, "none"),
-    ("(a|ab)(b*)\\2c", "abbc", 0, "0-4 0-1 1-2"),
-];
+const HITS: &str = r"(a|ab)(c|bcd)(d*) => abcd => 0 => 0-4 0-2 2-3 3-4
+(a?){3} => a => 0 => 0-1 1-1
+(a*)* =>  => 0 => 0-0 none
+(a*)+ =>  => 0 => 0-0 0-0
+$ => a~b => 0 => 1-1
+^b => ab => 1 => 1-2
+b|abc|a => abcd => 0 => 0-3
+(b)+ => xabb => 2 => 2-4 3-4
+a*b => aaaaaaaa => 0 => none
+x((a*)(a*))b\3 => xaabaa => 0 => 0-6 1-3 1-1 1-3
+(a)|(b)\1 => b => 0 => none
+(a|ab)(b*)\2c => abbc => 0 => 0-4 0-1 1-2";
 
 #[test]
-fn groups_hold_what_the_preferred_way_sets(rt: HostRuntime) -> Result<(), Fail> {
-    for (pattern, text, from, due) in HITS {
-        let told = told(rt.alloc(), pattern, text, from)?;
-        assert!(rt; told.as_str() == due, "{pattern} in {text:?}: {told}");
+fn groups_hold_what_the_preferred_way_sets(rt: HostRuntime) -> Result<(), AllocError> {
+    for row in HITS.lines() {
+        assert!(rt; is_found(rt.alloc(), row)?, "{row}");
     }
     Ok(())
 }
@@ -75,13 +84,18 @@ const TOKENS: [&str; 15] = [
 
 const LETTERS: [&str; 4] = ["a", "b", "ab", "\n"];
 
-/// The text of so many pieces that a number spells, its last digit first.
-fn spelled(alloc: Global, pieces: &[&str], number: usize, length: u32) -> Result<Vec<u8>, Fail> {
+/// The text of so many pieces that a number spells, its last digit first. No pieces count as want of memory.
+fn spelled(
+    alloc: Global,
+    pieces: &[&str],
+    number: usize,
+    length: u32,
+) -> Result<Vec<u8>, AllocError> {
     let mut bytes = Vec::new(alloc);
     let mut left = number;
     for _ in 0..length {
         let Some(piece) = pieces.get(left.checked_rem(pieces.len()).unwrap_or(0)) else {
-            return Err(Fail::from("no piece"));
+            return Err(AllocError);
         };
         bytes.extend_from_slice(piece.as_bytes())?;
         left = left.checked_div(pieces.len()).unwrap_or(0);
@@ -90,7 +104,7 @@ fn spelled(alloc: Global, pieces: &[&str], number: usize, length: u32) -> Result
 }
 
 /// All texts of up to so many pieces.
-fn all_spelled(alloc: Global, pieces: &[&str], most: u32) -> Result<Vec<Vec<u8>>, Fail> {
+fn all_spelled(alloc: Global, pieces: &[&str], most: u32) -> Result<Vec<Vec<u8>>, AllocError> {
     let mut all = Vec::new(alloc);
     for length in 0..=most {
         for number in 0..pieces.len().saturating_pow(length) {
@@ -101,7 +115,7 @@ fn all_spelled(alloc: Global, pieces: &[&str], most: u32) -> Result<Vec<Vec<u8>>
 }
 
 /// Whether the expression is found in the text. The hit and its groups are those of the list.
-fn agree(rt: &impl Abort, alloc: Global, ere: &Ere, text: &[u8]) -> Result<bool, Fail> {
+fn agree(rt: &impl Abort, alloc: Global, ere: &Ere, text: &[u8]) -> Result<bool, AllocError> {
     let hit = found(alloc, ere, text, 0)?;
     let listed = slow_hit(alloc, ere, text, 0)?;
     assert!(rt; are_same(&hit, &listed), "{ere:?} in {text:?}");
@@ -109,7 +123,12 @@ fn agree(rt: &impl Abort, alloc: Global, ere: &Ere, text: &[u8]) -> Result<bool,
 }
 
 /// In how many of the texts the expression is found; in none where it is refused.
-fn hits_in(rt: &impl Abort, alloc: Global, pattern: &[u8], texts: &[Vec<u8>]) -> Result<u32, Fail> {
+fn hits_in(
+    rt: &impl Abort,
+    alloc: Global,
+    pattern: &[u8],
+    texts: &[Vec<u8>],
+) -> Result<u32, AllocError> {
     let Ok(ere) = parse(alloc, pattern, false) else {
         return Ok(0);
     };
@@ -123,7 +142,7 @@ fn hits_in(rt: &impl Abort, alloc: Global, pattern: &[u8], texts: &[Vec<u8>]) ->
 }
 
 #[test]
-fn small_expressions_are_found_as_the_list_has_them(rt: HostRuntime) -> Result<(), Fail> {
+fn small_expressions_are_found_as_the_list_has_them(rt: HostRuntime) -> Result<(), AllocError> {
     let texts = all_spelled(rt.alloc(), &LETTERS, 2)?;
     let mut hits: u32 = 0;
     for pattern in all_spelled(rt.alloc(), &TOKENS, 3)? {
@@ -134,17 +153,30 @@ fn small_expressions_are_found_as_the_list_has_them(rt: HostRuntime) -> Result<(
     Ok(())
 }
 
-#[test]
-fn of_sixty_thousand_alternatives_one_is_found_or_none(rt: HostRuntime) -> Result<(), Fail> {
-    let mut pattern = spelled(rt.alloc(), &["a|"], 0, 59_999)?;
+/// Whether a text of so many of a letter has this hit, in words.
+fn is_found_among(
+    alloc: Global,
+    ere: &Ere,
+    letter: u8,
+    count: usize,
+    due: &str,
+) -> Result<bool, AllocError> {
+    let letters = vec![in alloc; letter; count]?;
+    let hit = found(alloc, ere, letters.as_slice(), 0)?;
+    Ok(in_words(alloc, &hit)?.as_str() == due)
+}
+
+/// So many alternatives of one letter.
+fn alternatives(alloc: Global, count: u32) -> Result<Ere, AllocError> {
+    let mut pattern = spelled(alloc, &["a|"], 0, count.saturating_sub(1))?;
     pattern.push(b'a')?;
-    let Ok(ere) = parse(rt.alloc(), pattern.as_slice(), false) else {
-        return Err(Fail::from("refused"));
-    };
-    let letters = vec![in rt.alloc(); b'a'; 65_536]?;
-    let hit = found(rt.alloc(), &ere, letters.as_slice(), 0)?;
-    assert!(rt; in_words(rt.alloc(), &hit)?.as_str() == "0-1");
-    let others = vec![in rt.alloc(); b'b'; 1_048_576]?;
-    assert!(rt; found(rt.alloc(), &ere, others.as_slice(), 0)?.is_none());
+    parse(alloc, pattern.as_slice(), false).or(Err(AllocError))
+}
+
+#[test]
+fn of_sixty_thousand_alternatives_one_is_found_or_none(rt: HostRuntime) -> Result<(), AllocError> {
+    let ere = alternatives(rt.alloc(), 60_000)?;
+    assert!(rt; is_found_among(rt.alloc(), &ere, b'a', 65_536, "0-1")?);
+    assert!(rt; is_found_among(rt.alloc(), &ere, b'b', 1_048_576, "none")?);
     Ok(())
 }

@@ -1,23 +1,17 @@
 //! Hits and spans in words, as the rows of these tests have them.
-use ere_tree::{Cap, Ere, Hit, parse};
-use std::alloc::Global;
-use std::test::Fail;
-
-/// The expression of a row.
-pub(crate) fn read(alloc: Global, expression: &str) -> Result<Ere, Fail> {
-    Ok(parse(alloc, expression.as_bytes(), false)?)
-}
+use ere_tree::{Cap, Hit};
+use std::alloc::{AllocError, Global};
 
 /// The two ends of a span, as `0-4`; or `none`.
-pub(crate) fn ends_of(alloc: Global, span: Option<Cap>) -> Result<String, Fail> {
+pub(crate) fn ends_of(alloc: Global, span: Option<Cap>) -> Result<String, AllocError> {
     match span {
-        Some(Cap { from, to }) => Ok(format!(in alloc; "{from}-{to}")?),
-        None => Ok(String::from_str(alloc, "none")?),
+        Some(Cap { from, to }) => format!(in alloc; "{from}-{to}"),
+        None => String::from_str(alloc, "none"),
     }
 }
 
 /// The ends of a hit, and then those of what each group holds, as `0-4 0-2 none`.
-fn hit_in_words(alloc: Global, hit: &Hit) -> Result<String, Fail> {
+fn hit_in_words(alloc: Global, hit: &Hit) -> Result<String, AllocError> {
     let mut text = format!(in alloc; "{}-{}", hit.from, hit.to)?;
     for group in hit.groups.as_slice() {
         text.push(' ')?;
@@ -27,7 +21,7 @@ fn hit_in_words(alloc: Global, hit: &Hit) -> Result<String, Fail> {
 }
 
 /// A hit in words, or `none`.
-pub(crate) fn in_words(alloc: Global, hit: &Option<Hit>) -> Result<String, Fail> {
+pub(crate) fn in_words(alloc: Global, hit: &Option<Hit>) -> Result<String, AllocError> {
     match hit {
         Some(hit) => hit_in_words(alloc, hit),
         None => ends_of(alloc, None),

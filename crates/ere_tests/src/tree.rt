@@ -7,39 +7,28 @@ use ere_tree::{
     ByteRun, ByteSet, Cap, Caps, Ere, EreList, Hit, class, law_of_preference, law_of_the_hit,
 };
 use std::alloc::{AllocError, Global};
-use std::test::Fail;
 
-/// Whether a class has a byte and has not another.
-fn tells_apart(name: &str, inside: u8, outside: u8) -> bool {
-    match class(name.as_bytes()) {
-        Some(set) => set.has(inside) && !set.has(outside),
-        None => false,
+/// Classes, each with a byte that it has and one that it has not, between bars.
+const CLASSES: &str =
+    "alnum 0/|alpha z0|blank \t\n|cntrl \x7f |digit 9:|graph ! |lower aA|print  \x7f|punct ~a|space \r\x0e|upper Z[|xdigit fg";
+
+/// Whether the class of a row tells its two bytes apart.
+fn tells_apart(row: &str) -> bool {
+    let Some((name, bytes)) = row.split_once(' ') else {
+        return false;
+    };
+    match (class(name.as_bytes()), bytes.as_bytes()) {
+        (Some(set), [inside, outside]) => set.has(*inside) && !set.has(*outside),
+        _ => false,
     }
 }
 
 #[test]
 fn classes_have_their_bytes(rt: HostRuntime) {
-    let cases = [
-        ("alnum", b'0', b'/'),
-        ("alpha", b'z', b'0'),
-        ("blank", 9, 10),
-        ("cntrl", 127, b' '),
-        ("digit", b'9', b':'),
-        ("graph", b'!', b' '),
-        ("lower", b'a', b'A'),
-        ("print", b' ', 127),
-        ("punct", b'~', b'a'),
-        ("space", 13, 14),
-        ("upper", b'Z', b'['),
-        ("xdigit", b'f', b'g'),
-    ];
-    for (name, inside, outside) in cases {
-        assert!(rt;
-            tells_apart(name, inside, outside),
-            "{inside} and {outside} in {name}"
-        );
+    for row in CLASSES.split('|') {
+        assert!(rt; tells_apart(row), "{row:?}");
     }
-    assert_eq!(rt; class(b"word"), None);
+    assert!(rt; class(b"word").is_none());
     assert!(rt; !ByteSet::empty().has(0));
 }
 
@@ -75,22 +64,25 @@ fn plain(alloc: Global, bytes: &[u8]) -> Result<Ere, AllocError>
 }
 
 /// Whether two trees are written alike.
-fn are_alike(alloc: Global, one: &Ere, other: &Ere) -> Result<bool, Fail> {
+fn are_alike(alloc: Global, one: &Ere, other: &Ere) -> Result<bool, AllocError> {
     let text = format!(in alloc; "{one:?}")?;
     Ok(format!(in alloc; "{other:?}")?.as_str() == text.as_str())
 }
 
+/// A tree's size, its number of groups, and whether it has references.
+fn measured(tree: &Ere) -> (u64, u32, bool) {
+    (tree.size(), tree.groups(), tree.has_refs())
+}
+
 #[test]
-fn a_copy_is_an_equal_tree(rt: HostRuntime) -> Result<(), Fail> {
+fn a_copy_is_an_equal_tree(rt: HostRuntime) -> Result<(), AllocError> {
     let mut tree = a_or_many_b(rt.alloc())?;
     let made = tree.copy(rt.alloc())?;
     assert!(rt; are_alike(rt.alloc(), &tree, &made)?);
-    assert_eq!(rt;
-        (made.size(), made.groups(), made.has_refs()),
-        (5, 1, false)
-    );
+    assert!(rt; measured(&made) == (5, 1, false));
     tree.shift(2);
-    assert_eq!(rt; (tree.size(), tree.groups(), made.groups()), (5, 3, 1));
+    assert!(rt; measured(&tree) == (5, 3, false));
+    assert!(rt; measured(&made) == (5, 1, false));
     Ok(())
 }
 
@@ -114,7 +106,7 @@ fn a_shift_raises_references(rt: HostRuntime) {
 }
 
 #[test]
-fn a_size_stops_at_the_greatest_number(rt: HostRuntime) -> Result<(), Fail> {
+fn a_size_stops_at_the_greatest_number(rt: HostRuntime) -> Result<(), AllocError> {
     let mut tree = Ere::Empty;
     for _ in 0..9 {
         tree = Ere::Repeat {
@@ -127,21 +119,24 @@ fn a_size_stops_at_the_greatest_number(rt: HostRuntime) -> Result<(), Fail> {
     Ok(())
 }
 
-#[test]
-fn captures_keep_what_is_unset(rt: HostRuntime) -> Result<(), Fail> {
-    let mut all = Vec::new(rt.alloc());
+/// A hit whose first group is unset.
+fn hit_of_two(alloc: Global) -> Result<Hit, AllocError> {
+    let mut all = Vec::new(alloc);
     all.push(None)?;
     all.push(Some(Cap { from: 1, to: 3 }))?;
-    let hit = Hit {
+    Ok(Hit {
         from: 0,
         to: 4,
         groups: Caps::from_vec(all),
-    };
-    assert_eq!(rt;
-        hit.groups.as_slice(),
-        [None, Some(Cap { from: 1, to: 3 })].as_slice()
-    );
-    assert_eq!(rt; Caps::new(rt.alloc()).into_vec().len(), 0);
+    })
+}
+
+#[test]
+fn captures_keep_what_is_unset(rt: HostRuntime) -> Result<(), AllocError> {
+    let hit = hit_of_two(rt.alloc())?;
+    let due = [None, Some(Cap { from: 1, to: 3 })];
+    assert!(rt; hit.groups.as_slice() == due.as_slice());
+    assert!(rt; Caps::new(rt.alloc()).into_vec().is_empty());
     Ok(())
 }
 

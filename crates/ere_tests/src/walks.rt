@@ -1,78 +1,88 @@
 //! What a walk along an expression tells from a place.
-use crate::shown::read;
-use ere_one::{Walked, walk};
-use ere_tree::Ere;
-use std::alloc::Global;
-use std::process::Abort;
-use std::test::Fail;
+use crate::rows::{bytes_of, four};
+use ere_one::walk;
+use ere_tree::parse;
+use std::alloc::{AllocError, Global};
 
-/// What the walk tells, where the place lies in the text.
-fn told(ere: &Ere, text: &[u8], place: usize) -> Result<Walked, Fail> {
-    if place > text.len() {
-        return Err(Fail::from("no place"));
-    }
-    Ok(walk(ere, text, place))
+/// Whether the walk along the expression of a row tells this from its place.
+fn is_told(alloc: Global, row: &str) -> Result<bool, AllocError> {
+    let Some((expression, text, place, due)) = four(row) else {
+        return Ok(false);
+    };
+    let expression = bytes_of(alloc, expression)?;
+    let text = bytes_of(alloc, text)?;
+    tells(alloc, expression.as_slice(), text.as_slice(), place, due)
 }
 
-fn check_all(
-    rt: &impl Abort,
+fn tells(
     alloc: Global,
-    cases: &[(&str, &str, usize, Walked)],
-) -> Result<(), Fail> {
-    for (expression, text, place, wanted) in cases {
-        let ere = read(alloc, expression)?;
-        let found = told(&ere, text.as_bytes(), *place)?;
-        assert_eq!(rt; found, *wanted, "{expression:?} in {text:?} from {place}");
+    expression: &[u8],
+    text: &[u8],
+    place: usize,
+    due: &str,
+) -> Result<bool, AllocError> {
+    match parse(alloc, expression, false) {
+        Ok(ere) if place <= text.len() => {
+            let walked = walk(&ere, text, place);
+            Ok(format!(in alloc; "{walked:?}")?.as_str() == due)
+        }
+        _ => Ok(false),
+    }
+}
+
+/// An expression, a text, a place, and where the one match ends that begins there.
+const ENDS: &str = "op [0-9]+; => op 120; op 3; => 0 => Ends(7)
+op [0-9]+; => op 120; op 3; => 8 => Ends(13)
+op ([0-9]+)(;) => op 120; => 0 => Ends(7)
+mov r[0-9]+, # => mov r12, #1 => 0 => Ends(10)
+%[a-z0-9]+ = add => %v1 = add => 0 => Ends(9)
+[a-z]* => abc1 => 0 => Ends(3)
+[a-z]* => 1 => 0 => Ends(0)
+[0-9]{2,3} => 12345 => 0 => Ends(3)
+[0-9]{2}[0-9] => 12345 => 0 => Ends(3)
+[0-9]{2}[0-9] => 12 45 => 0 => Nowhere
+^[0-9]+$ => a~12~3 => 2 => Ends(4)
+[0-9]+$ => 12 => 0 => Ends(2)
+ => a => 1 => Ends(1)";
+
+#[test]
+fn ends_where_nothing_is_left_to_choose(rt: HostRuntime) -> Result<(), AllocError> {
+    for row in ENDS.lines() {
+        assert!(rt; is_told(rt.alloc(), row)?, "{row}");
     }
     Ok(())
 }
 
-#[test]
-fn ends_where_nothing_is_left_to_choose(rt: HostRuntime) -> Result<(), Fail> {
-    let cases = [
-        ("op [0-9]+;", "op 120; op 3;", 0, Walked::Ends(7)),
-        ("op [0-9]+;", "op 120; op 3;", 8, Walked::Ends(13)),
-        ("op ([0-9]+)(;)", "op 120;", 0, Walked::Ends(7)),
-        ("mov r[0-9]+, #", "mov r12, #1", 0, Walked::Ends(10)),
-        ("%[a-z0-9]+ = add", "%v1 = add", 0, Walked::Ends(9)),
-        ("[a-z]*", "abc1", 0, Walked::Ends(3)),
-        ("[a-z]*", "1", 0, Walked::Ends(0)),
-        ("[0-9]{2,3}", "12345", 0, Walked::Ends(3)),
-        ("[0-9]{2}[0-9]", "12345", 0, Walked::Ends(3)),
-        ("[0-9]{2}[0-9]", "12 45", 0, Walked::Nowhere),
-        ("^[0-9]+$", "a\n12\n3", 2, Walked::Ends(4)),
-        ("[0-9]+$", "12", 0, Walked::Ends(2)),
-        ("", "a", 1, Walked::Ends(1)),
-    ];
-    check_all(&rt, rt.alloc(), &cases)
-}
+const NOWHERE: &str = "op [0-9]+; => op 120, => 0 => Nowhere
+op [0-9]+; => op ; => 0 => Nowhere
+op [0-9]+; => op 120 => 0 => Nowhere
+[0-9]{3} => 12a => 0 => Nowhere
+[0-9]{1,2}; => 123; => 0 => Nowhere
+[ab]c => abc => 0 => Nowhere
+^a => ba => 1 => Nowhere
+a$ => ab => 0 => Nowhere
+[ab] => a => 1 => Nowhere";
 
 #[test]
-fn begins_nowhere(rt: HostRuntime) -> Result<(), Fail> {
-    let cases = [
-        ("op [0-9]+;", "op 120,", 0, Walked::Nowhere),
-        ("op [0-9]+;", "op ;", 0, Walked::Nowhere),
-        ("op [0-9]+;", "op 120", 0, Walked::Nowhere),
-        ("[0-9]{3}", "12a", 0, Walked::Nowhere),
-        ("[0-9]{1,2};", "123;", 0, Walked::Nowhere),
-        ("[ab]c", "abc", 0, Walked::Nowhere),
-        ("^a", "ba", 1, Walked::Nowhere),
-        ("a$", "ab", 0, Walked::Nowhere),
-        ("[ab]", "a", 1, Walked::Nowhere),
-    ];
-    check_all(&rt, rt.alloc(), &cases)
+fn begins_nowhere(rt: HostRuntime) -> Result<(), AllocError> {
+    for row in NOWHERE.lines() {
+        assert!(rt; is_told(rt.alloc(), row)?, "{row}");
+    }
+    Ok(())
 }
 
+const UNKNOWN: &str = r"[a-z]+b => aab => 0 => Unknown
+[a-z]+[a-z] => aab => 0 => Unknown
+a|ab => ab => 0 => Unknown
+(ab)* => ab => 0 => Unknown
+(a)\1 => aa => 0 => Unknown
+.*x => aax => 0 => Unknown
+[^~]*$ => aa~ => 0 => Ends(2)";
+
 #[test]
-fn leaves_a_choice(rt: HostRuntime) -> Result<(), Fail> {
-    let cases = [
-        ("[a-z]+b", "aab", 0, Walked::Unknown),
-        ("[a-z]+[a-z]", "aab", 0, Walked::Unknown),
-        ("a|ab", "ab", 0, Walked::Unknown),
-        ("(ab)*", "ab", 0, Walked::Unknown),
-        ("(a)\\1", "aa", 0, Walked::Unknown),
-        (".*x", "aax", 0, Walked::Unknown),
-        ("[^\n]*$", "aa\n", 0, Walked::Ends(2)),
-    ];
-    check_all(&rt, rt.alloc(), &cases)
+fn leaves_a_choice(rt: HostRuntime) -> Result<(), AllocError> {
+    for row in UNKNOWN.lines() {
+        assert!(rt; is_told(rt.alloc(), row)?, "{row}");
+    }
+    Ok(())
 }

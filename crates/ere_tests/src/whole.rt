@@ -1,24 +1,16 @@
 //! Which texts an expression matches as a whole.
+use crate::rows::{bytes_of, four, three};
 use ere_places::{Direction, Window, image};
 use ere_tree::{Ere, parse};
 use ere_whole::matches_whole;
-use std::alloc::Global;
+use std::alloc::{AllocError, Global};
 use std::process::Abort;
-use std::test::Fail;
-
-/// The expression of a text, without references.
-fn read(alloc: Global, expression: &str) -> Result<Ere, Fail> {
-    Ok(
-        parse(alloc, expression.as_bytes(), false)
-            .ok()
-            .ok_or("no expression")?,
-    )
-}
 
 /// Whether the expression matches the text as a whole, as it is told by that call, and by the listed ends of matches.
-fn told(alloc: Global, ere: &Ere, text: &[u8]) -> Result<(bool, bool), Fail> {
+/// Nothing of one that has references.
+fn told(alloc: Global, ere: &Ere, text: &[u8]) -> Result<Option<(bool, bool)>, AllocError> {
     if ere.has_refs() {
-        return Err(Fail::from("a reference"));
+        return Ok(None);
     }
     let window = Window {
         low: 0,
@@ -26,42 +18,25 @@ fn told(alloc: Global, ere: &Ere, text: &[u8]) -> Result<(bool, bool), Fail> {
         direction: Direction::Ahead,
     };
     let ends = image(alloc, ere, text, window, &[0])?;
-    Ok((matches_whole(ere, text), ends.contains(&text.len())))
+    Ok(Some((matches_whole(ere, text), ends.contains(&text.len()))))
 }
 
-/// What stands before the next arrow of a line, and behind it.
-fn cut(line: &str) -> Result<(&str, &str), Fail> {
-    Ok(line.split_once(" => ").ok_or("a line without an arrow")?)
+/// Whether both tell of an expression over a text that it matches, or that it doesn't.
+fn tells(alloc: Global, expression: &str, text: &[u8], due: &str) -> Result<bool, AllocError> {
+    let Ok(ere) = parse(alloc, expression.as_bytes(), false) else {
+        return Ok(false);
+    };
+    let matches = due == "yes";
+    Ok(told(alloc, &ere, text)? == Some((matches, matches)))
 }
 
-/// So many pieces with an end behind them, where a `~` is a newline.
-fn repeated(alloc: Global, piece: &str, times: usize, end: &str) -> Result<Vec<u8>, Fail> {
-    let mut text = Vec::new(alloc);
-    for _ in 0..times {
-        text.extend_from_slice(piece.as_bytes())?;
-    }
-    for byte in end.as_bytes() {
-        text.push(if *byte == b'~' { b'\n' } else { *byte })?;
-    }
-    Ok(text)
-}
-
-/// Sees that an expression matches a text as a whole, or doesn't.
-fn check_one(
-    rt: &impl Abort,
-    alloc: Global,
-    expression: &str,
-    text: &[u8],
-    wanted: &str,
-) -> Result<(), Fail> {
-    let ere = read(alloc, expression)?;
-    let expected = wanted == "yes";
-    assert_eq!(rt;
-        told(alloc, &ere, text)?,
-        (expected, expected),
-        "{expression:?} over {text:?}"
-    );
-    Ok(())
+/// Whether it is as a row says.
+fn is_told(alloc: Global, row: &str) -> Result<bool, AllocError> {
+    let Some((expression, text, due)) = three(row) else {
+        return Ok(false);
+    };
+    let text = bytes_of(alloc, text)?;
+    tells(alloc, expression, text.as_slice(), due)
 }
 
 /// An expression, a text, and whether it matches the text as a whole.
@@ -92,13 +67,9 @@ a$b => ab => no
 x{0} => x => no";
 
 #[test]
-fn short_texts_match_as_a_whole_or_not(rt: HostRuntime) -> Result<(), Fail> {
-    let alloc = rt.alloc();
-    for line in SHORT.lines() {
-        let (expression, rest) = cut(line)?;
-        let (text, wanted) = cut(rest)?;
-        let text = repeated(alloc, "", 0, text)?;
-        check_one(&rt, alloc, expression, text.as_slice(), wanted)?;
+fn short_texts_match_as_a_whole_or_not(rt: HostRuntime) -> Result<(), AllocError> {
+    for row in SHORT.lines() {
+        assert!(rt; is_told(rt.alloc(), row)?, "{row}");
     }
     Ok(())
 }
@@ -126,17 +97,33 @@ a{255}b => a => 256 => b => no
 (aa)+ => a => 1025 =>  => no
 (a*b)*c => aab => 300 => c => yes";
 
+/// So many pieces with an end behind them.
+fn repeated(alloc: Global, piece: &str, times: usize, end: &str) -> Result<Vec<u8>, AllocError> {
+    let end = bytes_of(alloc, end)?;
+    let mut text = Vec::new(alloc);
+    for _ in 0..times {
+        text.extend_from_slice(piece.as_bytes())?;
+    }
+    text.extend_from_slice(end.as_slice())?;
+    Ok(text)
+}
+
+/// Whether it is as a row of a long text says.
+fn is_told_of_long(alloc: Global, row: &str) -> Result<bool, AllocError> {
+    let Some((expression, piece, times, rest)) = four(row) else {
+        return Ok(false);
+    };
+    let Some((end, due)) = rest.split_once(" => ") else {
+        return Ok(false);
+    };
+    let text = repeated(alloc, piece, times, end)?;
+    tells(alloc, expression, text.as_slice(), due)
+}
+
 #[test]
-fn long_texts_match_as_a_whole_or_not(rt: HostRuntime) -> Result<(), Fail> {
-    let alloc = rt.alloc();
-    for line in LONG.lines() {
-        let (expression, rest) = cut(line)?;
-        let (piece, rest) = cut(rest)?;
-        let (times, rest) = cut(rest)?;
-        let (end, wanted) = cut(rest)?;
-        let times = times.parse::<usize>().ok().ok_or("no number")?;
-        let text = repeated(alloc, piece, times, end)?;
-        check_one(&rt, alloc, expression, text.as_slice(), wanted)?;
+fn long_texts_match_as_a_whole_or_not(rt: HostRuntime) -> Result<(), AllocError> {
+    for row in LONG.lines() {
+        assert!(rt; is_told_of_long(rt.alloc(), row)?, "{row}");
     }
     Ok(())
 }
@@ -149,9 +136,17 @@ fn letter(number: usize) -> u8 {
     }
 }
 
+/// Whether a text is told as its ends are listed.
+fn is_as_listed(alloc: Global, ere: &Ere, text: &[u8]) -> Result<bool, AllocError> {
+    match told(alloc, ere, text)? {
+        Some((one, other)) => Ok(one == other),
+        None => Ok(false),
+    }
+}
+
 /// Sees that an expression is told over all texts of up to four letters as its ends are listed.
-fn check_all(rt: &impl Abort, alloc: Global, expression: &str) -> Result<(), Fail> {
-    let ere = read(alloc, expression)?;
+fn check_all(rt: &impl Abort, alloc: Global, expression: &str) -> Result<(), AllocError> {
+    let ere = parse(alloc, expression.as_bytes(), false).or(Err(AllocError))?;
     for number in 0..81usize {
         let text = [
             letter(number),
@@ -160,24 +155,23 @@ fn check_all(rt: &impl Abort, alloc: Global, expression: &str) -> Result<(), Fai
             letter(number / 27),
         ];
         for long in 0..5 {
-            let (one, other) = told(alloc, &ere, &text[..long])?;
-            assert_eq!(rt; one, other, "{expression:?} over text {number} of {long}");
+            let is_listed = is_as_listed(alloc, &ere, &text[..long])?;
+            assert!(rt; is_listed, "{expression} over text {number} of {long}");
         }
     }
     Ok(())
 }
 
+const EXPRESSIONS: &str = "(a|ab)*
+(a*b?){2}
+(^|b)a*$
+(a|^b){1,2}
+((a?){2})+b*
+.[^a]?(b|$)*";
+
 #[test]
-fn all_short_texts_are_told_as_their_ends_are_listed(rt: HostRuntime) -> Result<(), Fail> {
-    let expressions = [
-        "(a|ab)*",
-        "(a*b?){2}",
-        "(^|b)a*$",
-        "(a|^b){1,2}",
-        "((a?){2})+b*",
-        ".[^a]?(b|$)*",
-    ];
-    for expression in expressions {
+fn all_short_texts_are_told_as_their_ends_are_listed(rt: HostRuntime) -> Result<(), AllocError> {
+    for expression in EXPRESSIONS.lines() {
         check_all(&rt, rt.alloc(), expression)?;
     }
     Ok(())

@@ -1,17 +1,14 @@
-//! Tests of whole runs of `filecheck`, over files and streams in memory.
+//! Tests of `filecheck` by what memory alone can show: calls that fail, streams with little room, bytes that move one at a
+//! time, and what its words and definitions become. Whole runs are rows of `rows/`.
 #![tactic(auto)]
 
 #[cfg(test)]
-mod blocks;
+mod asked;
 #[cfg(test)]
-mod hostile;
+mod defines;
 #[cfg(test)]
-mod numbers;
+mod faults;
 #[cfg(test)]
-mod options;
+mod objects;
 #[cfg(test)]
 mod pieces;
-#[cfg(test)]
-mod rows;
-#[cfg(test)]
-mod runs;

@@ -1,9 +1,32 @@
-//! Tests of the parts of `lit`: suites, replacements, and the lines of its shell.
+//! Tests of the parts of `lit`: how tests are found and kept, suites, scripts and features, replacements, the lines
+//! of its shell, and runs whose tree or output fails. Whole runs are rows of `rows/`.
 #![tactic(auto)]
 
 #[cfg(test)]
+mod discoveries;
+#[cfg(test)]
+mod features;
+#[cfg(test)]
+mod kept;
+#[cfg(test)]
+mod looks;
+#[cfg(test)]
+mod paths;
+#[cfg(test)]
 mod replacements;
+#[cfg(test)]
+mod rows;
+#[cfg(test)]
+mod scripts;
 #[cfg(test)]
 mod shell;
 #[cfg(test)]
+mod show_faults;
+#[cfg(test)]
 mod suites;
+#[cfg(test)]
+mod tests_made;
+#[cfg(test)]
+mod trees;
+#[cfg(test)]
+mod wide;

@@ -1,3 +1,4 @@
+//! What lines become as names give way to their values.
 use std::alloc::Global;
 use substs::{ExpandFail, Texts, expand};
 use tt_base::{Bytes, Items, NoMemory};
@@ -22,42 +23,39 @@ fn expanded(alloc: Global, line: &str, list: &Texts, suite: usize) -> Result<Byt
     expand(alloc, line.as_bytes(), list, suite, 3)
 }
 
-/// Names and their values; the first pair is the suite's.
-const PAIRS: [(&str, &str); 3] = [
-    ("tool", "cc %s"),
-    ("%s", "/w/demo/a.txt"),
-    ("%t", "/w/demo/Output/a.txt.tmp"),
-];
-
 /// Lines, and what they become on line 3.
-const BECOME: [(&str, &str); 9] = [
-    (
-        "tool > %t.o %%s %(line+2)",
-        "cc /w/demo/a.txt > /w/demo/Output/a.txt.tmp.o %s 5",
-    ),
-    ("%%%s", "%/w/demo/a.txt"),
-    ("%%%%tool", "%%cc /w/demo/a.txt"),
-    ("%(line) %(line-2) %(line-3)", "3 1 0"),
-    ("%(line-5) %(line+999999999)", "-2 1000000002"),
-    (
-        "%(line+1234567890) %(line+) %(line+1",
-        "%(line+1234567890) %(line+) %(line+1",
-    ),
-    ("%(line+%(line))", "6"),
-    ("%", "%"),
-    ("", ""),
-];
+const BECOME: &str =
+    "tool > %t.o %%s %(line+2) => cc /w/demo/a.txt > /w/demo/Output/a.txt.tmp.o %s 5
+%%%s => %/w/demo/a.txt
+%%%%tool => %%cc /w/demo/a.txt
+%(line) %(line-2) %(line-3) => 3 1 0
+%(line-5) %(line+999999999) => -2 1000000002
+%(line+1234567890) %(line+) %(line+1 => %(line+1234567890) %(line+) %(line+1
+%(line+%(line)) => 6
+% => %
+ => ";
 
-/// Whether a line becomes this.
-fn becomes(alloc: Global, list: &Texts, line: &str, due: &str) -> Result<bool, ExpandFail> {
-    Ok(expanded(alloc, line, list, 1)?.as_slice() == due.as_bytes())
+/// Whether the line of a row becomes what is behind the arrow.
+fn becomes(alloc: Global, list: &Texts, row: &str) -> Result<bool, ExpandFail> {
+    match row.split_once(" => ") {
+        Some((line, due)) => Ok(expanded(alloc, line, list, 1)?.as_slice() == due.as_bytes()),
+        None => Ok(false),
+    }
 }
 
 #[test]
 fn each_name_gives_way_to_its_value_in_turn(rt: HostRuntime) -> Result<(), ExpandFail> {
-    let list = texts(rt.alloc(), &PAIRS)?;
-    for (line, due) in BECOME {
-        assert!(rt; becomes(rt.alloc(), &list, line, due)?, "{line}: {due}");
+    // The first pair is the suite's.
+    let list = texts(
+        rt.alloc(),
+        &[
+            ("tool", "cc %s"),
+            ("%s", "/w/demo/a.txt"),
+            ("%t", "/w/demo/Output/a.txt.tmp"),
+        ],
+    )?;
+    for row in BECOME.lines() {
+        assert!(rt; becomes(rt.alloc(), &list, row)?, "{row}");
     }
     Ok(())
 }

@@ -1,7 +1,6 @@
 //! Lines as they are understood, and refused ones with the place of the refusal.
 use mini_shell::{Command, Join, Line, Redir, RedirForm, ShellFail, ShellFault, parse_line};
-use std::alloc::Global;
-use std::test::Fail;
+use std::alloc::{AllocError, Global};
 use tt_base::{Bytes, NoMemory};
 
 fn join_text(join: Join) -> &'static [u8] {
@@ -70,25 +69,29 @@ fn shown(alloc: Global, line: &Line) -> Result<Bytes, NoMemory> {
 }
 
 /// What is wrong, and where.
-fn refusal(alloc: Global, fault: ShellFault) -> Result<Bytes, Fail> {
+fn refusal(alloc: Global, fault: ShellFault) -> Result<Bytes, NoMemory> {
     let ShellFault { kind, at } = fault;
-    let text = format!(in alloc; "{kind:?} {at}")?;
-    Ok(Bytes::from_slice(alloc, text.as_bytes())?)
+    match format!(in alloc; "{kind:?} {at}") {
+        Ok(text) => Bytes::from_slice(alloc, text.as_bytes()),
+        Err(AllocError) => Err(NoMemory),
+    }
 }
 
 /// What a line is, or what is wrong with it and where.
-fn told(alloc: Global, text: &[u8]) -> Result<Bytes, Fail> {
+fn told(alloc: Global, text: &[u8]) -> Result<Bytes, NoMemory> {
     match parse_line(alloc, text) {
-        Ok(line) => Ok(shown(alloc, &line)?),
+        Ok(line) => shown(alloc, &line),
         Err(ShellFail::Bad(fault)) => refusal(alloc, fault),
-        Err(ShellFail::NoMemory) => Err(Fail::from("no memory")),
+        Err(ShellFail::NoMemory) => Err(NoMemory),
     }
 }
 
 /// Whether the line before the arrow of a row is what is behind it.
-fn is_told(alloc: Global, row: &str) -> Result<bool, Fail> {
-    let (line, due) = row.split_once(" => ").ok_or("a row without an arrow")?;
-    Ok(told(alloc, line.as_bytes())?.as_slice() == due.as_bytes())
+fn is_told(alloc: Global, row: &str) -> Result<bool, NoMemory> {
+    match row.split_once(" => ") {
+        Some((line, due)) => Ok(told(alloc, line.as_bytes())?.as_slice() == due.as_bytes()),
+        None => Ok(false),
+    }
 }
 
 /// Lines, and what they are.
@@ -110,7 +113,7 @@ cd a && ! 'c'd 'b c'; e cd => :([cd][a])&&!([cd][b c]);([e][cd])
 exports; a export => :([exports]);([a][export])";
 
 #[test]
-fn lines_are_pipes_of_commands(rt: HostRuntime) -> Result<(), Fail> {
+fn lines_are_pipes_of_commands(rt: HostRuntime) -> Result<(), NoMemory> {
     for row in LINES.lines() {
         assert!(rt; is_told(rt.alloc(), row)?, "{row}");
     }
@@ -161,7 +164,7 @@ cd a b; ls * => Glob 11
 a > * => Glob 4";
 
 #[test]
-fn refused_lines_tell_the_first_place(rt: HostRuntime) -> Result<(), Fail> {
+fn refused_lines_tell_the_first_place(rt: HostRuntime) -> Result<(), NoMemory> {
     for row in REFUSED.lines() {
         assert!(rt; is_told(rt.alloc(), row)?, "{row}");
     }
@@ -169,30 +172,40 @@ fn refused_lines_tell_the_first_place(rt: HostRuntime) -> Result<(), Fail> {
 }
 
 /// What is told of as many of a byte as a line may have; nothing of lines that are read.
-fn told_of_many(alloc: Global, byte: u8) -> Result<Bytes, Fail> {
-    let many = vec![in alloc; byte; 1 << 20]?;
+fn told_of_many(alloc: Global, byte: u8) -> Result<Bytes, NoMemory> {
+    let many = vec![in alloc; byte; 1 << 20].or(Err(NoMemory))?;
     match parse_line(alloc, many.as_slice()) {
         Err(ShellFail::Bad(fault)) => refusal(alloc, fault),
-        Err(ShellFail::NoMemory) => Ok(Bytes::new(alloc)),
+        Err(ShellFail::NoMemory) => Err(NoMemory),
         Ok(_) => Ok(Bytes::new(alloc)),
     }
 }
 
+/// Whether this is told of as many of a row's byte.
+fn is_told_of_many(alloc: Global, row: &str) -> Result<bool, NoMemory> {
+    match (row.as_bytes().first(), row.split_once(" => ")) {
+        (Some(byte), Some((_, due))) => {
+            Ok(told_of_many(alloc, *byte)?.as_slice() == due.as_bytes())
+        }
+        _ => Ok(false),
+    }
+}
+
+/// A byte, and what is told of as many as a line may have.
+const MANY: &str = "\" => 
+a => 
+1 => 
+! => 
+; => NoCommand 0
+( => BadOperator 0
+| => BadOperator 0
+> => BadOperator 0
+  => NoCommand 1048576";
+
 #[test]
-fn long_lines_of_one_byte_are_answered(rt: HostRuntime) -> Result<(), Fail> {
-    for (byte, due) in [
-        (b'"', ""),
-        (b'a', ""),
-        (b'1', ""),
-        (b'!', ""),
-        (b';', "NoCommand 0"),
-        (b'(', "BadOperator 0"),
-        (b'|', "BadOperator 0"),
-        (b'>', "BadOperator 0"),
-        (b' ', "NoCommand 1048576"),
-    ] {
-        let told = told_of_many(rt.alloc(), byte)?;
-        assert!(rt; told.as_slice() == due.as_bytes(), "{byte}: {due}");
+fn long_lines_of_one_byte_are_answered(rt: HostRuntime) -> Result<(), NoMemory> {
+    for row in MANY.lines() {
+        assert!(rt; is_told_of_many(rt.alloc(), row)?, "{row}");
     }
     Ok(())
 }

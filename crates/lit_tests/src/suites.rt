@@ -1,7 +1,8 @@
 //! Suite files, good and refused.
+use crate::rows::{bytes_of, three};
 use lit_suite::{Suite, SuiteFail, SuiteFault, read_suite, shard};
 use std::alloc::Global;
-use std::test::Fail;
+use tt_base::NoMemory;
 
 /// What a reading tells, in few words.
 fn shown(read: &Result<Suite, SuiteFail>) -> (&str, &[u8]) {
@@ -16,86 +17,55 @@ fn shown(read: &Result<Suite, SuiteFail>) -> (&str, &[u8]) {
     }
 }
 
-/// Whether reading a text tells this, with this key or name.
-fn tells(alloc: Global, text: &str, kind: &str, key: &str) -> bool {
-    let read = read_suite(alloc, text.as_bytes());
-    let (told, of) = shown(&read);
-    told == kind && of == key.as_bytes()
+/// Whether reading the text of a row tells what is behind it, with this key or name.
+fn is_told(alloc: Global, row: &str) -> Result<bool, NoMemory> {
+    let Some((text, kind, key)) = three(row) else {
+        return Ok(false);
+    };
+    let text = bytes_of(alloc, text)?;
+    let read = read_suite(alloc, text.as_slice());
+    Ok(shown(&read) == (kind, key.as_bytes()))
 }
 
 /// Suite files, what is told of them, and the key or the name.
-const TOLD: [(&str, &str, &str); 15] = [
-    (
-        "version = 1\nname = \"demo\"\nsuffixes = [\".txt\"]\n",
-        "read",
-        "demo",
-    ),
-    (
-        "version = 3\nname = \"demo\"\nsuffixes = [\".txt\"]\nzzz = 1\n",
-        "bad version",
-        "",
-    ),
-    (
-        "version = 1\nsuffixes = [\".txt\"]\n",
-        "missing key",
-        "name",
-    ),
-    ("=", "no TOML", ""),
-    ("", "missing key", "version"),
-    ("version = 1.0", "bad version", ""),
-    ("version = 1\nzz = 1\nparts = []\n", "unknown key", "parts"),
-    ("version = 2\nzz = 1\nparts = []\n", "unknown key", "zz"),
-    (
-        "version = 1\nname = \"\"\nsuffixes = []\n",
-        "bad value",
-        "name",
-    ),
-    (
-        "version = 1\nname = \"a\"\nsuffixes = []\ntools = 1\n",
-        "bad value",
-        "suffixes",
-    ),
-    (
-        "version = 1\nname = \"a\"\nsuffixes = [\"b\"]\nexcludes = [\"\"]\n",
-        "bad value",
-        "excludes",
-    ),
-    (
-        "version = 1\nname = \"a\"\nsuffixes = [\"b\"]\nexec_root = \"\"\n",
-        "bad value",
-        "exec_root",
-    ),
-    (
-        "version = 1\nname = \"a\"\nsuffixes = [\"b\"]\nsubstitutions = [[\"\", \"x\"]]\n",
-        "bad value",
-        "substitutions",
-    ),
-    (
-        "version = 1\nname = \"a\"\nsuffixes = [\"b\"]\ntools = {t = \"\\n\"}\n",
-        "bad value",
-        "tools",
-    ),
-    (
-        "version = 2\nname = \"a\"\nsuffixes = [\"b\"]\nparts = [{path = \"x/..\"}]\n",
-        "bad value",
-        "parts",
-    ),
-];
+const TOLD: &str = r#"version = 1~name = "demo"~suffixes = [".txt"]~ => read => demo
+version = 3~name = "demo"~suffixes = [".txt"]~zzz = 1~ => bad version => 
+version = 1~suffixes = [".txt"]~ => missing key => name
+= => no TOML => 
+ => missing key => version
+version = 1.0 => bad version => 
+version = 1~zz = 1~parts = []~ => unknown key => parts
+version = 2~zz = 1~parts = []~ => unknown key => zz
+version = 1~name = ""~suffixes = []~ => bad value => name
+version = 1~name = "a"~suffixes = []~tools = 1~ => bad value => suffixes
+version = 1~name = "a"~suffixes = ["b"]~excludes = [""]~ => bad value => excludes
+version = 1~name = "a"~suffixes = ["b"]~exec_root = ""~ => bad value => exec_root
+version = 1~name = "a"~suffixes = ["b"]~substitutions = [["", "x"]]~ => bad value => substitutions
+version = 1~name = "a"~suffixes = ["b"]~tools = {t = "\n"}~ => bad value => tools
+version = 2~name = "a"~suffixes = ["b"]~parts = [{path = "x/.."}]~ => bad value => parts"#;
 
 #[test]
-fn the_first_fault_is_told_with_its_key(rt: HostRuntime) {
-    for (text, kind, key) in TOLD {
-        assert!(rt;
-            tells(rt.alloc(), text, kind, key),
-            "{text:?}: {kind} {key}"
-        );
+fn the_first_fault_is_told_with_its_key(rt: HostRuntime) -> Result<(), NoMemory> {
+    for row in TOLD.lines() {
+        assert!(rt; is_told(rt.alloc(), row)?, "{row}");
     }
+    Ok(())
 }
 
-const WHOLE: &str =
-    "version = 2\nname = \"n\"\nsuffixes = [\".a\", \".b\"]\nexcludes = [\"x\"]\nfeatures = [\"f\"]\n\
-    exec_root = \"/e\"\nsubstitutions = [[\"%a\", \"\"], [\"%b\", \"c\"]]\n\
-    parts = [{path = \"p/q\", features = [\"g\"]}]\n[tools]\nz = \"1\"\ny = \"2\"\n[environment]\nE = \"3\"\n";
+const WHOLE: &str = r#"version = 2
+name = "n"
+suffixes = [".a", ".b"]
+excludes = ["x"]
+features = ["f"]
+exec_root = "/e"
+substitutions = [["%a", ""], ["%b", "c"]]
+parts = [{path = "p/q", features = ["g"]}]
+[tools]
+z = "1"
+y = "2"
+[environment]
+E = "3"
+"#;
 
 /// How many suffixes, excluded names, features, substitutions and variables a suite has.
 fn lengths(suite: &Suite) -> [usize; 5] {
@@ -127,7 +97,7 @@ fn has_its_part(suite: &Suite) -> bool {
 }
 
 #[test]
-fn each_key_is_kept(rt: HostRuntime) -> Result<(), Fail> {
+fn each_key_is_kept(rt: HostRuntime) -> Result<(), SuiteFail> {
     let suite = read_suite(rt.alloc(), WHOLE.as_bytes())?;
     assert!(rt; lengths(&suite) == [2, 1, 1, 2, 1], "lengths");
     assert!(rt; has_its_tools(&suite), "tools");

@@ -1,7 +1,6 @@
 //! What variables hold as matches are bound and blocks begin.
 use pattern_vars::{Binding, Bindings, Vars};
 use std::alloc::Global;
-use std::test::Fail;
 use tt_base::{Bytes, Items, NoMemory};
 
 fn owned(alloc: Global, text: &str) -> Result<Bytes, NoMemory> {
@@ -33,9 +32,10 @@ fn add_number(
     fresh.push(Binding::Number { name, value })
 }
 
-fn bind(vars: &mut Vars, fresh: Bindings) -> Result<(), Fail> {
+/// Binds. A name without a place counts as want of memory.
+fn bind(vars: &mut Vars, fresh: Bindings) -> Result<(), NoMemory> {
     if !vars.have_places(fresh.as_slice()) {
-        return Err(Fail::from("a name has no place"));
+        return Err(NoMemory);
     }
     vars.bind(fresh);
     Ok(())
@@ -73,20 +73,29 @@ fn has_place_for(alloc: Global, vars: &Vars, name: &str) -> Result<bool, NoMemor
     Ok(vars.have_places(fresh.as_slice()))
 }
 
-#[test]
-fn a_name_has_its_last_text_and_its_last_number(rt: HostRuntime) -> Result<(), Fail> {
-    let alloc = rt.alloc();
+/// Variables where X has `last` and 7, and N has -1.
+fn bound(alloc: Global) -> Result<Vars, NoMemory> {
     let mut vars = three_places(alloc)?;
+    bind(&mut vars, two_names(alloc)?)?;
+    Ok(vars)
+}
+
+/// Whether X has this text and 7, and N has no text and this number.
+fn has_last(vars: &Vars, text: &str, number: i128) -> bool {
+    let is_x = holds(vars, "X", text) && vars.number(b"X") == Some(7);
+    is_x && vars.text(b"N").is_none() && vars.number(b"N") == Some(number)
+}
+
+#[test]
+fn a_name_has_its_last_text_and_its_last_number(rt: HostRuntime) -> Result<(), NoMemory> {
+    let alloc = rt.alloc();
+    let vars = three_places(alloc)?;
     assert!(rt; vars.has_place(b"X") && !vars.has_place(b"Y"));
     assert!(rt; vars.text(b"X").is_none() && vars.number(b"X").is_none());
-    bind(&mut vars, two_names(alloc)?)?;
-    assert!(rt; holds(&vars, "X", "last"));
-    assert!(rt; vars.number(b"X") == Some(7));
-    assert!(rt; vars.number(b"N") == Some(-1));
-    assert!(rt; vars.text(b"N").is_none());
+    let mut vars = bound(alloc)?;
+    assert!(rt; has_last(&vars, "last", -1));
     bind(&mut vars, one_number(alloc, "N", i128::MIN)?)?;
-    assert!(rt; vars.number(b"N") == Some(i128::MIN));
-    assert!(rt; holds(&vars, "X", "last"));
+    assert!(rt; has_last(&vars, "last", i128::MIN));
     assert!(rt; !has_place_for(alloc, &vars, "Y")?);
     Ok(())
 }
@@ -101,14 +110,19 @@ fn local_and_global(alloc: Global) -> Result<Bindings, NoMemory> {
     Ok(fresh)
 }
 
-#[test]
-fn a_block_begins_with_global_names_alone(rt: HostRuntime) -> Result<(), Fail> {
-    let mut vars = three_places(rt.alloc())?;
-    bind(&mut vars, local_and_global(rt.alloc())?)?;
+/// Variables that were bound so, in a new block.
+fn in_new_block(alloc: Global) -> Result<Vars, NoMemory> {
+    let mut vars = three_places(alloc)?;
+    bind(&mut vars, local_and_global(alloc)?)?;
     vars.clear_local();
+    Ok(vars)
+}
+
+#[test]
+fn a_block_begins_with_global_names_alone(rt: HostRuntime) -> Result<(), NoMemory> {
+    let vars = in_new_block(rt.alloc())?;
     assert!(rt; vars.text(b"X").is_none() && vars.number(b"X").is_none());
-    assert!(rt; holds(&vars, "$G", ""));
-    assert!(rt; vars.number(b"$G") == Some(2));
+    assert!(rt; holds(&vars, "$G", "") && vars.number(b"$G") == Some(2));
     assert!(rt; vars.has_place(b"X"));
     Ok(())
 }

@@ -1,6 +1,6 @@
 //! The public calls on objects in memory, with ample memory.
+use crate::rows::limited;
 use std::alloc::Global;
-use std::test::Fail;
 use tt_base::{Bytes, Items, NoMemory};
 use tt_outside::{
     Crew, Failed, Files, FilesFault, Left, MemCrew, MemFiles, MemSink, MemSource, Named, Planned,
@@ -8,42 +8,58 @@ use tt_outside::{
 };
 
 /// What taking a text up to a limit gives: its bytes, or that they are too many.
-fn taken(alloc: Global, text: &str, limit: u32) -> Result<Bytes, Fail> {
+fn taken(alloc: Global, text: &str, limit: u32) -> Result<Bytes, NoMemory> {
     let mut source = MemSource::new(alloc, text.as_bytes(), &[])?;
     match take_all(alloc, &mut source, u64::from(limit)) {
         Ok(bytes) => Ok(bytes),
-        Err(TakeFault::TooLarge) => Ok(Bytes::from_slice(alloc, b"too large")?),
-        Err(_) => Err(Fail::from("another fault")),
+        Err(TakeFault::TooLarge) => Bytes::from_slice(alloc, b"too large"),
+        Err(_) => Bytes::from_slice(alloc, b"another fault"),
     }
 }
 
+/// Whether the text of a row is taken so.
+fn is_taken(alloc: Global, row: &str) -> Result<bool, NoMemory> {
+    let Some((text, limit, due)) = limited(row) else {
+        return Ok(false);
+    };
+    Ok(taken(alloc, text, limit)?.as_slice() == due.as_bytes())
+}
+
+/// A text, a limit, and what is taken.
+const TAKEN: &str = "abc => 2 => too large
+abc => 3 => abc
+ => 0 => 
+a => 0 => too large";
+
 #[test]
-fn all_bytes_are_taken_up_to_the_limit(rt: HostRuntime) -> Result<(), Fail> {
-    let cases = [
-        ("abc", 2, "too large"),
-        ("abc", 3, "abc"),
-        ("", 0, ""),
-        ("a", 0, "too large"),
-    ];
-    for (text, limit, due) in cases {
-        let taken = taken(rt.alloc(), text, limit)?;
-        assert!(rt; taken.as_slice() == due.as_bytes(), "{text:?} to {limit}");
+fn all_bytes_are_taken_up_to_the_limit(rt: HostRuntime) -> Result<(), NoMemory> {
+    for row in TAKEN.lines() {
+        assert!(rt; is_taken(rt.alloc(), row)?, "{row}");
     }
     Ok(())
 }
 
 /// Whether so many bytes are taken whole, and written whole.
-fn pass_whole(alloc: Global, length: usize) -> Result<bool, Fail> {
-    let bytes = vec![in alloc; b'a'; length]?;
+fn pass_whole(alloc: Global, length: usize) -> Result<bool, NoMemory> {
+    let bytes = vec![in alloc; b'a'; length].or(Err(NoMemory))?;
     let mut source = MemSource::new(alloc, bytes.as_slice(), &[])?;
-    let taken = take_all(alloc, &mut source, 1 << 26)?;
-    let mut sink = MemSink::new(alloc, length)?;
-    let is_written = write_all(&mut sink, taken.as_slice()) == Ok(());
-    Ok(is_written && taken.as_slice() == bytes.as_slice() && sink.as_slice().len() == length)
+    match take_all(alloc, &mut source, 1 << 26) {
+        Ok(taken) => {
+            let is_same = taken.as_slice() == bytes.as_slice();
+            Ok(is_same && is_written_whole(alloc, taken.as_slice())?)
+        }
+        Err(_) => Ok(false),
+    }
+}
+
+/// Whether bytes are written whole where there is just room for them.
+fn is_written_whole(alloc: Global, bytes: &[u8]) -> Result<bool, NoMemory> {
+    let mut sink = MemSink::new(alloc, bytes.len())?;
+    Ok(write_all(&mut sink, bytes) == Ok(()) && sink.as_slice() == bytes)
 }
 
 #[test]
-fn large_sources_are_taken_whole(rt: HostRuntime) -> Result<(), Fail> {
+fn large_sources_are_taken_whole(rt: HostRuntime) -> Result<(), NoMemory> {
     for length in [65_536usize, 65_537, 1 << 20, (1 << 21) + 1] {
         assert!(rt; pass_whole(rt.alloc(), length)?, "{length}");
     }
@@ -51,26 +67,25 @@ fn large_sources_are_taken_whole(rt: HostRuntime) -> Result<(), Fail> {
 }
 
 #[test]
-fn the_planned_reads_fail(rt: HostRuntime) -> Result<(), Fail> {
-    let alloc = rt.alloc();
-    let mut source = MemSource::new(alloc, b"abc", &[0])?;
+fn the_planned_reads_fail(rt: HostRuntime) -> Result<(), NoMemory> {
+    let mut source = MemSource::new(rt.alloc(), b"abc", &[0])?;
     let mut buf = [0; 2];
-    assert_eq!(rt; source.read(&mut buf), Err(Failed));
-    assert_eq!(rt; source.read(&mut buf), Ok(2));
-    assert_eq!(rt; &buf, b"ab");
+    assert!(rt; source.read(&mut buf) == Err(Failed));
+    assert!(rt; source.read(&mut buf) == Ok(2));
+    assert!(rt; &buf == b"ab");
     Ok(())
 }
 
 #[test]
-fn a_full_sink_fails(rt: HostRuntime) -> Result<(), Fail> {
+fn a_full_sink_fails(rt: HostRuntime) -> Result<(), NoMemory> {
     let mut sink = MemSink::new(rt.alloc(), 2)?;
     for (piece, ended) in [("", Ok(())), ("abc", Err(Failed))] {
         let written = write_all(&mut sink, piece.as_bytes());
         assert!(rt; written == ended, "{piece:?}: {written:?}");
     }
-    assert_eq!(rt; sink.as_slice(), b"ab".as_slice());
-    assert_eq!(rt; (sink.faults(), sink.write(b"")), (1, Ok(0)));
-    assert_eq!(rt; sink.into_bytes().as_slice(), b"ab".as_slice());
+    assert!(rt; sink.as_slice() == b"ab".as_slice());
+    assert!(rt; (sink.faults(), sink.write(b"")) == (1, Ok(0)));
+    assert!(rt; sink.into_bytes().as_slice() == b"ab".as_slice());
     Ok(())
 }
 
@@ -94,7 +109,7 @@ fn numbered(alloc: Global, count: u16) -> Result<Items<Named>, NoMemory> {
 }
 
 /// The bytes of a file, or why there are none.
-fn read(alloc: Global, files: &mut MemFiles, name: &str, limit: u64) -> Result<Bytes, Fail> {
+fn read(alloc: Global, files: &mut MemFiles, name: &str, limit: u64) -> Result<Bytes, NoMemory> {
     let refusal = match files.read_all(alloc, name, limit) {
         Ok(bytes) => return Ok(bytes),
         Err(FilesFault::Missing) => "missing",
@@ -102,15 +117,22 @@ fn read(alloc: Global, files: &mut MemFiles, name: &str, limit: u64) -> Result<B
         Err(FilesFault::Failed) => "failed",
         Err(_) => "another fault",
     };
-    Ok(Bytes::from_slice(alloc, refusal.as_bytes())?)
+    Bytes::from_slice(alloc, refusal.as_bytes())
+}
+
+/// Whether the file of a row is read so.
+fn is_read(alloc: Global, files: &mut MemFiles, row: &str) -> Result<bool, NoMemory> {
+    let Some((name, limit, due)) = limited(row) else {
+        return Ok(false);
+    };
+    Ok(read(alloc, files, name, u64::from(limit))?.as_slice() == due.as_bytes())
 }
 
 #[test]
-fn two_thousand_files_are_kept(rt: HostRuntime) -> Result<(), Fail> {
+fn two_thousand_files_are_kept(rt: HostRuntime) -> Result<(), NoMemory> {
     let alloc = rt.alloc();
     let mut files = MemFiles::new(alloc, numbered(alloc, 2_000)?, &[])?;
-    let last = read(alloc, &mut files, "1999", 4)?;
-    assert_eq!(rt; last.as_slice(), b"1999".as_slice());
+    assert!(rt; is_read(alloc, &mut files, "1999 => 4 => 1999")?);
     Ok(())
 }
 
@@ -123,20 +145,18 @@ fn three_files(alloc: Global) -> Result<MemFiles, NoMemory> {
     MemFiles::new(alloc, all, &[3])
 }
 
+/// A name, a limit, and what is read.
+const READ: &str = "a => 3 => one
+b => 3 => missing
+a => 2 => 3 are too many
+a => 3 => failed
+e => 0 => ";
+
 #[test]
-fn the_first_file_of_a_name_is_read(rt: HostRuntime) -> Result<(), Fail> {
-    let alloc = rt.alloc();
-    let mut files = three_files(alloc)?;
-    let cases = [
-        ("a", 3, "one"),
-        ("b", 3, "missing"),
-        ("a", 2, "3 are too many"),
-        ("a", 3, "failed"),
-        ("e", 0, ""),
-    ];
-    for (name, limit, due) in cases {
-        let read = read(alloc, &mut files, name, limit)?;
-        assert!(rt; read.as_slice() == due.as_bytes(), "{name:?} to {limit}");
+fn the_first_file_of_a_name_is_read(rt: HostRuntime) -> Result<(), NoMemory> {
+    let mut files = three_files(rt.alloc())?;
+    for row in READ.lines() {
+        assert!(rt; is_read(rt.alloc(), &mut files, row)?, "{row}");
     }
     Ok(())
 }
@@ -210,7 +230,7 @@ fn have_worked(hands: &[Left]) -> bool {
 }
 
 #[test]
-fn a_hand_answers_by_its_plan(rt: HostRuntime) -> Result<(), Fail> {
+fn a_hand_answers_by_its_plan(rt: HostRuntime) -> Result<(), NoMemory> {
     let mut crew = breaking_crew(rt.alloc())?;
     let answers = answers(rt.alloc(), &mut crew)?;
     assert!(rt; answers == ("missing", "broken"), "{answers:?}");
@@ -226,11 +246,11 @@ fn file_asked(alloc: Global) -> Result<Request, NoMemory> {
 }
 
 #[test]
-fn a_file_is_missing_where_nothing_is_planned(rt: HostRuntime) -> Result<(), Fail> {
+fn a_file_is_missing_where_nothing_is_planned(rt: HostRuntime) -> Result<(), NoMemory> {
     let alloc = rt.alloc();
     let mut crew = MemCrew::new(alloc, Items::new(alloc));
     let request = file_asked(alloc)?;
-    assert_eq!(rt; answer_in(alloc, &mut crew, 0, &request)?, "missing");
-    assert_eq!(rt; crew.hands().len(), 1);
+    assert!(rt; answer_in(alloc, &mut crew, 0, &request)? == "missing");
+    assert!(rt; crew.hands().len() == 1);
     Ok(())
 }

@@ -1,8 +1,8 @@
 //! What reading objects in memory gives, with ample memory, and how an answer ends where a stream is full.
 ghost use Rattle.std.specs.Prelude.{◌≡◌, IfOk};
 
+use crate::rows::limited;
 use std::alloc::Global;
-use std::test::Fail;
 use tt_base::{Bytes, Items, NoMemory};
 use tt_outside::{MemFiles, MemSink, MemSource, Named};
 use tt_run::{Answer, Reading, read_named, read_source, write_answer};
@@ -38,20 +38,28 @@ fn reads(
     Ok(shown(&reading) == due)
 }
 
+/// Whether the file of a row is read so.
+fn is_read(alloc: Global, files: &mut MemFiles, row: &str) -> Result<bool, NoMemory> {
+    match limited(row) {
+        Some((name, limit, due)) => reads(alloc, files, name, limit, due.as_bytes()),
+        None => Ok(false),
+    }
+}
+
+/// A name with its blanks, a limit, and what is read. The file has a blank at each end of its
+/// name, and the fifth call fails.
+const READ: &str = " a  => 4 => text
+a => 4 => missing
+ a  => 3 => too large
+ a  => 4 => text
+ a  => 4 => failed
+ a  => 4 => text";
+
 #[test]
-fn a_file_is_read_whole_or_told_why_not(rt: HostRuntime) -> Result<(), Fail> {
-    let alloc = rt.alloc();
-    let mut files = one_file(alloc, b" a ", b"text", &[4])?;
-    for (name, limit, due) in [
-        (" a ", 4, "text"),
-        ("a", 4, "missing"),
-        (" a ", 3, "too large"),
-        (" a ", 4, "text"),
-        (" a ", 4, "failed"),
-        (" a ", 4, "text"),
-    ] {
-        let is_read = reads(alloc, &mut files, name, limit, due.as_bytes())?;
-        assert!(rt; is_read, "{name:?} to {limit}: {due}");
+fn a_file_is_read_whole_or_told_why_not(rt: HostRuntime) -> Result<(), NoMemory> {
+    let mut files = one_file(rt.alloc(), b" a ", b"text", &[4])?;
+    for row in READ.lines() {
+        assert!(rt; is_read(rt.alloc(), &mut files, row)?, "{row}");
     }
     Ok(())
 }
@@ -76,9 +84,9 @@ fn is_taken_as(
 }
 
 #[test]
-fn an_empty_file_and_a_large_one_are_read(rt: HostRuntime) -> Result<(), Fail> {
+fn an_empty_file_and_a_large_one_are_read(rt: HostRuntime) -> Result<(), NoMemory> {
     let alloc = rt.alloc();
-    let large = vec![in alloc; b'a'; 1 << 21]?;
+    let large = vec![in alloc; b'a'; 1 << 21].or(Err(NoMemory))?;
     for bytes in [b"".as_slice(), large.as_slice()] {
         assert!(rt; is_read_whole(alloc, bytes)?);
         assert!(rt; is_taken_as(alloc, bytes, 1 << 21, &[], bytes)?);
@@ -87,7 +95,7 @@ fn an_empty_file_and_a_large_one_are_read(rt: HostRuntime) -> Result<(), Fail> {
 }
 
 #[test]
-fn a_source_is_read_to_its_end_or_told_why_not(rt: HostRuntime) -> Result<(), Fail> {
+fn a_source_is_read_to_its_end_or_told_why_not(rt: HostRuntime) -> Result<(), NoMemory> {
     let alloc = rt.alloc();
     assert!(rt; is_taken_as(alloc, b"text", 4, &[], b"text")?);
     assert!(rt; is_taken_as(alloc, b"text", 3, &[], b"too large")?);
@@ -130,7 +138,7 @@ fn ended(alloc: Global, out_room: usize, err_room: usize) -> Result<Bytes, NoMem
 }
 
 #[test]
-fn a_fault_of_the_output_is_told_once(rt: HostRuntime) -> Result<(), Fail> {
+fn a_fault_of_the_output_is_told_once(rt: HostRuntime) -> Result<(), NoMemory> {
     for (out_room, err_room, due) in [
         (3, 3, "1 out err"),
         (2, 9, "3 ou fault"),

@@ -1,6 +1,6 @@
 //! The public calls on a tree in memory, with ample memory.
+use crate::rows::three;
 use std::alloc::Global;
-use std::test::Fail;
 use tt_base::{Bytes, Items, NoMemory};
 use tt_outside::{ItemKind, MemTree, Node, Tree, TreeFault, are_nested};
 
@@ -22,12 +22,13 @@ fn four_nodes(alloc: Global) -> Result<Items<Node>, NoMemory> {
     Ok(nodes)
 }
 
-fn small_tree(alloc: Global, fails: &[u64]) -> Result<MemTree, Fail> {
+/// A tree of them. A file above another node would count as want of memory.
+fn small_tree(alloc: Global, fails: &[u64]) -> Result<MemTree, NoMemory> {
     let nodes = four_nodes(alloc)?;
     if !are_nested(alloc, nodes.as_slice())? {
-        return Err(Fail::from("a file lies above another node"));
+        return Err(NoMemory);
     }
-    Ok(MemTree::new(alloc, b"/w".as_slice(), nodes, fails)?)
+    MemTree::new(alloc, b"/w".as_slice(), nodes, fails)
 }
 
 /// A refusal in words.
@@ -73,16 +74,16 @@ fn read(alloc: Global, tree: &mut MemTree, path: &str) -> Result<Bytes, NoMemory
     }
 }
 
-fn lists(alloc: Global, tree: &mut MemTree, path: &str, due: &str) -> Result<bool, Fail> {
+fn lists(alloc: Global, tree: &mut MemTree, path: &str, due: &str) -> Result<bool, NoMemory> {
     Ok(listed(alloc, tree, path)?.as_slice() == due.as_bytes())
 }
 
-fn reads(alloc: Global, tree: &mut MemTree, path: &str, due: &str) -> Result<bool, Fail> {
+fn reads(alloc: Global, tree: &mut MemTree, path: &str, due: &str) -> Result<bool, NoMemory> {
     Ok(read(alloc, tree, path)?.as_slice() == due.as_bytes())
 }
 
 #[test]
-fn a_directory_lists_each_name_once(rt: HostRuntime) -> Result<(), Fail> {
+fn a_directory_lists_each_name_once(rt: HostRuntime) -> Result<(), NoMemory> {
     let alloc = rt.alloc();
     let mut tree = small_tree(alloc, &[])?;
     for (path, due) in [("/w", "b/ a.txt link@ "), ("/", "w/ ")] {
@@ -91,20 +92,29 @@ fn a_directory_lists_each_name_once(rt: HostRuntime) -> Result<(), Fail> {
     Ok(())
 }
 
-#[test]
-fn only_a_directory_is_listed_and_only_a_file_is_read(rt: HostRuntime) -> Result<(), Fail> {
-    let alloc = rt.alloc();
-    let mut tree = small_tree(alloc, &[8])?;
-    for (path, list, bytes) in [
-        ("/w/a.txt", "no directory", "abc"),
-        ("/w/link", "missing", "missing"),
-        ("/w/none", "missing", "missing"),
-        ("/w/b/c/d", "no directory", "too large"),
-    ] {
-        assert!(rt; lists(alloc, &mut tree, path, list)?, "list of {path}");
-        assert!(rt; reads(alloc, &mut tree, path, bytes)?, "bytes of {path}");
+/// Whether a path is listed and read as a row says.
+fn is_listed_and_read(alloc: Global, tree: &mut MemTree, row: &str) -> Result<bool, NoMemory> {
+    match three(row) {
+        Some((path, list, bytes)) => {
+            Ok(lists(alloc, tree, path, list)? && reads(alloc, tree, path, bytes)?)
+        }
+        None => Ok(false),
     }
-    assert!(rt; lists(alloc, &mut tree, "/w", "failed")?);
-    assert!(rt; reads(alloc, &mut tree, "/w/b", "missing")?);
+}
+
+/// A path, what its list is, and what its bytes are, row by row. The ninth call fails.
+const LISTED: &str = "/w/a.txt => no directory => abc
+/w/link => missing => missing
+/w/none => missing => missing
+/w/b/c/d => no directory => too large
+/w => failed => missing
+/w/b => c/  => missing";
+
+#[test]
+fn only_a_directory_is_listed_and_only_a_file_is_read(rt: HostRuntime) -> Result<(), NoMemory> {
+    let mut tree = small_tree(rt.alloc(), &[8])?;
+    for row in LISTED.lines() {
+        assert!(rt; is_listed_and_read(rt.alloc(), &mut tree, row)?, "{row}");
+    }
     Ok(())
 }

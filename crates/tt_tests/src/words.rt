@@ -1,6 +1,7 @@
 //! The words of a command line that is made up.
+use std::alloc::Global;
 use std::env::{Env, FillError};
-use std::test::Fail;
+use std::io;
 use tt_main::words;
 
 /// A command line, the program's name first.
@@ -29,19 +30,28 @@ impl Env for Line<'_> {
     }
 }
 
+/// Whether all words of a line but the first are these, in their order.
+fn has_words(alloc: Global, line: &[&str], due: &[&str]) -> io::Result<bool> {
+    let words = words(&(Line(line), alloc))?;
+    if words.len() != due.len() {
+        return Ok(false);
+    }
+    for (word, due) in words.iter().zip(due) {
+        if word.as_str() != *due {
+            return Ok(false);
+        }
+    }
+    Ok(true)
+}
+
 #[test]
-fn each_word_behind_the_name_is_kept_as_it_is(rt: HostRuntime) -> Result<(), Fail> {
-    let cases = [
+fn each_word_behind_the_name_is_kept_as_it_is(rt: HostRuntime) -> io::Result<()> {
+    for (line, due) in [
         (["count", "", " a "].as_slice(), ["", " a "].as_slice()),
         (["count"].as_slice(), [].as_slice()),
         (["", "b", "b", ""].as_slice(), ["b", "b", ""].as_slice()),
-    ];
-    for (line, expected) in cases {
-        let words = words(&(Line(line), rt.alloc()))?;
-        assert_eq!(rt; words.len(), expected.len(), "{line:?}");
-        for (word, wanted) in words.iter().zip(expected) {
-            assert_eq!(rt; word.as_str(), *wanted, "{line:?}");
-        }
+    ] {
+        assert!(rt; has_words(rt.alloc(), line, due)?, "{line:?}");
     }
     Ok(())
 }

@@ -1,0 +1,89 @@
+//! What words of `filecheck` ask for. Words stand between `|`.
+use crate::objects::words_of;
+use filecheck_words::{Asked, Input, Job, WordsFail, asked_by};
+use std::alloc::Global;
+use std::test::Fail;
+use tt_base::{Bytes, NoMemory};
+
+fn add_list(text: &mut Bytes, items: &[Bytes]) -> Result<(), NoMemory> {
+    text.append(b" [")?;
+    for item in items {
+        text.append(item.as_slice())?;
+        text.append(b",")?;
+    }
+    text.append(b"]")
+}
+
+fn add_flag(text: &mut Bytes, is: bool, letter: &[u8]) -> Result<(), NoMemory> {
+    if is { text.append(letter) } else { Ok(()) }
+}
+
+fn add_flags(text: &mut Bytes, asked: &Asked) -> Result<(), NoMemory> {
+    text.append(b" ")?;
+    add_flag(text, asked.strict, b"s")?;
+    add_flag(text, asked.allow_empty, b"e")?;
+    add_flag(text, asked.allow_unused, b"u")?;
+    add_flag(text, asked.full_lines, b"l")?;
+    add_flag(text, asked.fold, b"i")?;
+    add_flag(text, asked.var_scope, b"v")?;
+    add_flag(text, asked.may_lack, b"m")
+}
+
+/// What is asked for, as a line.
+fn asked_told(alloc: Global, asked: &Asked) -> Result<Bytes, NoMemory> {
+    let mut text = Bytes::from_slice(alloc, asked.name.as_slice())?;
+    text.append(b" ")?;
+    match &asked.input {
+        Input::Standard => text.append(b"<stdin>")?,
+        Input::Named(name) => text.append(name.as_slice())?,
+    }
+    add_flags(&mut text, asked)?;
+    add_list(&mut text, asked.prefixes.checks.as_slice())?;
+    add_list(&mut text, asked.prefixes.comments.as_slice())?;
+    add_list(&mut text, asked.implicit.as_slice())?;
+    add_list(&mut text, asked.defines.as_slice())?;
+    Ok(text)
+}
+
+/// What the words of a line ask for.
+fn told(alloc: Global, line: &str) -> Result<Bytes, NoMemory> {
+    let Ok(words) = words_of(alloc, line) else {
+        return Err(NoMemory);
+    };
+    match asked_by(alloc, words.as_slice()) {
+        Ok(Job::Check(asked)) => asked_told(alloc, &asked),
+        Ok(Job::Generate(3)) => Bytes::from_slice(alloc, b"three"),
+        Ok(Job::Generate(20_000)) => Bytes::from_slice(alloc, b"most"),
+        Ok(Job::Generate(_)) => Bytes::from_slice(alloc, b"some"),
+        Err(WordsFail::Bad(_)) => Bytes::from_slice(alloc, b"refused"),
+        Err(WordsFail::NoMemory) => Err(NoMemory),
+    }
+}
+
+/// The words of a line, and what they ask for.
+const ASKED: &str = "t.txt => t.txt <stdin>  [CHECK,] [COM,RUN,] [] []
+-strict-whitespace|--allow-empty|t.txt|--allow-unused-prefixes => t.txt <stdin> seu [CHECK,] [COM,RUN,] [] []
+--match-full-lines|-ignore-case|t.txt|--enable-var-scope|--dump-input=never => t.txt <stdin> liv [CHECK,] [COM,RUN,] [] []
+t.txt|--input-file|in.txt|-dump-input|never => t.txt in.txt  [CHECK,] [COM,RUN,] [] []
+-DX=1|t.txt|-D|#N=3|-D=|--D=x => t.txt <stdin>  [CHECK,] [COM,RUN,] [] [X=1,#N=3,=,=x,]
+t.txt|--implicit-check-not= a \t b\t|--implicit-check-not|c => t.txt <stdin> m [CHECK,] [COM,RUN,] [a b,c,] []
+t.txt|--implicit-check-not= a \t b\t|--strict-whitespace => t.txt <stdin> sm [CHECK,] [COM,RUN,] [a \t b,] []
+t.txt|--implicit-check-not=a|--check-prefix=CHECK => t.txt <stdin>  [CHECK,] [COM,RUN,] [a,] []
+t.txt|--implicit-check-not=a|--check-prefixes=A,B|--comment-prefixes=C => t.txt <stdin>  [A,B,] [C,] [a,] []
+--generate=3 => three
+-generate|20000 => most
+--|--generate => --generate <stdin>  [CHECK,] [COM,RUN,] [] []";
+
+/// Whether the words before the arrow of a row ask for what stands behind it.
+fn is_asked(alloc: Global, row: &str) -> Result<bool, Fail> {
+    let (line, due) = row.split_once(" => ").ok_or("a row without an arrow")?;
+    Ok(told(alloc, line)?.as_slice() == due.as_bytes())
+}
+
+#[test]
+fn each_option_asks_for_something(rt: HostRuntime) -> Result<(), Fail> {
+    for row in ASKED.lines() {
+        assert!(rt; is_asked(rt.alloc(), row)?, "{row}");
+    }
+    Ok(())
+}

@@ -1,0 +1,110 @@
+//! Which files are tests, and what refuses a discovery.
+use crate::trees::{refusal, tree_of};
+use lit_find::discover;
+use std::alloc::Global;
+use tt_base::{Bytes, Items, NoMemory};
+use tt_outside::Test;
+
+/// The words of a line.
+fn words_of(alloc: Global, line: &str) -> Result<Items<Bytes>, NoMemory> {
+    let mut words = Items::new(alloc);
+    for word in line.as_bytes().split(|byte| *byte == b' ') {
+        words.push(Bytes::from_slice(alloc, word)?)?;
+    }
+    Ok(words)
+}
+
+/// The names of tests, each but the first behind a comma.
+fn names_of(alloc: Global, tests: &[Test]) -> Result<Bytes, NoMemory> {
+    let mut text = Bytes::new(alloc);
+    for test in tests {
+        if !text.is_empty() {
+            text.append(b", ".as_slice())?;
+        }
+        text.append(test.name.as_slice())?;
+    }
+    Ok(text)
+}
+
+/// The names of the tests that the words of a line find in a tree, or the refusal. These calls of the tree fail.
+fn found(alloc: Global, files: &str, fails: &[u64], line: &str) -> Result<Bytes, NoMemory> {
+    let mut tree = tree_of(alloc, files, fails)?;
+    let words = words_of(alloc, line)?;
+    match discover(alloc, &mut tree, words.as_slice()) {
+        Ok(tests) => names_of(alloc, tests.as_slice()),
+        Err(fault) => refusal(alloc, &fault),
+    }
+}
+
+/// Whether the words before the arrow of a row find what is behind it, where these calls of the tree fail.
+fn finds(alloc: Global, files: &str, fails: &[u64], row: &str) -> Result<bool, NoMemory> {
+    match row.split_once(" => ") {
+        Some((line, due)) => Ok(found(alloc, files, fails, line)?.as_slice() == due.as_bytes()),
+        None => Ok(false),
+    }
+}
+
+const FILES: &str = r#"/w/demo/lit.suite.toml => version = 1~name = "demo"~suffixes = [".txt"]~
+/w/demo/b.txt
+/w/demo/a.txt
+/w/demo/a/x.txt
+/w/demo/a/none
+/w/demo/.git/x.txt
+/w/demo/Output/x.txt
+/w/demo/n/lit.suite.toml => version = 1~name = "in"~suffixes = ["k/t"]~excludes = ["no"]~
+/w/demo/n/k/t
+/w/demo/n/no/k/t
+/w/demo/n/a.txt
+/w/x/a.txt"#;
+
+/// The words, and the tests that they find.
+const FOUND: &str = "demo => demo :: a.txt, demo :: a/x.txt, demo :: b.txt, in :: k/t
+demo/../demo /w/demo//a.txt => demo :: a.txt, demo :: a/x.txt, demo :: b.txt, in :: k/t
+demo/a => demo :: a/x.txt
+demo/a demo/a/none demo/.git/x.txt => demo :: .git/x.txt, demo :: a/none, demo :: a/x.txt
+demo/.git => demo :: .git/x.txt
+demo/n/no => in :: no/k/t
+x => no suite /w/x
+x/a.txt => no suite /w/x/a.txt
+demo/a/../z => missing /w/demo/z
+. => no suite /w
+.. => no suite /";
+
+#[test]
+fn each_file_is_one_test_in_byte_order(rt: HostRuntime) -> Result<(), NoMemory> {
+    for row in FOUND.lines() {
+        assert!(rt; finds(rt.alloc(), FILES, &[], row)?, "{row}");
+    }
+    Ok(())
+}
+
+const FAULTY_FILES: &str = r#"/w/p/lit.suite.toml => version = 1~name = "demo"~suffixes = [".txt"]~
+/w/p/lit.site.cfg
+/w/p/lit.cfg.py
+/w/q/lit.suite.toml => version = 1~name = "demo"~suffixes = [".txt"]~
+/w/q/a/a.txt
+/w/q/b/lit.suite.toml => =
+/w/q/c/lit.local.cfg
+/w/e/lit.suite.toml => version = 1~name = "demo"~suffixes = [".txt"]~
+/w/e/a.t
+/w/v/lit.suite.toml => version = 1~"#;
+
+/// The words, and what refuses them.
+const REFUSED: &str = "p => Python /w/p/lit.cfg.py
+q => no TOML /w/q/b/lit.suite.toml
+q/a p => Python /w/p/lit.cfg.py
+q/c => Python /w/q/c/lit.local.cfg
+q z => no TOML /w/q/b/lit.suite.toml
+z q => missing /w/z
+e => no tests
+v => bad suite /w/v/lit.suite.toml
+e q/a => demo :: a/a.txt";
+
+#[test]
+fn the_first_refusal_is_told(rt: HostRuntime) -> Result<(), NoMemory> {
+    for row in REFUSED.lines() {
+        assert!(rt; finds(rt.alloc(), FAULTY_FILES, &[], row)?, "{row}");
+    }
+    assert!(rt; finds(rt.alloc(), FAULTY_FILES, &[1], "e => fault")?);
+    Ok(())
+}

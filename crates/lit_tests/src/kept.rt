@@ -1,0 +1,90 @@
+//! Which tests are kept.
+use crate::rows::three;
+use ere_tree::{Ere, parse};
+use lit_select::select;
+use std::alloc::Global;
+use tt_base::{Bytes, Items, NoMemory};
+use tt_outside::Test;
+
+/// A test of this name.
+fn named(alloc: Global, name: &[u8]) -> Result<Test, NoMemory> {
+    Ok(Test {
+        name: Bytes::from_slice(alloc, name)?,
+        path: Bytes::new(alloc),
+        source_dir: Bytes::new(alloc),
+        work_dir: Bytes::new(alloc),
+        temp_dir: Bytes::new(alloc),
+        temp: Bytes::new(alloc),
+        features: Items::new(alloc),
+        substitutions: Items::new(alloc),
+        tools: Items::new(alloc),
+        environment: Items::new(alloc),
+    })
+}
+
+const NAMES: &str = "s :: a.txt
+s :: b.txt
+s :: ab/aa.t
+s :: ab/ba.t";
+
+/// Four tests.
+fn all(alloc: Global) -> Result<Items<Test>, NoMemory> {
+    let mut tests = Items::new(alloc);
+    for name in NAMES.lines() {
+        tests.push(named(alloc, name.as_bytes())?)?;
+    }
+    Ok(tests)
+}
+
+/// The expression of an option; an empty word stands for none. A word that is refused counts as want of memory.
+fn asked(alloc: Global, word: &str) -> Result<Option<Ere>, NoMemory> {
+    if word.is_empty() {
+        return Ok(None);
+    }
+    match parse(alloc, word.as_bytes(), false) {
+        Ok(ere) => Ok(Some(ere)),
+        Err(_) => Err(NoMemory),
+    }
+}
+
+/// The names of tests, one behind the other.
+fn names_of(alloc: Global, tests: &[Test]) -> Result<Bytes, NoMemory> {
+    let mut text = Bytes::new(alloc);
+    for test in tests {
+        text.append(b"|".as_slice())?;
+        text.append(test.name.as_slice())?;
+    }
+    Ok(text)
+}
+
+/// The names that are kept, one behind the other.
+fn kept(alloc: Global, keep: &str, drop: &str) -> Result<Bytes, NoMemory> {
+    let keep = asked(alloc, keep)?;
+    let drop = asked(alloc, drop)?;
+    let kept = select(alloc, all(alloc)?, &keep, &drop)?;
+    names_of(alloc, kept.as_slice())
+}
+
+/// Whether those of a row are kept.
+fn are_kept(alloc: Global, row: &str) -> Result<bool, NoMemory> {
+    let Some((keep, drop, due)) = three(row) else {
+        return Ok(false);
+    };
+    Ok(kept(alloc, keep, drop)?.as_slice() == due.as_bytes())
+}
+
+/// Which tests are kept, which are dropped, and the names that are left.
+const KEPT: &str = r" =>  => |s :: a.txt|s :: b.txt|s :: ab/aa.t|s :: ab/ba.t
+txt$ =>  => |s :: a.txt|s :: b.txt
+ => a => |s :: b.txt
+ab/ => ^s :: ab/b => |s :: ab/aa.t
+(a)\1 =>  => |s :: ab/aa.t
+zz =>  => ";
+
+#[test]
+fn tests_are_kept_and_then_dropped(rt: HostRuntime) -> Result<(), NoMemory> {
+    for row in KEPT.lines() {
+        assert!(rt; are_kept(rt.alloc(), row)?, "{row}");
+    }
+    Ok(())
+}

@@ -1,0 +1,66 @@
+//! What a directory tells.
+use crate::trees::{refusal, tree_of};
+use lit_dirs::{list_dir, look_in};
+use lit_paths::read_path;
+use std::alloc::Global;
+use tt_base::{Bytes, NoMemory};
+use tt_outside::MemTree;
+
+/// What a directory of a tree tells: the name of its suite, or the refusal.
+fn looked(alloc: Global, tree: &mut MemTree, dir: &str) -> Result<Bytes, NoMemory> {
+    let dir = read_path(alloc, dir.as_bytes())?;
+    let items = match list_dir(alloc, tree, dir.as_slice()) {
+        Ok(Some(items)) => items,
+        Ok(None) => return Bytes::from_slice(alloc, b"file".as_slice()),
+        Err(fault) => return refusal(alloc, &fault),
+    };
+    match look_in(alloc, tree, dir.as_slice(), items.as_slice()) {
+        Ok(Some(suite)) => Ok(suite.name),
+        Ok(None) => Bytes::from_slice(alloc, b"no suite".as_slice()),
+        Err(fault) => refusal(alloc, &fault),
+    }
+}
+
+const FILES: &str = r#"/w/p/lit.suite.toml => version = 1~name = "demo"~suffixes = [".txt"]~
+/w/p/lit.site.cfg
+/w/p/lit.cfg.py
+/w/q/lit.suite.toml => version = 1~name = "demo"~suffixes = [".txt"]~
+/w/q/lit.cfg/a
+/w/b/lit.suite.toml => =
+/w/e/lit.suite.toml/a
+/lit.local.cfg"#;
+
+/// Whether the directory of a row tells what is behind the arrow, where these calls of the tree fail.
+fn tells(alloc: Global, fails: &[u64], row: &str) -> Result<bool, NoMemory> {
+    let Some((dir, due)) = row.split_once(" => ") else {
+        return Ok(false);
+    };
+    let mut tree = tree_of(alloc, FILES, fails)?;
+    Ok(looked(alloc, &mut tree, dir)?.as_slice() == due.as_bytes())
+}
+
+/// Directories, and what they tell.
+const TOLD: &str = "/w/p => Python /w/p/lit.cfg.py
+/w/q => demo
+/w/b => no TOML /w/b/lit.suite.toml
+/w/e => no suite
+/w => no suite
+/ => Python /lit.local.cfg
+/w/z => missing /w/z
+/w/e/lit.suite.toml/a => file";
+
+#[test]
+fn a_directory_tells_its_suite_or_its_refusal(rt: HostRuntime) -> Result<(), NoMemory> {
+    for row in TOLD.lines() {
+        assert!(rt; tells(rt.alloc(), &[], row)?, "{row}");
+    }
+    Ok(())
+}
+
+#[test]
+fn a_tree_that_fails_is_told(rt: HostRuntime) -> Result<(), NoMemory> {
+    for call in [0, 1] {
+        assert!(rt; tells(rt.alloc(), &[call], "/w/q => fault")?, "call {call}");
+    }
+    Ok(())
+}

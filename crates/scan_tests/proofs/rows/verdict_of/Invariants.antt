@@ -1,4 +1,0 @@
-use Rattle.scan_tests.proofs.rows.verdict_of.Given as goal
-
-abbrev pub ghosts-scanned : goal.ghosts-scanned
-ghosts-scanned a = record { name = a.blank.name; parts = a.blank.parts }

@@ -1,5 +1,0 @@
-//! Tests of where patterns are found.
-#![tactic(auto)]
-
-#[cfg(test)]
-mod seeking;

@@ -1,0 +1,178 @@
+//! Programs that a hand runs: how they are fed and drained, how they end, and what they leave.
+use crate::rows::three;
+use std::alloc::{AllocError, Global};
+use tt_base::{Bytes, Items, NoMemory};
+use tt_outside::{Crew, Finish, Reply, Request, Runner, Stream};
+use tt_real::StdCrew;
+
+/// A request to run a program: its words, with a comma and a blank between them.
+fn spawn(alloc: Global, program: &str, input: &[u8], limit: u64) -> Result<Request, NoMemory> {
+    let mut words = Items::new(alloc);
+    for word in program.split(", ") {
+        words.push(Bytes::from_slice(alloc, word.as_bytes())?)?;
+    }
+    Ok(Request::Spawn {
+        words,
+        dir: Bytes::from_slice(alloc, b".")?,
+        env: Items::new(alloc),
+        input: Bytes::from_slice(alloc, input)?,
+        limit,
+    })
+}
+
+/// How a program ended, in a word.
+fn word_of(finish: Finish) -> &'static str {
+    match finish {
+        Finish::Code(_) => "code",
+        Finish::Signal(_) => "signal",
+    }
+}
+
+fn number_of(finish: Finish) -> u8 {
+    match finish {
+        Finish::Code(code) => code,
+        Finish::Signal(signal) => signal,
+    }
+}
+
+/// What a reply tells, in few words.
+fn shown(reply: &Reply) -> (&str, u8, usize, usize) {
+    match reply {
+        Reply::Status { finish, out, err } => {
+            (word_of(*finish), number_of(*finish), out.len(), err.len())
+        }
+        Reply::TooLarge(Stream::Out) => ("too much output", 0, 0, 0),
+        Reply::TooLarge(Stream::Err) => ("too many errors", 0, 0, 0),
+        Reply::Missing => ("missing", 0, 0, 0),
+        Reply::Broken => ("broken", 0, 0, 0),
+        Reply::Bytes(_) | Reply::Written | Reply::TooLarge(Stream::File) => ("other", 0, 0, 0),
+    }
+}
+
+/// A reply in words: how the program ended, and the lengths of its output and its errors.
+fn in_words(alloc: Global, reply: &Reply) -> Result<String, AllocError> {
+    let (word, number, out, err) = shown(reply);
+    format!(in alloc; "{word} {number} {out} {err}")
+}
+
+/// The reply of a hand that is hired for it alone, and dismissed.
+fn run_child<C: Crew>(
+    alloc: Global,
+    crew: &mut C,
+    program: &str,
+    input: &[u8],
+    limit: u64,
+) -> Result<Reply, NoMemory>
+    requires { C.ready crew.old }
+    ensures { C.ready crew.new }
+{
+    let request = spawn(alloc, program, input, limit)?;
+    let mut hand = crew.hire(alloc, 1)?;
+    hand.begin(0);
+    let reply = hand.ask(alloc, &[], &request);
+    crew.dismiss(hand);
+    reply
+}
+
+/// Whether this is told of a program that is run.
+fn tells<C: Crew>(
+    alloc: Global,
+    crew: &mut C,
+    program: &str,
+    input: &[u8],
+    limit: u64,
+    due: &str,
+) -> Result<bool, NoMemory>
+    requires { C.ready crew.old }
+    ensures { C.ready crew.new }
+{
+    let reply = run_child(alloc, crew, program, input, limit)?;
+    let told = in_words(alloc, &reply).or(Err(NoMemory))?;
+    Ok(told.as_str() == due)
+}
+
+/// The four fields of a row, of which two are numbers.
+fn fields(row: &str) -> Option<(&str, usize, u64, &str)> {
+    let (program, length, rest) = three(row)?;
+    let (limit, due) = rest.split_once(" => ")?;
+    Some((program, length.parse().ok()?, limit.parse().ok()?, due))
+}
+
+/// Whether the program of a row is told of so.
+fn is_told<C: Crew>(alloc: Global, crew: &mut C, row: &str) -> Result<bool, NoMemory>
+    requires { C.ready crew.old }
+    ensures { C.ready crew.new }
+{
+    let Some((program, length, limit, due)) = fields(row) else {
+        return Ok(false);
+    };
+    let input = Vec::from_elem(alloc, b'x', length).or(Err(NoMemory))?;
+    tells(alloc, crew, program, input.as_slice(), limit, due)
+}
+
+/// A program, the length of its input, the limit of its output, and its reply in words.
+const FED: &str = "true => 1048576 => 10 => code 0 0 0
+cat => 1048576 => 1048576 => code 0 1048576 0
+sh, -c, cat; echo e >&2 => 2 => 10 => code 0 2 2
+cat => 1048576 => 10 => too much output 0 0 0
+yes => 0 => 65536 => too much output 0 0 0
+sh, -c, exec yes >&2 => 0 => 65536 => too many errors 0 0 0
+no-such-program => 0 => 10 => missing 0 0 0";
+
+#[test]
+fn children_are_fed_drained_and_waited_for(rt: HostRuntime) -> Result<(), NoMemory> {
+    let alloc = rt.alloc();
+    let mut crew = StdCrew::new(alloc, rt);
+    for row in FED.lines() {
+        assert!(rt; is_told(alloc, &mut crew, row)?, "{row}");
+    }
+    Ok(())
+}
+
+const ENDS: &str = "true => 0 => 10 => code 0 0 0
+sh, -c, exit 7 => 0 => 10 => code 7 0 0
+sh, -c, kill -9 $$ => 0 => 10 => signal 9 0 0
+/ => 0 => 10 => broken 0 0 0";
+
+#[test]
+fn the_end_of_a_child_is_told(rt: HostRuntime) -> Result<(), NoMemory> {
+    let alloc = rt.alloc();
+    let mut crew = StdCrew::new(alloc, rt);
+    for row in ENDS.lines() {
+        assert!(rt; is_told(alloc, &mut crew, row)?, "{row}");
+    }
+    Ok(())
+}
+
+/// A child that tells whether its parent has few descriptors and few children.
+const FEW_ARE_OPEN: &str =
+    "sh, -c, test $(ls /proc/$PPID/fd | wc -l) -lt 64 -a $(cat /proc/$PPID/task/*/children 2> /dev/null | wc -w) -lt 64";
+
+/// How many programs are started: more than the descriptors that a process has by default.
+const STARTS: u64 = 10_000;
+
+#[test]
+fn children_leave_no_descriptor_and_no_process(rt: HostRuntime) -> Result<(), NoMemory> {
+    let alloc = rt.alloc();
+    let mut crew = StdCrew::new(alloc, rt);
+    for start in 0..STARTS {
+        let is_fed = tells(alloc, &mut crew, "true", b"x", 10, "code 0 0 0")?;
+        assert!(rt; is_fed, "start {start}");
+    }
+    assert!(rt; tells(alloc, &mut crew, FEW_ARE_OPEN, b"", 4096, "code 0 0 0")?);
+    Ok(())
+}
+
+/// The same of inputs of 64 MiB.
+const LARGE: &str = "cat => 67108864 => 67108864 => code 0 67108864 0
+cat => 67108864 => 67108863 => too much output 0 0 0";
+
+#[test]
+fn a_child_may_have_64_mebibytes_each_way(rt: HostRuntime) -> Result<(), NoMemory> {
+    let alloc = rt.alloc();
+    let mut crew = StdCrew::new(alloc, rt);
+    for row in LARGE.lines() {
+        assert!(rt; is_told(alloc, &mut crew, row)?, "{row}");
+    }
+    Ok(())
+}

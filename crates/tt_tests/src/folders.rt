@@ -1,0 +1,101 @@
+//! The system's folders.
+use std::alloc::{AllocError, Global};
+use std::fs::{self, Files};
+use std::io::{self, ErrorKind};
+use std::os::unix;
+use std::process::Abort;
+use std::{env, process};
+use tt_base::Bytes;
+use tt_outside::{Item, ItemKind, Tree};
+use tt_real::StdTree;
+
+/// Makes a folder with a file `a` and a link to the folder itself.
+fn make(files: &impl Files, alloc: Global, folder: &str) -> io::Result<()> {
+    fs::create_dir(files, folder)?;
+    let file = format!(in alloc; "{folder}/a")?;
+    fs::write(files, file.as_str(), "abc")?;
+    let link = format!(in alloc; "{folder}/link")?;
+    unix::fs::symlink(files, folder, link.as_str())
+}
+
+/// Whether an item is the file `a`, or of neither kind and named otherwise: a link to a folder is neither.
+fn has_its_kind(item: &Item) -> bool {
+    match item.kind {
+        ItemKind::File => item.name.as_slice() == b"a".as_slice(),
+        ItemKind::Other => item.name.as_slice() != b"a".as_slice(),
+        ItemKind::Dir => false,
+    }
+}
+
+/// Whether a folder lists two items of their kinds.
+fn lists_two<T: Tree>(alloc: Global, tree: &mut T, folder: &str) -> bool {
+    match tree.list(alloc, folder.as_bytes()) {
+        Ok(items) => match items.as_slice() {
+            [one, other] => has_its_kind(one) && has_its_kind(other),
+            _ => false,
+        },
+        Err(_) => false,
+    }
+}
+
+/// Whether a path below the folder is neither listed nor read up to two bytes, for these reasons.
+fn is_refused<T: Tree>(
+    alloc: Global,
+    tree: &mut T,
+    folder: &str,
+    row: &str,
+) -> Result<bool, AllocError> {
+    let Some((rest, due)) = row.split_once(" => ") else {
+        return Ok(false);
+    };
+    let path = format!(in alloc; "{folder}{rest}")?;
+    let listed = tree.list(alloc, path.as_str().as_bytes()).err();
+    let read = tree.read_all(alloc, path.as_str().as_bytes(), 2).err();
+    Ok(format!(in alloc; "{listed:?} {read:?}")?.as_str() == due)
+}
+
+/// Whether the file `a` has three bytes, which are read up to a limit of as many.
+fn is_read<T: Tree>(alloc: Global, tree: &mut T, folder: &str) -> Result<bool, AllocError> {
+    let path = format!(in alloc; "{folder}/a")?;
+    match tree.read_all(alloc, path.as_str().as_bytes(), 3) {
+        Ok(bytes) => Ok(bytes.as_slice() == b"abc".as_slice()),
+        Err(_) => Ok(false),
+    }
+}
+
+/// What is behind the folder in a path, and why it is not listed and not read.
+const REFUSED: &str = "/a => Some(NotDirectory) Some(TooLarge)
+/link => Some(Missing) Some(Missing)
+/none => Some(Missing) Some(Missing)
+/a/b => Some(Missing) Some(Missing)
+/\0 => Some(Failed) Some(Failed)
+ => None Some(Missing)";
+
+fn see<T: Tree>(
+    rt: &impl Abort,
+    alloc: Global,
+    tree: &mut T,
+    folder: &str,
+) -> Result<(), AllocError> {
+    assert!(rt; tree.base() == folder.as_bytes());
+    assert!(rt; lists_two(alloc, tree, folder));
+    for row in REFUSED.lines() {
+        assert!(rt; is_refused(alloc, tree, folder, row)?, "{row:?}");
+    }
+    assert!(rt; is_read(alloc, tree, folder)?);
+    Ok(())
+}
+
+#[test]
+fn folders_are_listed_and_files_are_read(rt: HostRuntime) -> io::Result<()> {
+    let alloc = rt.alloc();
+    let mut folder = env::temp_dir(&rt)?;
+    let name = format!(in alloc; "tt_real_tree_{}", process::id(rt.process()))?;
+    folder.push(name.as_str())?;
+    let folder = folder.to_str().ok_or(ErrorKind::InvalidData)?;
+    make(&rt, alloc, folder)?;
+    let base = Bytes::from_slice(alloc, folder.as_bytes()).or(Err(AllocError))?;
+    let mut tree = StdTree::new(rt, base);
+    see(&rt, alloc, &mut tree, folder)?;
+    fs::remove_dir_all(&rt, folder)
+}
