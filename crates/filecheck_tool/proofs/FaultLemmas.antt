@@ -18,7 +18,7 @@ use Rattle.generator.specs.Generated.{checks_text, input_text}
 use Rattle.filecheck_messages.specs.Answer.{answer_to}
 use Rattle.filecheck_tool.specs.CheckFile.{check_file_in}
 use Rattle.check_program.specs.declared.program.Program.{Program as Patterns}
-use Rattle.filecheck_tool.specs.Program.{ArePatterns, IsCompiledTo, fresh_of, program_of}
+use Rattle.filecheck_tool.specs.Program.{ArePatterns, IsCompiledTo, IsDefinedWith, fresh_of, program_of}
 use Rattle.filecheck_messages.specs.Refusal.{◌>>=◌, LeadsTo, accepted}
 use Rattle.filecheck_tool.specs.Run.{InputRead, OutcomeFrom, ProgramFrom, ReadOrMade}
 use Rattle.filecheck_tool.specs.Start.{start_of}
@@ -52,8 +52,7 @@ no_fault_then (Err refusal) next calm is = is
 -- patterns and definitions are none
 patterns_calm : (file : CheckFile) (patterns : Result Patterns Stop) (end : Result Program Stop)
     → ArePatterns file (defined_by file.asked.defines).known patterns
-    → LeadsTo patterns (λ p. LeadsTo (accepted (fresh_of (defined_by file.asked.defines).fresh))
-    (λ fresh end. end ≡ Ok (program_of file p fresh))) end
+    → LeadsTo patterns (λ p. IsDefinedWith file p (fresh_of (defined_by file.asked.defines).fresh)) end
     → IsFault end → ⊥
 patterns_calm file (Ok p) end are leads is =
     leads_calm (fresh_of (defined_by file.asked.defines).fresh) (λ fresh end. end ≡ Ok (program_of file p fresh)) end
@@ -177,10 +176,8 @@ answers_fault (Err (Refused refusal)) is = cc
 answers_fault (Err (NotReadable name)) is = tt
 
 module _ (first_files last_files : Files) (limit : ℕ) (job : Result Job WordsFault) (program : Result Program Stop) (input : Source)
-    (most : ℕ) (outcome : Result Report Stop) (message : List ℕ) (answer : Answer) (status : ℕ) (out err : Stream)
-    (joint : first_files.now ≡ last_files.before)
-    (from : ProgramFrom first_files limit job program) (read : OutcomeFrom last_files input most program outcome)
-    (same : answer ≡ answer_to outcome) (is : status ≡ 3) where
+    (most : ℕ) (outcome : Result Report Stop) (joint : first_files.now ≡ last_files.before)
+    (from : ProgramFrom first_files limit job program) (read : OutcomeFrom last_files input most program outcome) where
   -- a fault of either reading is counted in the end
   in_first : Rose first_files.before first_files.now → Rose first_files.before last_files.now
   in_first rose =
@@ -193,16 +190,26 @@ module _ (first_files last_files : Files) (limit : ℕ) (job : Result Job WordsF
       (subst (λ n. IsLater first_files.before n) joint (program_later first_files limit job program from)) rose
 
   by_reading : IsFault program ⊎ Rose last_files.before last_files.now ⊎ Rose input.before input.now
-      → Rose first_files.before last_files.now ⊎ Rose input.before input.now ⊎ Rose out.before out.now ⊎ Rose err.before err.now
+      → Rose first_files.before last_files.now ⊎ Rose input.before input.now
   by_reading (inl fault) = inl (in_first (fault_of_files first_files limit job program from fault))
   by_reading (inr (inl rose)) = inl (in_last rose)
-  by_reading (inr (inr rose)) = inr (inl rose)
+  by_reading (inr (inr rose)) = inr rose
 
-  -- status 3 comes of a fault that was counted
-  pub fault_of_run : Written message answer status out err
-      → Rose first_files.before last_files.now ⊎ Rose input.before input.now ⊎ Rose out.before out.now ⊎ Rose err.before err.now
-  fault_of_run (inl (taken, inl told)) =
+  -- an answer of status 3 comes of a fault that was counted
+  pub fault_of_answer : (answer : Answer) → answer ≡ answer_to outcome → answer.status ≡ 3
+      → Rose first_files.before last_files.now ⊎ Rose input.before input.now
+  fault_of_answer answer same is =
       by_reading (fault_of_input last_files input most program outcome read
-      (answers_fault outcome (sym (told.0 ∙ ap (λ a. a.status) same) ∙ is)))
-  fault_of_run (inl (taken, inr stopped)) = inr (inr (inr stopped.1.1))
-  fault_of_run (inr stopped) = inr (inr (inl stopped.1.1))
+      (answers_fault outcome (sym (ap (λ a. a.status) same) ∙ is)))
+
+wider : {A B C : Type 0} → A ⊎ B → A ⊎ B ⊎ C
+wider (inl a) = inl a
+wider (inr b) = inr (inl b)
+
+-- and so does status 3, or it comes of a fault of a stream
+pub fault_of_run : {A B : Type 0} (message : List ℕ) (answer : Answer) (status : ℕ) (out err : Stream)
+    → (answer.status ≡ 3 → A ⊎ B) → Written message answer status out err → status ≡ 3
+    → A ⊎ B ⊎ Rose out.before out.now ⊎ Rose err.before err.now
+fault_of_run message answer status out err counted (inl (taken, inl told)) is = wider (counted (sym told.0 ∙ is))
+fault_of_run message answer status out err counted (inl (taken, inr stopped)) is = inr (inr (inr stopped.1.1))
+fault_of_run message answer status out err counted (inr stopped) is = inr (inr (inl stopped.1.1))

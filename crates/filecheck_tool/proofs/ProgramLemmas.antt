@@ -1,19 +1,16 @@
 -- What patterns and definitions come to.
 -- Shown: what compiling came to is what the definition says of the check file, and each end of the steps behind it is one
--- of the chain's. By equations for what the steps were given. The hard one is `program_is`, which joins both steps.
-use Rattle.std.proofs.Common.{◌≡◌, ℕ, List, length, Ok, Err, ap, refl, sym, subst}
-use Rattle.check_group.specs.Changes.{Variables}
+-- of the chain's. By equations for what the steps were given, and by cases on the ends.
+use Rattle.std.proofs.Common.{◌≡◌, ℕ, List, length, Result, Ok, Err, refl, sym}
 use Rattle.check_lines.specs.declared.directive.Directive.{Directive}
 use Rattle.check_program.specs.Compiled.{Compiles, Formats, bodies_of}
 use Rattle.check_program.specs.declared.program.CompileFail.TheVariants.{Bad}
 use Rattle.check_program.specs.declared.program.Program.{Program as Patterns}
-use Rattle.define_words.specs.Start.{start}
 use Rattle.define_words.specs.declared.defined.Defined.{Defined}
 use Rattle.pattern_parse.specs.declared.fault.PatFault.{PatFault}
 use Rattle.pattern_parse.specs.declared.pattern.Frame.{Frame}
-use Rattle.pattern_vars.specs.declared.binding.Binding.{Binding}
-use Rattle.filecheck_tool.specs.Program.{ArePatterns, IsCompiledWith, bad_body, frame_by, fresh_of, program_of}
-use Rattle.filecheck_messages.specs.Refusal.{Ends, Gives, LeadsTo, accepted}
+use Rattle.filecheck_tool.specs.Program.{ArePatterns, IsCompiledWith, IsDefinedWith, bad_body, frame_by, fresh_of}
+use Rattle.filecheck_messages.specs.Refusal.{Ends}
 use Rattle.filecheck_tool.specs.declared.check_file.CheckFile.{CheckFile}
 use Rattle.filecheck_tool.specs.declared.program.Program.{Program}
 use Rattle.filecheck_messages.specs.declared.refusal.Refusal.{Refusal}
@@ -47,25 +44,8 @@ module _ (file : CheckFile) (values : Defined) where
   patterns_stop (Stopped stop) are = (Err stop, are, refl)
   patterns_stop NoMemory are = tt
 
-  pub fresh_stops : (patterns : Patterns) (fail : StepFail) → ArePatterns file values.known (Ok patterns)
-      → Gives {X = List Binding} (λ fresh. fresh) (Err fail) (accepted (fresh_of values.fresh))
-      → Ends {X = Program} (Err fail) (IsCompiledWith file values)
-  fresh_stops patterns (Stopped stop) are stops = (
-    Ok patterns,
-    are,
-    subst (λ step. LeadsTo step (λ fresh end. end ≡ Ok (program_of file patterns fresh)) (Err stop))
-        (sym stops) refl,
-  )
-  fresh_stops patterns NoMemory are stops = tt
-
-  pub program_is : (patterns : Patterns) (fresh : List Binding) (vars : Variables)
-      → ArePatterns file values.known (Ok patterns) → accepted (fresh_of values.fresh) ≡ Ok fresh → vars ≡ start patterns.names fresh
-      → IsCompiledWith file values
-      (Ok (record { file = file; checks = patterns.checks; always = patterns.always; vars = vars }))
-  program_is patterns fresh vars are gives same = (
-    Ok patterns,
-    are,
-    subst (λ step. LeadsTo step (λ fresh end. end ≡ Ok (program_of file patterns fresh))
-        (Ok (record { file = file; checks = patterns.checks; always = patterns.always; vars = vars })))
-        (sym gives) (ap (λ v. Ok (record { file = file; checks = patterns.checks; always = patterns.always; vars = v })) same),
-  )
+  pub patterns_lead : (patterns : Patterns) (step : Result Program StepFail) → ArePatterns file values.known (Ok patterns)
+      → Ends step (IsDefinedWith file patterns (fresh_of values.fresh)) → Ends step (IsCompiledWith file values)
+  patterns_lead patterns (Ok program) are leads = (Ok patterns, are, leads)
+  patterns_lead patterns (Err (Stopped stop)) are leads = (Ok patterns, are, leads)
+  patterns_lead patterns (Err NoMemory) are leads = tt

@@ -40,9 +40,13 @@ refusal_of prefixes IsNoEarlierCheck name spot = NoEarlierCheck spot
 refusal_of prefixes HasNoChecks name spot = NoChecks name
 refusal_of prefixes (IsUnused index) name spot = UnusedPrefix (slice_index_or prefixes index [])
 
+-- the check file of these directives
+abbrev pub with_directives : Start → List ℕ → List Directive → CheckFile
+with_directives start text directives =
+    record { asked = start.asked; made = start.made; text = text; directives = directives }
+
 abbrev pub check_file_of : Start → List ℕ → Result (List Directive) CheckFault → Result CheckFile Refusal
-check_file_of start text (Ok directives) =
-    Ok (record { asked = start.asked; made = start.made; text = text; directives = directives })
+check_file_of start text (Ok directives) = Ok (with_directives start text directives)
 check_file_of start text (Err fault) =
     Err (refusal_of start.asked.prefixes.checks fault.kind start.asked.name (spot_at start.asked.name text fault.at))
 

@@ -19,9 +19,11 @@ use Rattle.filecheck_messages.specs.Refusal.{LeadsTo, accepted}
 use Rattle.filecheck_messages.specs.Spot.{behind}
 use Rattle.filecheck_tool.specs.Start.{IsStart}
 use Rattle.filecheck_tool.specs.declared.check_file.CheckFile.{CheckFile}
+use Rattle.filecheck_tool.specs.declared.program.Parts.{Parts}
 use Rattle.filecheck_tool.specs.declared.program.Program.{Program}
 use Rattle.filecheck_messages.specs.declared.refusal.Refusal.{Refusal}
 use Rattle.filecheck_messages.specs.declared.refusal.Refusal.TheVariants.{BadBody, BadDefine}
+use Rattle.filecheck_messages.specs.declared.refusal.StepFail.{StepFail}
 use Rattle.filecheck_messages.specs.declared.refusal.Stop.{Stop}
 use Rattle.filecheck_messages.specs.declared.refusal.Stop.TheVariants.{Refused, NotReadable}
 use Rattle.filecheck_tool.specs.declared.start.Start.{Start}
@@ -70,12 +72,16 @@ program_of file patterns fresh = record {
   vars = start patterns.names fresh;
 }
 
+-- with these patterns, what -D defines comes to this program
+abbrev pub IsDefinedWith : CheckFile → Patterns → Result (List Binding) Refusal → Result Program Stop → Type 0
+IsDefinedWith file patterns fresh =
+    LeadsTo (accepted fresh) (λ fresh end. end ≡ Ok (program_of file patterns fresh))
+
 -- the patterns of a check file, and then what -D defines, come to this program
 abbrev pub IsCompiledWith : CheckFile → Defined → Result Program Stop → Type 0
 IsCompiledWith file values end =
     (patterns : Result Patterns Stop) × ArePatterns file values.known patterns
-    × LeadsTo patterns (λ p. LeadsTo (accepted (fresh_of values.fresh))
-    (λ fresh end. end ≡ Ok (program_of file p fresh))) end
+    × LeadsTo patterns (λ p. IsDefinedWith file p (fresh_of values.fresh)) end
 
 -- a check file comes to this program, with the values of -D
 abbrev pub IsCompiledTo : CheckFile → Result Program Stop → Type 0
@@ -85,10 +91,26 @@ IsCompiledTo file = IsCompiledWith file (defined_by file.asked.defines)
 abbrev pub IsProgram : Start → Reading → Result Program Stop → Type 0
 IsProgram start file = LeadsTo (check_file_read start file) IsCompiledTo
 
+-- what a program has beside its check file, where checking begins
+abbrev pub started : Patterns → List Binding → Parts
+started patterns fresh =
+    record { checks = patterns.checks; always = patterns.always; vars = start patterns.names fresh }
+
+-- the program of a check file with what it has beside it, as far as there is any
+abbrev pub joined : CheckFile → Result Parts StepFail → Result Program StepFail
+joined file (Ok parts) =
+    Ok (record { file = file; checks = parts.checks; always = parts.always; vars = parts.vars })
+joined file (Err fail) = Err fail
+
 -- what is still to be read has a name, and the bodies lie in the text
 pub record IsSoundFile (file : CheckFile) : Type 0 where
   pub start : IsStart (start_behind file)
   pub bodies : HasBodies file
+
+-- each directive's pattern can be sought
+pub record HasReady (parts : Parts) : Type 0 where
+  pub ready : All (IsReady parts.vars) parts.checks
+  pub always_ready : All (IsReady parts.vars) parts.always
 
 -- and each directive's pattern can be sought
 pub record IsSound (program : Program) : Type 0 where

@@ -1,7 +1,7 @@
 //! A check file: its text and its directives.
-ghost use Rattle.std.specs.Prelude.{◌≡◌, ◌≤◌, ◌-◌, ◌^◌, [], Contains, IfOk, IfSome, length, slice_get, slice_index_or};
+ghost use Rattle.std.specs.Prelude.{◌≡◌, ◌≤◌, ◌-◌, ◌^◌, [], All, Contains, IfOk, IfSome, length, slice_get, slice_index_or};
 ghost use Rattle.check_lines.specs.Checks.{IsPlaced};
-ghost use Rattle.filecheck_tool.specs.CheckFile.{HasBodies, body_spot, check_file_in, check_file_read, implicit_at, implicit_spot, kind_of, name_of, refusal_of, start_behind, suffix_of, whole};
+ghost use Rattle.filecheck_tool.specs.CheckFile.{HasBodies, body_spot, check_file_in, check_file_read, implicit_at, implicit_spot, kind_of, name_of, refusal_of, start_behind, suffix_of, whole, with_directives};
 ghost use Rattle.filecheck_messages.specs.Refusal.{Gives, accepted};
 ghost use Rattle.filecheck_messages.specs.Spot.{spot_at};
 ghost use Rattle.tt_run.specs.Run.{IsShort};
@@ -12,6 +12,7 @@ use filecheck_messages::{Refusal, Spot, StepFail, Stop, as_col, refuse, spot_at,
 use filecheck_words::Asked;
 use pattern_parse::Kind;
 use std::alloc::Global;
+use std::mem::drop;
 use tt_base::{Bytes, Items, NoMemory, Place};
 use tt_run::Reading;
 
@@ -50,9 +51,16 @@ pub fn check_file_read(alloc: Global, start: Start, file: Reading) -> Result<Che
     ensures bodies { IfOk result HasBodies }
     ensures begun { IfOk result (λ file. start_behind file ≡ start) }
 {
-    let bytes = whole(alloc, start.asked.name.as_slice(), file)?;
-    let text = canon_owned(bytes, start.asked.strict);
-    check_file_in(alloc, start, text)
+    match whole(alloc, start.asked.name.as_slice(), file) {
+        Ok(bytes) => {
+            let text = canon_owned(bytes, start.asked.strict);
+            check_file_in(alloc, start, text)
+        }
+        Err(fail) => {
+            drop(start);
+            Err(fail)
+        }
+    }
 }
 
 /// The check file of a canonical text.
@@ -62,26 +70,42 @@ fn check_file_in(alloc: Global, start: Start, text: Bytes) -> Result<CheckFile, 
     ensures bodies { IfOk result HasBodies }
     ensures begun { IfOk result (λ file. start_behind file ≡ start) }
 {
-    let Start { asked, made } = start;
+    match directives_of(alloc, &start, text.as_slice()) {
+        Ok(directives) => Ok(CheckFile {
+            asked: start.asked,
+            made: start.made,
+            text,
+            directives,
+        }),
+        Err(fail) => {
+            // A call, since a drop in place is proved field by field.
+            drop(start);
+            Err(fail)
+        }
+    }
+}
+
+/// The directives of a canonical text.
+fn directives_of(alloc: Global, start: &Start, text: &[u8]) -> Result<Items<Directive>, StepFail>
+    requires { length text.now ≤ 2 ^ 30 }
+    ensures value { Gives (with_directives start.now text.now) result (accepted (check_file_in start.now text.now)) }
+    ensures placed { IfOk result (All (IsPlaced text.now (length start.now.asked.prefixes.checks))) }
+{
+    let asked = &start.asked;
     match read_checks(
         alloc,
-        text.as_slice(),
+        text,
         asked.prefixes.checks.as_slice(),
         asked.prefixes.comments.as_slice(),
         asked.allow_unused,
         asked.strict && asked.full_lines,
         asked.may_lack,
     ) {
-        Ok(directives) => Ok(CheckFile {
-            asked,
-            made,
-            text,
-            directives,
-        }),
+        Ok(directives) => Ok(directives),
         Err(CheckFail::Bad(fault)) => refuse(refusal_of(
             alloc,
             asked.name.as_slice(),
-            text.as_slice(),
+            text,
             asked.prefixes.checks.as_slice(),
             fault,
         )?),

@@ -2,8 +2,8 @@
 ghost use Rattle.std.specs.Prelude.{◌≡◌, ◌^◌, IfOk};
 ghost use Rattle.check_program.specs.Ready.{IsScannable};
 ghost use Rattle.filecheck_tool.specs.CheckFile.{HasBodies};
-ghost use Rattle.filecheck_tool.specs.Program.{ArePatterns, IsCompiledTo, IsCompiledWith, IsProgram, IsSound, IsSoundFile, bad_body, frame_by, fresh_of};
-ghost use Rattle.filecheck_messages.specs.Refusal.{Ends, Gives, accepted};
+ghost use Rattle.filecheck_tool.specs.Program.{ArePatterns, HasReady, IsCompiledTo, IsCompiledWith, IsDefinedWith, IsProgram, IsSound, IsSoundFile, bad_body, frame_by, fresh_of, joined, started};
+ghost use Rattle.filecheck_messages.specs.Refusal.{Ends};
 ghost use Rattle.filecheck_tool.specs.Start.{IsStart};
 ghost use Rattle.tt_run.specs.Run.{IsShort};
 
@@ -16,6 +16,7 @@ use filecheck_messages::{Refusal, StepFail, behind, refuse};
 use pattern_parse::{Formats, Frame, PatFault};
 use pattern_vars::{Bindings, Vars};
 use std::alloc::Global;
+use std::mem::drop;
 use tt_base::{Bytes, Items, NoMemory};
 use tt_run::Reading;
 
@@ -29,6 +30,14 @@ pub struct Program {
     pub always: Items<Check>,
     /// The variables where checking begins.
     pub vars: Vars,
+}
+
+/// What a program has beside its check file.
+#[derive(Drop)]
+struct Parts {
+    checks: Items<Check>,
+    always: Items<Check>,
+    vars: Vars,
 }
 
 /// The program of the check file that reading gave.
@@ -48,30 +57,72 @@ fn compiled(alloc: Global, file: CheckFile) -> Result<Program, StepFail>
     ensures value { Ends result (IsCompiledTo file) }
     ensures sound { IfOk result IsSound }
 {
+    match parts_of(alloc, &file) {
+        Ok(parts) => Ok(Program {
+            file,
+            checks: parts.checks,
+            always: parts.always,
+            vars: parts.vars,
+        }),
+        Err(fail) => {
+            // A call, since a drop in place is proved field by field.
+            drop(file);
+            Err(fail)
+        }
+    }
+}
+
+/// What the program of a check file has beside it.
+fn parts_of(alloc: Global, file: &CheckFile) -> Result<Parts, StepFail>
+    requires { HasBodies file.now }
+    ensures value { Ends (joined file.now result) (IsCompiledTo file.now) }
+    ensures ready { IfOk result HasReady }
+{
     let values = defined_by(alloc, file.asked.defines.as_slice())?;
-    compiled_with(alloc, file, values)
+    parts_with(alloc, file, values)
 }
 
 /// The same: the patterns are compiled, and then the variables are defined.
 #[tactic(auto, using(crate::proofs::ProgramLemmas::patterns_stop))]
-fn compiled_with(alloc: Global, file: CheckFile, values: Defined) -> Result<Program, StepFail>
-    requires sound { IsSoundFile file }
-    ensures value { Ends result (IsCompiledWith file values) }
-    ensures sound { IfOk result IsSound }
+fn parts_with(alloc: Global, file: &CheckFile, values: Defined) -> Result<Parts, StepFail>
+    requires { HasBodies file.now }
+    ensures value { Ends (joined file.now result) (IsCompiledWith file.now values) }
+    ensures ready { IfOk result HasReady }
 {
     let Defined { mut known, fresh } = values;
+    let patterns = patterns_of(alloc, file, &mut known)?;
+    begun(alloc, patterns, fresh)
+}
+
+/// The same, where the patterns are compiled.
+fn begun(
+    alloc: Global,
+    patterns: Patterns,
+    fresh: Result<Bindings, Bytes>,
+) -> Result<Parts, StepFail>
+    requires { IsScannable patterns }
+    ensures value { (file : CheckFile) → Ends (joined file result) (IsDefinedWith file patterns (fresh_of fresh)) }
+    ensures ready { IfOk result HasReady }
+{
+    match fresh {
+        Ok(fresh) => Ok(started(alloc, patterns, fresh)?),
+        Err(value) => refuse(Refusal::BadDefine(value)),
+    }
+}
+
+/// The same, where each value defines something.
+fn started(alloc: Global, patterns: Patterns, fresh: Bindings) -> Result<Parts, NoMemory>
+    requires { IsScannable patterns }
+    ensures value { IfOk result (λ parts. parts ≡ started patterns fresh) }
+    ensures ready { IfOk result HasReady }
+{
     let Patterns {
         checks,
         always,
         names,
-    } = patterns_of(alloc, &file, &mut known)?;
-    let fresh = match fresh_of(fresh) {
-        Ok(fresh) => fresh,
-        Err(fail) => return Err(fail),
-    };
+    } = patterns;
     let vars = start_vars(alloc, names, fresh)?;
-    Ok(Program {
-        file,
+    Ok(Parts {
         checks,
         always,
         vars,
@@ -130,14 +181,4 @@ fn bad_body(
 {
     let spot = file.body_spot(alloc, number)?;
     Ok(Refusal::BadBody(fault.kind, behind(spot, fault.at)))
-}
-
-/// What `-D` defines, unless a value is bad.
-fn fresh_of(fresh: Result<Bindings, Bytes>) -> Result<Bindings, StepFail>
-    ensures { Gives (λ fresh. fresh) result (accepted (fresh_of fresh)) }
-{
-    match fresh {
-        Ok(fresh) => Ok(fresh),
-        Err(value) => refuse(Refusal::BadDefine(value)),
-    }
 }

@@ -14,20 +14,21 @@ ghost use Rattle.filecheck_tool.specs.Start.{IsStart};
 ghost use Rattle.filecheck_tool.specs.declared.program.Program.{Program};
 ghost use Rattle.filecheck_messages.specs.declared.refusal.Stop.{Stop};
 ghost use Rattle.filecheck_messages.specs.declared.report.Report.{Report};
-ghost use Rattle.filecheck_words.specs.Job.{asked_by};
+ghost use Rattle.filecheck_words.specs.Job.{IsSound as IsSoundJob, asked_by};
 
 use crate::check_file::CheckFile;
 use crate::program::{Program, program_read};
 use crate::start::{Start, start_of};
 use crate::verdict::verdict_read;
 use filecheck_messages::{Refusal, Report, Stop, answer_to, settled};
-use filecheck_words::{Input, WordsFail, asked_by};
+use filecheck_words::{Input, Job, WordsFail, asked_by};
 use generator::{checks_text, input_text};
 use std::alloc::Global;
+use std::mem::drop;
 use std::str::from_utf8;
 use tt_base::NoMemory;
 use tt_outside::{Files, Sink, Source};
-use tt_run::{Reading, read_named, read_source, tell, write_answer};
+use tt_run::{Answer, Reading, read_named, read_source, tell, write_answer};
 
 /// The greatest length of a check file, in bytes.
 pub const CHECK_LIMIT: u64 = 16_777_216;
@@ -63,16 +64,56 @@ pub fn filecheck_run<F: Files, I: Source, O: Sink, E: Sink>(
     ensures files_stay { F.held from.new ≡ F.held from.old }
     ensures no_other { result ≤ 4 }
 {
-    let Ok(program) = program_from(alloc, words, from) else {
-        return tell_memory(err);
-    };
-    let Ok(outcome) = outcome_from(alloc, program, from, input) else {
-        return tell_memory(err);
-    };
-    let Ok(answer) = answer_to(alloc, &outcome) else {
+    let Ok(answer) = answer_from(alloc, words, from, input) else {
         return tell_memory(err);
     };
     write_answer(b"filecheck: error: cannot write\n", &answer, out, err)
+}
+
+/// What is told of words, check file and input.
+fn answer_from<F: Files, I: Source>(
+    alloc: Global,
+    words: &[String],
+    from: &mut F,
+    input: &mut I,
+) -> Result<Answer, NoMemory>
+    ensures answer { IfOk result (λ answer. (middle : F) × (program : Result Program Stop) × (outcome : Result Report Stop)
+        × ProgramFrom (files F.held F.steady F.faults from.old middle) (2 ^ 24) (asked_by (texts words.now)) program
+        × (F.held middle ≡ F.held from.old)
+        × OutcomeFrom (files F.held F.steady F.faults middle from.new)
+        (source I.left I.steady I.faults input.old input.new) (2 ^ 26) program outcome × (answer ≡ answer_to outcome)) }
+    ensures fault { IfOk result (λ answer. answer.status ≡ 3 →
+        Rose (F.faults from.old) (F.faults from.new) ⊎ Rose (I.faults input.old) (I.faults input.new)) }
+    ensures small { IfOk result (λ answer. answer.status ≤ 3) }
+    ensures taken { TakesAtMost (I.left input.old) (I.left input.new) (2 ^ 26 + 1) }
+    ensures files_stay { F.held from.new ≡ F.held from.old }
+{
+    let outcome = outcome_of(alloc, words, from, input)?;
+    let told = answer_to(alloc, &outcome);
+    // A call, since a drop in place is proved variant by variant.
+    drop(outcome);
+    let answer = told?;
+    Ok(answer)
+}
+
+/// What is found amiss in words, check file or input.
+fn outcome_of<F: Files, I: Source>(
+    alloc: Global,
+    words: &[String],
+    from: &mut F,
+    input: &mut I,
+) -> Result<Result<Report, Stop>, NoMemory>
+    ensures value { IfOk result (λ outcome. (middle : F) × (program : Result Program Stop)
+        × ProgramFrom (files F.held F.steady F.faults from.old middle) (2 ^ 24) (asked_by (texts words.now)) program
+        × (F.held middle ≡ F.held from.old)
+        × OutcomeFrom (files F.held F.steady F.faults middle from.new)
+        (source I.left I.steady I.faults input.old input.new) (2 ^ 26) program outcome) }
+    ensures taken { TakesAtMost (I.left input.old) (I.left input.new) (2 ^ 26 + 1) }
+    ensures files_stay { F.held from.new ≡ F.held from.old }
+{
+    let program = program_from(alloc, words, from)?;
+    let outcome = outcome_from(alloc, program, from, input)?;
+    Ok(outcome)
 }
 
 /// The program of the check file that the words ask for.
@@ -91,8 +132,25 @@ fn program_from<F: Files>(
         Err(WordsFail::Bad(fault)) => return Ok(Err(Stop::Refused(Refusal::Words(fault)))),
         Err(WordsFail::NoMemory) => return Err(NoMemory),
     };
+    program_by(alloc, job, from)
+}
+
+/// The program of the check file that a job names.
+fn program_by<F: Files>(
+    alloc: Global,
+    job: Job,
+    from: &mut F,
+) -> Result<Result<Program, Stop>, NoMemory>
+    requires { IsSoundJob job }
+    ensures value { IfOk result (ProgramFrom (files F.held F.steady F.faults from.old from.new) (2 ^ 24) (Ok job)) }
+    ensures sound { IfOk result (λ program. IfOk program IsSound) }
+    ensures files_stay { F.held from.new ≡ F.held from.old }
+{
     let start = start_of(alloc, job)?;
-    let file = read_checks(alloc, &start, from)?;
+    let Ok(file) = read_checks(alloc, &start, from) else {
+        drop(start);
+        return Err(NoMemory);
+    };
     settled(program_read(alloc, start, file))
 }
 
@@ -111,7 +169,10 @@ fn outcome_from<F: Files, I: Source>(
 {
     match program {
         Ok(program) => {
-            let read = read_input(alloc, &program.file, from, input)?;
+            let Ok(read) = read_input(alloc, &program.file, from, input) else {
+                drop(program);
+                return Err(NoMemory);
+            };
             settled(verdict_read(alloc, program, read))
         }
         Err(stop) => Ok(Err(stop)),

@@ -35,13 +35,12 @@ pub fn start_of(alloc: Global, job: Job) -> Result<Start, NoMemory>
 fn made_asked(alloc: Global) -> Result<Asked, NoMemory>
     ensures { IfOk result (λ asked. asked ≡ made_asked) }
 {
+    let prefixes = made_prefixes(alloc)?;
+    let name = Bytes::from_slice(alloc, b"<generate>")?;
     Ok(Asked {
-        name: Bytes::from_slice(alloc, b"<generate>")?,
+        name,
         input: Input::Standard,
-        prefixes: Prefixes {
-            checks: check_names(alloc)?,
-            comments: comment_names(alloc)?,
-        },
+        prefixes,
         strict: false,
         allow_empty: false,
         allow_unused: false,
@@ -52,4 +51,13 @@ fn made_asked(alloc: Global) -> Result<Asked, NoMemory>
         implicit: Items::new(alloc),
         defines: Items::new(alloc),
     })
+}
+
+/// The prefixes that are used where no words name any.
+fn made_prefixes(alloc: Global) -> Result<Prefixes, NoMemory>
+    ensures { IfOk result (λ prefixes. prefixes ≡ made_asked.prefixes) }
+{
+    let checks = check_names(alloc)?;
+    let comments = comment_names(alloc)?;
+    Ok(Prefixes { checks, comments })
 }

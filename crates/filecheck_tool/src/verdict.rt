@@ -6,7 +6,7 @@ ghost use Rattle.check_scan.specs.Verdict.{scan};
 ghost use Rattle.filecheck_tool.specs.CheckFile.{HasBodies};
 ghost use Rattle.filecheck_tool.specs.Program.{IsSound};
 ghost use Rattle.filecheck_messages.specs.Refusal.{Gives, accepted};
-ghost use Rattle.filecheck_tool.specs.Verdict.{absent_of, both_notes, filled, finding_of, findings_of, input_name, line_trouble, made_of, note_at, notes_of, one_note, trouble_of, verdict, verdict_read};
+ghost use Rattle.filecheck_tool.specs.Verdict.{absent_of, both_notes, filled, finding_of, findings_of, input_name, line_trouble, made_of, note_at, notes_of, one_note, report_of, trouble_of, verdict, verdict_read};
 ghost use Rattle.tt_run.specs.Run.{IsShort};
 
 use crate::check_file::{CheckFile, whole};
@@ -23,6 +23,7 @@ use pattern_parse::Kind;
 use pattern_vars::Vars;
 use std::alloc::Global;
 use std::marker::Brand;
+use std::mem::drop;
 use std::sync::ledger::{Blank, Ledger};
 use tt_base::{Bytes, Items, NoMemory};
 use tt_run::Reading;
@@ -42,6 +43,19 @@ pub fn verdict_read(alloc: Global, program: Program, read: Reading) -> Result<Re
     requires sound { IsSound program }
     requires short { IsShort (2 ^ 30) read }
     ensures { Gives (λ report. report) result (verdict_read program read) }
+{
+    let mut program = program;
+    let told = verdict_of(alloc, &mut program, read);
+    // A call, since a drop in place is proved field by field.
+    drop(program);
+    told
+}
+
+/// The same; what the input binds stays in the program.
+fn verdict_of(alloc: Global, program: &mut Program, read: Reading) -> Result<Report, StepFail>
+    requires sound { IsSound program.old }
+    requires short { IsShort (2 ^ 30) read }
+    ensures { Gives (λ report. report) result (verdict_read program.old read) }
 {
     let asked = &program.file.asked;
     let name = input_name(&asked.input);
@@ -65,29 +79,45 @@ fn filled(alloc: Global, allow: bool, name: &[u8], bytes: Bytes) -> Result<Bytes
 }
 
 /// What is told of an input of so many bytes, by its canonical text.
-fn verdict(alloc: Global, program: Program, count: u64, input: &[u8]) -> Result<Report, NoMemory>
-    requires sound { IsSound program }
+fn verdict(
+    alloc: Global,
+    program: &mut Program,
+    count: u64,
+    input: &[u8],
+) -> Result<Report, NoMemory>
+    requires sound { IsSound program.old }
     requires short { length input.now ≤ 2 ^ 30 }
-    ensures { IfOk result (λ report. report ≡ verdict program count input.now) }
+    ensures { IfOk result (λ report. report ≡ verdict program.old count input.now) }
 {
-    let Program {
-        file,
-        checks,
-        always,
-        mut vars,
-    } = program;
+    let file = &program.file;
     let scope = file.asked.var_scope;
     let faults = faults_in(
         alloc,
-        checks.as_slice(),
-        always.as_slice(),
+        program.checks.as_slice(),
+        program.always.as_slice(),
         scope,
         input,
-        &mut vars,
+        &mut program.vars,
     )?;
+    report_of(alloc, &program.file, count, input, faults.as_slice())
+}
+
+/// What is told of faults.
+fn report_of(
+    alloc: Global,
+    file: &CheckFile,
+    count: u64,
+    input: &[u8],
+    faults: &[Fault],
+) -> Result<Report, NoMemory>
+    requires bodies { HasBodies file.now }
+    requires short { length input.now ≤ 2 ^ 30 }
+    requires lie { All (λ fault. OffsetsLie (length input.now) fault.kind) faults.now }
+    ensures { IfOk result (λ report. report ≡ report_of file.now.made file.now count input.now faults.now) }
+{
     match file.made {
-        Some(checks) => Ok(Report::Made(made_of(checks, count, faults.as_slice()))),
-        None => Ok(Report::Found(findings_of(alloc, &file, input, faults.as_slice())?)),
+        Some(checks) => Ok(Report::Made(made_of(checks, count, faults))),
+        None => Ok(Report::Found(findings_of(alloc, file, input, faults)?)),
     }
 }
 
@@ -109,7 +139,6 @@ fn faults_in(
     faults_by::<Brand>(alloc, checks, always, scope, input, vars, Blank::new(1))
 }
 
-#[tactic(auto, using(crate::proofs::LieLemmas::offsets_lie))]
 fn faults_by<L: Ledger>(
     alloc: Global,
     checks: &[Check],

@@ -1,0 +1,8 @@
+use Rattle.filecheck_tool.specs.Program.{joined}
+use Rattle.filecheck_tool.proofs.ProgramLemmas.{patterns_lead}
+use Rattle.filecheck_tool.proofs.program.parts_with.Goals as goal
+
+pub returns-clause-value : goal.returns-clause-value
+returns-clause-value c =
+    patterns_lead c.args.file.now c.args.values c.in_ok-patterns.patterns (joined c.args.file.now c.begun.result)
+    c.in_ok-patterns.ensures.value (c.begun.ensures.value c.args.file.now)
