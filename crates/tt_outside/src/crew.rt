@@ -68,7 +68,7 @@ pub trait Runner {
         ensures room { rooms self.new ≡ rooms self.old }
         ensures later { faults self.old ≤ faults self.new }
         ensures cause { result ≡ Ok Reply.Broken → Rose (faults self.old) (faults self.new) }
-        ensures calm { result ≢ Ok Reply.Broken → faults self.new ≡ faults self.old }
+        ensures calm { IfOk result (λ reply. reply ≢ Reply.Broken → faults self.new ≡ faults self.old) }
         ensures gave { SameGave (gave self.new) (gave self.old) };
 }
 

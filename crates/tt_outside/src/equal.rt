@@ -34,7 +34,7 @@ fn add_pairs(alloc: Global, pairs: &mut Items<Pair>, more: &[Pair]) -> Result<()
 }
 
 /// Equal texts.
-fn texts(alloc: Global, items: &Items<Bytes>) -> Result<Items<Bytes>, NoMemory>
+pub fn texts(alloc: Global, items: &Items<Bytes>) -> Result<Items<Bytes>, NoMemory>
     ensures { IfOk result (λ copy. copy ≡ items.now) }
 {
     let mut copy = Items::new(alloc);
@@ -43,7 +43,7 @@ fn texts(alloc: Global, items: &Items<Bytes>) -> Result<Items<Bytes>, NoMemory>
 }
 
 /// Equal pairs.
-fn pairs(alloc: Global, items: &Items<Pair>) -> Result<Items<Pair>, NoMemory>
+pub fn pairs(alloc: Global, items: &Items<Pair>) -> Result<Items<Pair>, NoMemory>
     ensures { IfOk result (λ copy. copy ≡ items.now) }
 {
     let mut copy = Items::new(alloc);
