@@ -1,22 +1,61 @@
--- Shown: the laws of definitions, by what is read of a block, and value by value.
--- Idea: a value binds something, or it is the first that is refused.
+-- Shown: the laws of definitions, number by number and value by value.
+-- Idea: a number has a known format or none; a value binds something, or it is the first that is refused.
 -- The hard one is `first_from`, by cases of a value and of those behind it.
-use Rattle.std.proofs.Common.{◌≡◌, ◌∙◌, ℕ, ℤ, List, [], ◌∷◌, ◌++◌, Option, Some, None, Result, Ok, Err, refl, sym, ap, subst}
-use Rattle.std.specs.Prelude.{IsOk}
-use Rattle.std.specs.FinMap.{FinMap, empty, get}
+use Rattle.std.proofs.Common.{◌≡◌, ◌∙◌, ℕ, ℤ, pos, Bool, true, false, List, [], ◌∷◌, ◌++◌, Option, Some, None, Result, Ok, Err, if◌then◌else◌, ◌+◌, refl, sym, ap, subst}
+use Rattle.std.specs.Prelude.{IsOk, is_some}
+use Rattle.std.specs.FinMap.{FinMap, empty, get, get-empty, insert}
 use Rattle.num_base.specs.Names.{name_cmp}
 use Rattle.num_base.specs.declared.format.Format.{Format}
+use Rattle.num_exprs.specs.declared.block.Named.{Named}
+use Rattle.pattern_parse.specs.Block.{differs, uses_read}
+use Rattle.pattern_parse.specs.declared.fault.PatKind.TheVariants.{FormatConflict, SameLineNumber}
+use Rattle.pattern_parse.specs.declared.fault.PatFault.{PatFault}
 use Rattle.pattern_vars.specs.declared.binding.Binding.{Binding}
 use Rattle.define_words.specs.Defined.{and_bindings, binding_of, fresh_by, numbers_with, words_of}
-use Rattle.define_words.specs.Laws.{BlockIsBody, RefusedIsFirst, one_piece}
+use Rattle.define_words.specs.Format.{shared}
+use Rattle.define_words.specs.Laws.{FormatIsOfBlocks, RefusedIsFirst, seen_of}
 use Rattle.define_words.specs.Word.{known_with, word_of}
-use Rattle.define_words.proofs.BlockLemmas.{item_here, refused_here}
 use Rattle.define_words.proofs.DefinedLemmas.{binds, binds_nothing}
 
-pub block_is_body : BlockIsBody
-block_is_body known block (Ok items) all short is =
-    let (found, told, same) = item_here known block items all short is in ap Ok same ∙ sym (ap one_piece told)
-block_is_body known block (Err fault) all short is = sym (ap one_piece (refused_here known block fault all short is))
+-- ---- formats
+
+same_formats : (known : List ℕ → Option Format) (at : ℕ) (uses : List Named) (used : FinMap name_cmp ℤ)
+    (seen : Option Format) → seen_of (uses_read known empty false at used seen uses) ≡ shared known seen uses
+same_formats known at [] used seen = refl
+same_formats known at (named ∷ uses) used seen =
+    ap (λ own. seen_of (if is_some own then refused else left (known named.name))) (get-empty name_cmp named.name)
+    ∙ by_found (λ before. same_formats known at uses (insert used named.name (pos 1)) before) (known named.name)
+  where
+    refused : Result (Option Format × FinMap name_cmp ℤ) PatFault
+    refused = Err (record { at = at + named.at; kind = SameLineNumber })
+
+    behind : Option Format → Result (Option Format × FinMap name_cmp ℤ) PatFault
+    behind before = uses_read known empty false at (insert used named.name (pos 1)) before uses
+
+    by_test : Format → Bool → Result (Option Format × FinMap name_cmp ℤ) PatFault
+    by_test format test =
+        if test then Err (record { at = at + named.at; kind = FormatConflict }) else behind (Some format)
+
+    left : Option Format → Result (Option Format × FinMap name_cmp ℤ) PatFault
+    left None = behind seen
+    left (Some format) = by_test format (differs seen format)
+
+    right : Option Format → Option (Option Format)
+    right None = shared known seen uses
+    right (Some format) = if differs seen format then None else shared known (Some format) uses
+
+    each : ((before : Option Format) → seen_of (behind before) ≡ shared known before uses) → (format : Format)
+        (test : Bool) → seen_of (by_test format test) ≡ (if test then None else shared known (Some format) uses)
+    each go format true = refl
+    each go format false = go (Some format)
+
+    by_found : ((before : Option Format) → seen_of (behind before) ≡ shared known before uses)
+        → (found : Option Format) → seen_of (left found) ≡ right found
+    by_found go None = go seen
+    by_found go (Some format) = each go format (differs seen format)
+
+pub format_is_of_blocks : FormatIsOfBlocks
+format_is_of_blocks known at used uses = same_formats known at uses used None
 
 -- ---- the first refusal
 

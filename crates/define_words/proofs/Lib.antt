@@ -1,4 +1,3 @@
-pub mod BlockLemmas
 pub mod DefinedLemmas
 pub mod LawLemmas
 pub mod StartLemmas

@@ -1,6 +1,6 @@
 -- What the values of -D define, in the order of the words.
 -- After LLVM Command Guide, FileCheck, '-D<VAR=VALUE>' and '-D#<FMT>,<NUMVAR>=<NUMERIC EXPRESSION>'. Own rules: an
--- expression may use the numbers before it; the first value that defines nothing is refused, and what is known of
+-- expression may use the numbers before it, also that of its own name; the first value that defines nothing is refused, and what is known of
 -- formats doesn't end there.
 use Rattle.std.specs.Prelude.{ℕ, ℤ, List, [], ◌∷◌, Option, Some, None, Result, Ok, Err, if◌then◌else◌}
 use Rattle.std.specs.FinMap.{FinMap, empty, get, insert}

@@ -1,28 +1,25 @@
--- Laws of the definitions. Own rule, after LLVM's FileCheck: a number of the command line is read as a block is.
-use Rattle.std.specs.Prelude.{◌≡◌, ◌≤◌, ◌+◌, ℕ, true, false, List, [], ◌∷◌, ◌++◌, length, Option, Result, Ok, Err, IsOk}
-use Rattle.std.specs.List.{list_all}
+-- Laws of the definitions. Own rules: the numbers of a word have a format as those of a block have, and the first value that
+-- defines nothing is refused.
+use Rattle.std.specs.Prelude.{◌≡◌, ℕ, ℤ, false, List, [], ◌∷◌, ◌++◌, Option, Some, None, Result, Ok, Err, IsOk}
+use Rattle.std.specs.FinMap.{FinMap, empty}
+use Rattle.num_base.specs.Names.{name_cmp}
 use Rattle.num_base.specs.declared.format.Format.{Format}
-use Rattle.num_exprs.specs.Block.{reading}
-use Rattle.pattern_parse.specs.Block.{Said, number_of}
-use Rattle.pattern_parse.specs.Item.{Item}
-use Rattle.pattern_parse.specs.Pieces.{IsPieces, nothing_said}
+use Rattle.num_exprs.specs.declared.block.Named.{Named}
+use Rattle.pattern_parse.specs.Block.{uses_read}
 use Rattle.pattern_parse.specs.declared.fault.PatFault.{PatFault}
-use Rattle.pattern_parse.specs.declared.pattern.Kind.TheVariants.{Plain}
 use Rattle.define_words.specs.Defined.{defined_by}
-use Rattle.define_words.specs.Format.{body_of}
-use Rattle.define_words.specs.Word.{is_inside}
+use Rattle.define_words.specs.Format.{shared}
 
--- the one piece that was read, or its refusal
-abbrev pub one_piece : Result (Item × Said) PatFault → Result (List Item) PatFault
-one_piece (Ok read) = Ok (read.0 ∷ [])
-one_piece (Err fault) = Err fault
+-- the format that the numbers of a block were found to have, if they aren't refused
+abbrev pub seen_of : Result (Option Format × FinMap name_cmp ℤ) PatFault → Option (Option Format)
+seen_of (Ok seen) = Some seen.0
+seen_of (Err fault) = None
 
--- Law: what a block is read as is what the pieces of the body `[[#` block `]]` are.
-abbrev pub BlockIsBody : Type 0
-BlockIsBody =
-    (known : List ℕ → Option Format) (block : List ℕ) (told : Result (List Item) PatFault)
-    → list_all is_inside block ≡ true → length block + 5 ≤ 65536 → IsPieces (body_of block) Plain false false known told
-    → told ≡ one_piece (number_of known nothing_said 3 (reading block))
+-- Law: the one format of numbers is that of a block, without one of its own, that uses them.
+abbrev pub FormatIsOfBlocks : Type 0
+FormatIsOfBlocks =
+    (known : List ℕ → Option Format) (at : ℕ) (used : FinMap name_cmp ℤ) (uses : List Named)
+    → seen_of (uses_read known empty false at used None uses) ≡ shared known None uses
 
 -- Law: the value that is refused is the first: those before it define something, and with it they don't.
 abbrev pub RefusedIsFirst : Type 0

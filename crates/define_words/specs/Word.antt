@@ -1,21 +1,20 @@
 -- What a word of the command line defines: `X=text` a text, `#N=3` a number.
--- After LLVM Command Guide, FileCheck, '-D<VAR=VALUE>' and '-D#<FMT>,<NUMVAR>=<NUMERIC EXPRESSION>'. Own rules: what is
--- behind the `#` is read as the block `[[#N:3]]` of a body that has nothing else, as long as a body may be; its number
--- stands for itself, so there is no `@LINE`.
-use Rattle.std.specs.Prelude.{ℕ, ◌+◌, Bool, ◌&&◌, ◌==◌, not, nat_le, List, ◌∷◌, ◌++◌, length, take, drop, Option, Some, None, Result, Ok, Err, if◌then◌else◌}
+--   number = "#" [ "%" fmt "," ] name "=" sum
+-- After LLVM Command Guide, FileCheck, '-D<VAR=VALUE>' and '-D#<FMT>,<NUMVAR>=<NUMERIC EXPRESSION>'. Own rules: format, name and
+-- sum are read as those of a numeric block, of which the `=` is the `:`; the word has no other `=` and, since it stands on no
+-- line, no `@LINE`.
+use Rattle.std.specs.Prelude.{ℕ, ◌+◌, Bool, ◌||◌, ◌==◌, not, List, ◌∷◌, ◌++◌, take, drop, Option, Some, None, Result, Ok, Err, if◌then◌else◌}
 use Rattle.std.specs.FinMap.{FinMap, insert}
 use Rattle.std.specs.List.{list_all, position_from}
 use Rattle.ere_tree.specs.Front.{begins}
 use Rattle.num_base.specs.Names.{name_cmp}
 use Rattle.num_base.specs.Term.{Term}
 use Rattle.num_base.specs.declared.format.Format.{Format}
-use Rattle.num_exprs.specs.Block.{reading}
+use Rattle.num_exprs.specs.Block.{Reading, reading}
 use Rattle.num_exprs.specs.Name.{name_at}
-use Rattle.pattern_parse.specs.Block.{Said, number_of}
-use Rattle.pattern_parse.specs.Cut.{is_plain}
-use Rattle.pattern_parse.specs.Item.{Item, plain, regex, define, recall, number as numeric}
-use Rattle.pattern_parse.specs.Pieces.{nothing_said}
-use Rattle.pattern_parse.specs.declared.fault.PatFault.{PatFault}
+use Rattle.num_exprs.specs.declared.block.Named.{Named}
+use Rattle.num_exprs.specs.declared.fault.NumFault.{NumFault}
+use Rattle.define_words.specs.Format.{word_format}
 
 -- a text under a name; the number of an expression under a name, with its format; or neither
 pub data Word : Type 0 where
@@ -35,46 +34,47 @@ text_word value = elim (name_at value) [ Ok long ↦ text_behind long value | Er
 
 -- ---- numbers
 
--- whether a byte can stand in such a block: it is no bracket, no backslash and no `@`
+-- whether a byte can stand behind the `=`: it is no `=` and no `@`, with which a line begins
 abbrev pub is_inside : ℕ → Bool
-is_inside byte = is_plain byte && not (byte == 64)
+is_inside byte = not (byte == 61 || byte == 64)
 
--- the block of a definition, with a `:` for its first `=`, if it has one
+-- the block of a definition, with a `:` for its `=`, if it has one
+abbrev pub block_of : List ℕ → List ℕ → Option (List ℕ)
+block_of head tail = if list_all is_inside tail then Some (head ++ 58 ∷ tail) else None
+
 abbrev pub block_at : Option ℕ → List ℕ → Option (List ℕ)
 block_at None definition = None
-block_at (Some at) definition = Some (take at definition ++ 58 ∷ drop (at + 1) definition)
+block_at (Some at) definition = block_of (take at definition) (drop (at + 1) definition)
 
 abbrev pub block_in : List ℕ → Option (List ℕ)
 block_in definition = block_at (position_from (λ byte. byte == 61) 0 definition) definition
 
--- the number of a block that gives a name the value of an expression
-abbrev pub of_expression : Option (List ℕ) → Option Term → Format → Word
-of_expression (Some name) (Some term) format = number name format term
-of_expression (Some name) None format = bad
-of_expression None term format = bad
+-- the number of an expression under a name, if it has a format
+abbrev pub in_format : List ℕ → Term → Option Format → Word
+in_format name term None = bad
+in_format name term (Some format) = number name format term
 
-abbrev pub of_item : Item → Word
-of_item (numeric num format) = of_expression num.defines num.expr format
-of_item (plain bytes) = bad
-of_item (regex tree) = bad
-of_item (define name tree) = bad
-of_item (recall name) = bad
+-- what is said where a name, an expression and a format were found
+abbrev pub said_by : Option Named → Result (Option Term) NumFault → Option Format → Word
+said_by (Some named) (Ok (Some term)) format = in_format named.name term format
+said_by (Some named) (Ok None) format = bad
+said_by (Some named) (Err fault) format = bad
+said_by None expr format = bad
 
-abbrev pub of_read : Result (Item × Said) PatFault → Word
-of_read (Ok read) = of_item read.0
-of_read (Err fault) = bad
+abbrev pub said_in : (List ℕ → Option Format) → Reading → Word
+said_in known read = said_by read.defines read.expr (word_format known read.format read.uses)
 
--- what a block says where these formats are known
-abbrev pub of_block : (List ℕ → Option Format) → Option (List ℕ) → Word
-of_block known None = bad
-of_block known (Some block) =
-    if list_all is_inside block && nat_le (length block + 5) 65536
-    then of_read (number_of known nothing_said 3 (reading block))
-    else bad
+-- what a definition says where these formats are known
+abbrev pub number_in : (List ℕ → Option Format) → Option (List ℕ) → Word
+number_in known None = bad
+number_in known (Some block) = said_in known (reading block)
+
+abbrev pub number_word : (List ℕ → Option Format) → List ℕ → Word
+number_word known definition = number_in known (block_in definition)
 
 -- what a value says where these formats are known
 abbrev pub word_of : (List ℕ → Option Format) → List ℕ → Word
-word_of known value = if begins 35 value then of_block known (block_in (drop 1 value)) else text_word value
+word_of known value = if begins 35 value then number_word known (drop 1 value) else text_word value
 
 -- the formats that are known behind a word
 abbrev pub known_with : FinMap name_cmp Format → Word → FinMap name_cmp Format

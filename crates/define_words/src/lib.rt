@@ -3,6 +3,7 @@
 #![tactic(auto)]
 
 mod defined;
+mod format;
 mod laws;
 mod start;
 mod word;

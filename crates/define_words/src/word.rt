@@ -1,20 +1,17 @@
 //! What a word of the command line defines.
-ghost use Rattle.std.specs.Prelude.{◌≡◌, ◌≤◌, ◌<◌, ◌==◌, ◌+◌, ◌++◌, ◌∷◌, [], IfOk, IfSome, Ok, Some, codes, length, true};
+ghost use Rattle.std.specs.Prelude.{◌≡◌, ◌≤◌, ◌<◌, ◌==◌, IfOk, IfSome, length};
 ghost use Rattle.std.specs.FinMap as map;
 ghost use Rattle.std.specs.List.{list_all, position_from};
 ghost use Rattle.num_base.specs.Term.{term_of};
-ghost use Rattle.num_exprs.specs.Block.{block_of, reading};
-ghost use Rattle.pattern_parse.specs.Block.{number_of};
-ghost use Rattle.pattern_parse.specs.PieceView.{items_view};
-ghost use Rattle.pattern_parse.specs.Pieces.{nothing_said};
+ghost use Rattle.num_exprs.specs.Block.{reading};
 ghost use Rattle.define_words.specs.View.{word_view};
-ghost use Rattle.define_words.specs.Format.{HasName, body_of, first_format, format_read, known_format};
-ghost use Rattle.define_words.specs.Word.{block_in, is_inside, known_with, of_block, text_behind, text_word, word_of};
+ghost use Rattle.define_words.specs.Word.{block_in, block_of, in_format, is_inside, known_with, number_word, said_in, text_behind, text_word, word_of};
 
+use crate::format::word_format;
 use num_base::{Expr, Format};
-use num_exprs::{NumBlock, NumFail, name_at, parse_block};
+use num_exprs::{BlockReading, name_at, read_block};
 use num_spell::{begins, behind};
-use pattern_parse::{Formats, Frame, Kind, MAX_BODY, PatFail, Piece, parse_pattern};
+use pattern_parse::Formats;
 use std::alloc::Global;
 use tt_base::{Bytes, NoMemory};
 
@@ -51,10 +48,7 @@ pub(crate) fn says_of(alloc: Global, known: &mut Formats, value: &[u8]) -> Resul
     if !begins(value, b'#') {
         return text_says(alloc, value);
     }
-    match block_in(alloc, behind(value, 1))? {
-        Some(block) => block_says(alloc, known, block.as_slice()),
-        None => Ok(Says::Nothing),
-    }
+    number_says(alloc, known, behind(value, 1))
 }
 
 // ---- texts
@@ -93,103 +87,82 @@ fn sign_at(definition: &[u8]) -> Option<usize>
     definition.iter().position(|byte| *byte == b'=')
 }
 
-/// The block of a definition, with a `:` for its first `=`.
+/// Whether bytes can stand behind the `=`.
+fn are_inside(tail: &[u8]) -> bool
+    ensures { result ≡ list_all is_inside tail.now }
+{
+    tail.iter().all(|byte| !matches!(*byte, b'=' | b'@'))
+}
+
+/// The block of a definition, with a `:` for its `=`.
 fn block_in(alloc: Global, definition: &[u8]) -> Result<Option<Bytes>, NoMemory>
     ensures { IfOk result (λ block. block ≡ block_in definition.now) }
 {
     match sign_at(definition) {
-        Some(at) => {
-            let mut block = Bytes::from_slice(alloc, definition.split_at(at).0)?;
-            block.append(b":")?;
-            block.append(behind(definition, at + 1))?;
-            Ok(Some(block))
-        }
+        Some(at) => block_of(alloc, definition.split_at(at).0, behind(definition, at + 1)),
         None => Ok(None),
     }
 }
 
-/// Whether bytes can stand in a block.
-fn are_inside(block: &[u8]) -> bool
-    ensures { result ≡ list_all is_inside block.now }
+/// The block of what stands before an `=` and behind it.
+fn block_of(alloc: Global, head: &[u8], tail: &[u8]) -> Result<Option<Bytes>, NoMemory>
+    ensures { IfOk result (λ block. block ≡ block_of head.now tail.now) }
 {
-    block
-        .iter()
-        .all(|byte| !matches!(*byte, b'[' | b'\\' | b']' | b'@'))
+    if !are_inside(tail) {
+        return Ok(None);
+    }
+    let mut block = Bytes::from_slice(alloc, head)?;
+    block.append(b":")?;
+    block.append(tail)?;
+    Ok(Some(block))
 }
 
-/// What a block says.
-#[tactic(auto, using(crate::proofs::BlockLemmas::word_here, crate::proofs::BlockLemmas::no_name, crate::proofs::BlockLemmas::no_expression, crate::proofs::BlockLemmas::no_number))]
-fn block_says(alloc: Global, known: &mut Formats, block: &[u8]) -> Result<Says, NoMemory>
-    ensures says { IfOk result (λ says. word_view says ≡ of_block (map.get known.old) (Some block.now)) }
+/// What a definition says, as `%x,N=3`.
+fn number_says(alloc: Global, known: &mut Formats, definition: &[u8]) -> Result<Says, NoMemory>
+    ensures says { IfOk result (λ says. word_view says ≡ number_word (map.get known.old) definition.now) }
     ensures known { IfOk result (λ says. known.new ≡ known_with known.old (word_view says)) }
 {
-    if !are_inside(block) || block.len() > MAX_BODY - 5 {
-        return Ok(Says::Nothing);
-    }
-    match parse_block(alloc, block) {
-        Ok(NumBlock { defines, expr, .. }) => match (defines, expr) {
-            (Some(name), Some(expr)) => match format_known(alloc, known, block, name.as_slice())? {
-                Some(format) => Ok(Says::Number { name, format, expr }),
-                None => Ok(Says::Nothing),
-            },
-            (Some(_), None) => Ok(Says::Nothing),
-            (None, _) => Ok(Says::Nothing),
-        },
-        Err(NumFail::Bad { .. }) => Ok(Says::Nothing),
-        Err(NumFail::NoMemory) => Err(NoMemory),
+    match block_in(alloc, definition)? {
+        Some(block) => block_says(alloc, known, block.as_slice()),
+        None => Ok(Says::Nothing),
     }
 }
 
-/// The format of the number that a block defines, from then on known. There is none where the block is refused.
-fn format_known(
-    alloc: Global,
+/// What the block of a definition says.
+fn block_says(alloc: Global, known: &mut Formats, block: &[u8]) -> Result<Says, NoMemory>
+    ensures says { IfOk result (λ says. word_view says ≡ said_in (map.get known.old) (reading block.now)) }
+    ensures known { IfOk result (λ says. known.new ≡ known_with known.old (word_view says)) }
+{
+    let BlockReading {
+        format: written,
+        defines,
+        uses,
+        expr,
+    } = read_block(alloc, block)?;
+    let format = word_format(known, written, uses.as_slice());
+    match (defines, expr) {
+        (Some(named), Ok(Some(expr))) => number_says_in(known, named.name, format, expr),
+        (Some(_), Ok(None)) => Ok(Says::Nothing),
+        (Some(_), Err(_)) => Ok(Says::Nothing),
+        (None, _) => Ok(Says::Nothing),
+    }
+}
+
+/// The number of an expression under a name, if it has a format, which is known from then on.
+fn number_says_in(
     known: &mut Formats,
-    block: &[u8],
-    name: &[u8],
-) -> Result<Option<Format>, NoMemory>
-    requires inside { list_all is_inside block.now ≡ true }
-    requires short { length block.now + 5 ≤ 65536 }
-    requires named { HasName name.now (block_of (reading block.now)) }
-    ensures value { IfOk result (λ format. format
-        ≡ format_read (number_of (map.get known.old) nothing_said 3 (reading block.now))) }
-    ensures known { IfOk result (λ format. known.new ≡ known_format known.old name.now format) }
+    name: Bytes,
+    format: Option<Format>,
+    expr: Expr,
+) -> Result<Says, NoMemory>
+    ensures says { IfOk result (λ says. word_view says ≡ in_format name (term_of expr) format) }
+    ensures known { IfOk result (λ says. known.new ≡ known_with known.old (word_view says)) }
 {
-    let body = body_of(alloc, block)?;
-    match parse_pattern(
-        alloc,
-        body.as_slice(),
-        Kind::Plain,
-        false,
-        false,
-        Frame::Open,
-        known,
-    ) {
-        Ok(pattern) => Ok(first_format(pattern.pieces.as_slice())),
-        Err(PatFail::Bad(_)) => Ok(None),
-        Err(PatFail::NoMemory) => Err(NoMemory),
-    }
-}
-
-/// The body that is one block.
-fn body_of(alloc: Global, block: &[u8]) -> Result<Bytes, NoMemory>
-    ensures { IfOk result (λ body. body ≡ body_of block.now) }
-{
-    let mut body = Bytes::from_slice(alloc, b"[[#")?;
-    body.append(block)?;
-    body.append(b"]]")?;
-    Ok(body)
-}
-
-/// The format of the first piece, if it is a number.
-fn first_format(pieces: &[Piece]) -> Option<Format>
-    ensures { result ≡ first_format (items_view pieces.now) }
-{
-    match pieces.first() {
-        Some(Piece::Num { format, .. }) => Some(*format),
-        Some(Piece::Plain(_)) => None,
-        Some(Piece::Regex(_)) => None,
-        Some(Piece::Define { .. }) => None,
-        Some(Piece::Recall { .. }) => None,
-        None => None,
+    match format {
+        Some(format) => {
+            known.put(name.as_slice(), format)?;
+            Ok(Says::Number { name, format, expr })
+        }
+        None => Ok(Says::Nothing),
     }
 }

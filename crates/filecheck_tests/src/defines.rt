@@ -24,7 +24,9 @@ const KINDS: &str = "#%x,N=1 => Some(LowerHex)
 #%x,N=1|#%X,N=2 => Some(UpperHex)
 1|#%x,N=M => Some(LowerHex)
 #N=1 => Some(Unsigned)
-#%x,N=|#%x,N=@LINE|N=1 => None";
+#%x,N=1|#N=N+1 => Some(LowerHex)
+#%x,N=1|#N===3 => Some(LowerHex)
+#%x,N=|#%x,N=@LINE|#%x,N===1|N=1 => None";
 
 /// Whether `N` has the kind of format that a row says.
 fn has_its_kind(alloc: Global, row: &str) -> Result<bool, Fail> {

@@ -1,5 +1,5 @@
-use Rattle.define_words.proofs.LawLemmas.{block_is_body, refused_is_first}
+use Rattle.define_words.proofs.LawLemmas.{format_is_of_blocks, refused_is_first}
 use Rattle.define_words.proofs.laws.law_of_defines.Goals as goal
 
 pub returns : goal.returns
-returns c = record { body = block_is_body; first = refused_is_first }
+returns c = record { format = format_is_of_blocks; first = refused_is_first }
