@@ -9,7 +9,7 @@ use Rattle.std.specs.Option.{option_map}
 use Rattle.std.specs.Ordering.{is_lt, ordering_reverse}
 use Rattle.std.specs.declared.cmp.Ordering.{Ordering}
 use Rattle.std.specs.declared.cmp.Ordering.TheVariants.{Less, Equal, Greater}
-use Rattle.ere_hit.specs.Value.{Alike, LiesIn, ValueIsHit, ValueIsOne, ValueLies, best, best_of, first_found, found_at, is_preferred, told}
+use Rattle.ere_hit.specs.Value.{Alike, HitIsValue, IsSame, LiesIn, ValueIsHit, ValueIsOne, ValueLies, best, best_of, first_found, found_at, hit_in, is_preferred, told}
 use Rattle.ere_slow.specs.Listing.{Found, all_ways}
 use Rattle.ere_slow.proofs.ListingLemmas.{all_ways-sound, all_ways-complete}
 use Rattle.ere_slow.proofs.MembershipLemmas.{IsIn, IsIn-append_left, IsIn-append_right, IsIn-append_cases}
@@ -193,6 +193,24 @@ alike text t from (Some hit) (Some p) finds is =
 
 pub value_is_one : ValueIsOne
 value_is_one text t from hit finds = alike text t from hit _ finds (all_is (drop from text) t)
+
+-- hits that end at or behind their starts are equal where they are the same
+one_hit : (from : ℕ) (a b : Hit) → a.from ≤ a.to → b.from ≤ b.to → IsSame from a b → a ≡ b
+one_hit from a b first second same =
+    let ends : a.to ≡ b.to = omega (arith, first, second, same.start, same.count) in
+    λ i. record { from = same.start i; to = ends i; groups = same.groups i }
+
+equal : (text : List ℕ) (t : Tree) (from : ℕ) (a b : Option Hit) → FindsHit text t from a → FindsHit text t from b
+    → Alike from a b → a ≡ b
+equal text t from None None first second same = refl
+equal text t from None (Some b) first second same = absurd same
+equal text t from (Some a) None first second same = absurd same
+equal text t from (Some a) (Some b) first second same =
+    ap Some (one_hit from a b first.ordered second.ordered same)
+
+pub hit_is_value : HitIsValue
+hit_is_value text t from hit finds =
+    equal text t from hit (hit_in text t from) finds (value_is_hit text t from) (value_is_one text t from hit finds)
 
 lies : (text : List ℕ) (t : Tree) (from : ℕ) (o : Option (ℕ × Found)) → from ≤ length text
     → Answers (drop from text) t (length (drop from text) + 1) o

@@ -48,8 +48,8 @@ hit_in text t from = option_map (told t from) (first_found (drop from text) t (l
 abbrev pub ValueIsHit : Type 0
 ValueIsHit = (text : List ℕ) (t : Tree) (from : ℕ) → FindsHit text t from (hit_in text t from)
 
--- Two hits of the slice from an offset have the same start, length and groups. Of an empty hit at the slice's start the
--- first one's end may lie before it.
+-- Start, length and groups of two hits are the same, and the second ends where the first does or before. No hit ends before it
+-- starts, so the two are one, which `HitIsValue` says; this is what is carried on where nothing is known of their ends.
 pub record IsSame (from : ℕ) (a b : Hit) : Type 0 where
   pub start : a.from ≡ b.from
   pub count : a.to - a.from ≡ b.to - b.from
@@ -67,6 +67,10 @@ abbrev pub ValueIsOne : Type 0
 ValueIsOne =
     (text : List ℕ) (t : Tree) (from : ℕ) (hit : Option Hit) → FindsHit text t from hit
     → Alike from hit (hit_in text t from)
+
+-- Law: each hit is the value itself.
+abbrev pub HitIsValue : Type 0
+HitIsValue = (text : List ℕ) (t : Tree) (from : ℕ) (hit : Option Hit) → FindsHit text t from hit → hit ≡ hit_in text t from
 
 -- A hit lies in its slice.
 pub record LiesIn (from to : ℕ) (hit : Hit) : Type 0 where
