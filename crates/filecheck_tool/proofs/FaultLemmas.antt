@@ -86,24 +86,24 @@ file_later files limit name Failed is = inr is.0
 
 made_later : (files : Files) (limit : ℕ) (start : Start) (made : Option ℕ) (file : Reading)
     → ReadOrMade files limit start made file → IsLater files.before files.now
-made_later files limit start (Some count) file is = inl is.0
+made_later files limit start (Some count) file is = inl is.0.0
 made_later files limit start None file is = file_later files limit start.asked.name file is
 
 program_later : (files : Files) (limit : ℕ) (job : Result Job WordsFault) (program : Result Program Stop)
     → ProgramFrom files limit job program → IsLater files.before files.now
-program_later files limit (Err fault) program from = inl from.0
+program_later files limit (Err fault) program from = inl from.0.0
 program_later files limit (Ok job) program (file, read, is) =
     made_later files limit (start_of job) (start_of job).made file read
 
 input_later : (files : Files) (input : Source) (limit : ℕ) (made : Option ℕ) (place : Input) (read : Reading)
     → InputRead files input limit made place read → IsLater files.before files.now
-input_later files input limit (Some count) place read is = inl is.0
-input_later files input limit None Standard read is = inl is.0
+input_later files input limit (Some count) place read is = inl is.0.0
+input_later files input limit None Standard read is = inl is.0.0
 input_later files input limit None (Named name) read is = file_later files limit name read is.1
 
 outcome_later : (files : Files) (input : Source) (limit : ℕ) (program : Result Program Stop) (outcome : Result Report Stop)
     → OutcomeFrom files input limit program outcome → IsLater files.before files.now
-outcome_later files input limit (Err stop) outcome from = inl from.0
+outcome_later files input limit (Err stop) outcome from = inl from.0.0
 outcome_later files input limit (Ok program) outcome (read, is, same) =
     input_later files input limit program.file.made program.file.asked.input read is
 
@@ -118,15 +118,22 @@ IsFailed Failed = ⊤
 failed_is_not_whole : (bytes : List ℕ) → Failed ≡ Whole bytes → ⊥
 failed_is_not_whole bytes same = subst IsFailed same tt
 
+-- a call on files failed, which counted it and aren't steady; and one on the input
+abbrev FilesFailed : Files → Type 0
+FilesFailed files = Rose files.before files.now × (files.steady → ⊥)
+
+abbrev InputFailed : Source → Type 0
+InputFailed input = Rose input.before input.now × (input.steady → ⊥)
+
 -- a check file that could not be read was a file
 failed_checks : (files : Files) (limit : ℕ) (start : Start) (made : Option ℕ) → ReadOrMade files limit start made Failed
-    → Rose files.before files.now
+    → FilesFailed files
 failed_checks files limit start (Some count) (rests, same) = absurd (failed_is_not_whole (checks_text count) same)
-failed_checks files limit start None is = is.0
+failed_checks files limit start None is = is
 
 -- where a program stops at a fault, the files counted it
 fault_of_files : (files : Files) (limit : ℕ) (job : Result Job WordsFault) (program : Result Program Stop)
-    → ProgramFrom files limit job program → IsFault program → Rose files.before files.now
+    → ProgramFrom files limit job program → IsFault program → FilesFailed files
 fault_of_files files limit (Err fault) program from is = absurd (subst IsFault from.1 is)
 fault_of_files files limit (Ok job) program (Whole bytes, read, leads) is =
     absurd (leads_calm (check_file_in (start_of job) (canon (start_of job).asked.strict bytes)) IsCompiledTo program
@@ -142,16 +149,16 @@ whole_is_none program bytes =
     (λ input. Ok (verdict program (length input) (canon program.file.asked.strict input))) (λ input is. is)
 
 failed_input : (files : Files) (input : Source) (limit : ℕ) (made : Option ℕ) (place : Input)
-    → InputRead files input limit made place Failed → Rose files.before files.now ⊎ Rose input.before input.now
+    → InputRead files input limit made place Failed → FilesFailed files ⊎ InputFailed input
 failed_input files input limit (Some count) place (rests, rest, same) =
     absurd (failed_is_not_whole (input_text count) same)
-failed_input files input limit None Standard is = inr is.1.0
-failed_input files input limit None (Named name) is = inl is.1.0
+failed_input files input limit None Standard is = inr is.1
+failed_input files input limit None (Named name) is = inl is.1
 
 -- where the outcome is a fault, the files or the input counted it, or the program was one
 fault_of_input : (files : Files) (input : Source) (limit : ℕ) (program : Result Program Stop) (outcome : Result Report Stop)
     → OutcomeFrom files input limit program outcome → IsFault outcome
-    → IsFault program ⊎ Rose files.before files.now ⊎ Rose input.before input.now
+    → IsFault program ⊎ FilesFailed files ⊎ InputFailed input
 fault_of_input files input limit (Err (Refused refusal)) outcome from is = absurd (subst IsFault from.2 is)
 fault_of_input files input limit (Err (NotReadable name)) outcome from is = inl tt
 fault_of_input files input limit (Ok program) outcome (Whole bytes, read, same) is =
@@ -189,17 +196,30 @@ module _ (first_files last_files : Files) (limit : ℕ) (job : Result Job WordsF
       then_rose first_files.before last_files.before last_files.now
       (subst (λ n. IsLater first_files.before n) joint (program_later first_files limit job program from)) rose
 
-  by_reading : IsFault program ⊎ Rose last_files.before last_files.now ⊎ Rose input.before input.now
+  by_reading : IsFault program ⊎ FilesFailed last_files ⊎ InputFailed input
       → Rose first_files.before last_files.now ⊎ Rose input.before input.now
-  by_reading (inl fault) = inl (in_first (fault_of_files first_files limit job program from fault))
-  by_reading (inr (inl rose)) = inl (in_last rose)
-  by_reading (inr (inr rose)) = inr rose
+  by_reading (inl fault) = inl (in_first (fault_of_files first_files limit job program from fault).0)
+  by_reading (inr (inl failed)) = inl (in_last failed.0)
+  by_reading (inr (inr failed)) = inr failed.0
+
+  -- and not where all are steady
+  none_by_reading : first_files.steady → last_files.steady → input.steady
+      → IsFault program ⊎ FilesFailed last_files ⊎ InputFailed input → ⊥
+  none_by_reading first last steady (inl fault) = (fault_of_files first_files limit job program from fault).1 first
+  none_by_reading first last steady (inr (inl failed)) = failed.1 last
+  none_by_reading first last steady (inr (inr failed)) = failed.1 steady
 
   -- an answer of status 3 comes of a fault that was counted
   pub fault_of_answer : (answer : Answer) → answer ≡ answer_to outcome → answer.status ≡ 3
       → Rose first_files.before last_files.now ⊎ Rose input.before input.now
   fault_of_answer answer same is =
       by_reading (fault_of_input last_files input most program outcome read
+      (answers_fault outcome (sym (ap (λ a. a.status) same) ∙ is)))
+
+  pub calm_of_answer : first_files.steady → last_files.steady → input.steady → (answer : Answer)
+      → answer ≡ answer_to outcome → answer.status ≡ 3 → ⊥
+  calm_of_answer first last steady answer same is =
+      none_by_reading first last steady (fault_of_input last_files input most program outcome read
       (answers_fault outcome (sym (ap (λ a. a.status) same) ∙ is)))
 
 wider : {A B C : Type 0} → A ⊎ B → A ⊎ B ⊎ C
@@ -213,3 +233,14 @@ pub fault_of_run : {A B : Type 0} (message : List ℕ) (answer : Answer) (status
 fault_of_run message answer status out err counted (inl (taken, inl told)) is = wider (counted (sym told.0 ∙ is))
 fault_of_run message answer status out err counted (inl (taken, inr stopped)) is = inr (inr (inr stopped.1.1))
 fault_of_run message answer status out err counted (inr stopped) is = inr (inr (inl stopped.1.1))
+
+-- where the answer isn't of status 3, that of a run comes of a stream
+streams_alone : {A B : Type 0} → ⊥ ⊎ ⊥ ⊎ A ⊎ B → A ⊎ B
+streams_alone (inl none) = absurd none
+streams_alone (inr (inl none)) = absurd none
+streams_alone (inr (inr either)) = either
+
+pub fault_of_streams : (message : List ℕ) (answer : Answer) (status : ℕ) (out err : Stream) → (answer.status ≡ 3 → ⊥)
+    → Written message answer status out err → status ≡ 3 → Rose out.before out.now ⊎ Rose err.before err.now
+fault_of_streams message answer status out err none written is =
+    streams_alone (fault_of_run message answer status out err (λ three. inl (none three)) written is)

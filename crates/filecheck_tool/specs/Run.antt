@@ -1,13 +1,13 @@
 -- What a run of filecheck does to the objects that it is given.
 -- Own rule: the check file is read where the words are accepted, and the input where the check file was accepted; with
 -- --generate both are made, and nothing is read.
-use Rattle.std.specs.Prelude.{◌≡◌, ℕ, Option, Some, None, Result, Ok, Err}
+use Rattle.std.specs.Prelude.{◌≡◌, ℕ, List, Option, Some, None, Result, Ok, Err}
 use Rattle.filecheck_words.specs.declared.checking.Input.{Input}
 use Rattle.filecheck_words.specs.declared.checking.Input.TheVariants.{Standard, Named}
 use Rattle.filecheck_words.specs.declared.fault.WordsFault.{WordsFault}
 use Rattle.filecheck_words.specs.declared.job.Job.{Job}
 use Rattle.generator.specs.Generated.{checks_text, input_text}
-use Rattle.tt_run.specs.Run.{Files, FileRead, FilesRest, Source, SourceRead, SourceRests}
+use Rattle.tt_run.specs.Run.{Files, FileRead, FilesRest, Source, SourceRead, SourceRests, StaysSteady}
 use Rattle.tt_run.specs.declared.reading.Reading.{Reading}
 use Rattle.tt_run.specs.declared.reading.Reading.TheVariants.{Whole}
 use Rattle.filecheck_tool.specs.Program.{IsProgram}
@@ -19,6 +19,14 @@ use Rattle.filecheck_messages.specs.declared.refusal.Stop.{Stop}
 use Rattle.filecheck_messages.specs.declared.refusal.Stop.TheVariants.{Refused}
 use Rattle.filecheck_messages.specs.declared.report.Report.{Report}
 use Rattle.filecheck_tool.specs.declared.start.Start.{Start}
+
+-- files behind a run hold what they held, and are steady where they were
+abbrev pub IsKept : {F : Type 0} → (F → Option (List ℕ → Option (List ℕ))) → (F → Type 0) → F → F → Type 0
+IsKept held steady old new = (held new ≡ held old) × StaysSteady steady old new
+
+-- nobody touched the files and the input
+abbrev pub AreUnread : {F I : Type 0} → F → F → I → I → Type 0
+AreUnread files later input rest = (later ≡ files) × (rest ≡ input)
 
 -- reading the check file gave this, or this one was made
 abbrev pub ReadOrMade : Files → ℕ → Start → Option ℕ → Reading → Type 0

@@ -1,5 +1,5 @@
 //! The top call.
-ghost use Rattle.std.specs.Prelude.{◌≡◌, ◌⊎◌, ◌≤◌, ◌<◌, ◌≢◌, ◌+◌, ◌^◌, true, IfOk, List, Result};
+ghost use Rattle.std.specs.Prelude.{◌≡◌, ◌⊎◌, ◌≤◌, ◌<◌, ◌≢◌, ◌+◌, ◌^◌, true, IfOk, IsErr, List, Result};
 ghost use Rattle.tt_outside.specs.Faults.{Rose};
 ghost use Rattle.tt_outside.specs.Transfer.{TakesAtMost};
 ghost use Rattle.tt_run.specs.Run.{Told, Written, files, source, stream};
@@ -9,7 +9,7 @@ ghost use Rattle.tt_run.specs.Run.{FileRead, IsShort};
 ghost use Rattle.filecheck_messages.specs.Answer.{answer_to};
 ghost use Rattle.filecheck_messages.specs.Message.{cannot_write, out_of_memory};
 ghost use Rattle.filecheck_tool.specs.Program.{IsSound, IsSoundFile};
-ghost use Rattle.filecheck_tool.specs.Run.{ChecksRead, InputRead, OutcomeFrom, ProgramFrom};
+ghost use Rattle.filecheck_tool.specs.Run.{AreUnread, ChecksRead, InputRead, IsKept, OutcomeFrom, ProgramFrom};
 ghost use Rattle.filecheck_tool.specs.Start.{IsStart};
 ghost use Rattle.filecheck_tool.specs.declared.program.Program.{Program};
 ghost use Rattle.filecheck_messages.specs.declared.refusal.Stop.{Stop};
@@ -49,7 +49,7 @@ pub fn filecheck_run<F: Files, I: Source, O: Sink, E: Sink>(
 ) -> u8
     ensures answer { result ≢ 4 → (middle : F) × (program : Result Program Stop) × (outcome : Result Report Stop)
         × ProgramFrom (files F.held F.steady F.faults from.old middle) (2 ^ 24) (asked_by (texts words.now)) program
-        × (F.held middle ≡ F.held from.old)
+        × IsKept F.held F.steady from.old middle
         × OutcomeFrom (files F.held F.steady F.faults middle from.new)
         (source I.left I.steady I.faults input.old input.new) (2 ^ 26) program outcome
         × Written cannot_write (answer_to outcome) result
@@ -58,10 +58,13 @@ pub fn filecheck_run<F: Files, I: Source, O: Sink, E: Sink>(
         ⊎ Rose (I.faults input.old) (I.faults input.new)
         ⊎ Rose (O.faults out.old) (O.faults out.new)
         ⊎ Rose (E.faults err.old) (E.faults err.new) }
+    ensures calm { F.steady from.old → I.steady input.old → result ≡ 3 →
+        Rose (O.faults out.old) (O.faults out.new) ⊎ Rose (E.faults err.old) (E.faults err.new) }
+    ensures unread { IsErr (asked_by (texts words.now)) → AreUnread from.old from.new input.old input.new }
     ensures memory { result ≡ 4 → (O.held out.new ≡ O.held out.old)
         × Told out_of_memory (stream E.held E.faults E.room err.old err.new) }
     ensures taken { TakesAtMost (I.left input.old) (I.left input.new) (2 ^ 26 + 1) }
-    ensures files_stay { F.held from.new ≡ F.held from.old }
+    ensures files_stay { IsKept F.held F.steady from.old from.new }
     ensures no_other { result ≤ 4 }
 {
     let Ok(answer) = answer_from(alloc, words, from, input) else {
@@ -79,14 +82,16 @@ fn answer_from<F: Files, I: Source>(
 ) -> Result<Answer, NoMemory>
     ensures answer { IfOk result (λ answer. (middle : F) × (program : Result Program Stop) × (outcome : Result Report Stop)
         × ProgramFrom (files F.held F.steady F.faults from.old middle) (2 ^ 24) (asked_by (texts words.now)) program
-        × (F.held middle ≡ F.held from.old)
+        × IsKept F.held F.steady from.old middle
         × OutcomeFrom (files F.held F.steady F.faults middle from.new)
         (source I.left I.steady I.faults input.old input.new) (2 ^ 26) program outcome × (answer ≡ answer_to outcome)) }
     ensures fault { IfOk result (λ answer. answer.status ≡ 3 →
         Rose (F.faults from.old) (F.faults from.new) ⊎ Rose (I.faults input.old) (I.faults input.new)) }
+    ensures calm { IfOk result (λ answer. F.steady from.old → I.steady input.old → answer.status ≢ 3) }
+    ensures unread { IsErr (asked_by (texts words.now)) → AreUnread from.old from.new input.old input.new }
     ensures small { IfOk result (λ answer. answer.status ≤ 3) }
     ensures taken { TakesAtMost (I.left input.old) (I.left input.new) (2 ^ 26 + 1) }
-    ensures files_stay { F.held from.new ≡ F.held from.old }
+    ensures files_stay { IsKept F.held F.steady from.old from.new }
 {
     let outcome = outcome_of(alloc, words, from, input)?;
     let told = answer_to(alloc, &outcome);
@@ -105,11 +110,12 @@ fn outcome_of<F: Files, I: Source>(
 ) -> Result<Result<Report, Stop>, NoMemory>
     ensures value { IfOk result (λ outcome. (middle : F) × (program : Result Program Stop)
         × ProgramFrom (files F.held F.steady F.faults from.old middle) (2 ^ 24) (asked_by (texts words.now)) program
-        × (F.held middle ≡ F.held from.old)
+        × IsKept F.held F.steady from.old middle
         × OutcomeFrom (files F.held F.steady F.faults middle from.new)
         (source I.left I.steady I.faults input.old input.new) (2 ^ 26) program outcome) }
+    ensures unread { IsErr (asked_by (texts words.now)) → AreUnread from.old from.new input.old input.new }
     ensures taken { TakesAtMost (I.left input.old) (I.left input.new) (2 ^ 26 + 1) }
-    ensures files_stay { F.held from.new ≡ F.held from.old }
+    ensures files_stay { IsKept F.held F.steady from.old from.new }
 {
     let program = program_from(alloc, words, from)?;
     let outcome = outcome_from(alloc, program, from, input)?;
@@ -125,7 +131,8 @@ fn program_from<F: Files>(
     ensures value { IfOk result (ProgramFrom (files F.held F.steady F.faults from.old from.new) (2 ^ 24)
         (asked_by (texts words.now))) }
     ensures sound { IfOk result (λ program. IfOk program IsSound) }
-    ensures files_stay { F.held from.new ≡ F.held from.old }
+    ensures unread { IsErr (asked_by (texts words.now)) → from.new ≡ from.old }
+    ensures files_stay { IsKept F.held F.steady from.old from.new }
 {
     let job = match asked_by(alloc, words) {
         Ok(job) => job,
@@ -144,7 +151,7 @@ fn program_by<F: Files>(
     requires { IsSoundJob job }
     ensures value { IfOk result (ProgramFrom (files F.held F.steady F.faults from.old from.new) (2 ^ 24) (Ok job)) }
     ensures sound { IfOk result (λ program. IfOk program IsSound) }
-    ensures files_stay { F.held from.new ≡ F.held from.old }
+    ensures files_stay { IsKept F.held F.steady from.old from.new }
 {
     let start = start_of(alloc, job)?;
     let Ok(file) = read_checks(alloc, &start, from) else {
@@ -164,8 +171,9 @@ fn outcome_from<F: Files, I: Source>(
     requires { IfOk program IsSound }
     ensures value { IfOk result (OutcomeFrom (files F.held F.steady F.faults from.old from.new)
         (source I.left I.steady I.faults input.old input.new) (2 ^ 26) program) }
+    ensures unread { IsErr program → AreUnread from.old from.new input.old input.new }
     ensures taken { TakesAtMost (I.left input.old) (I.left input.new) (2 ^ 26 + 1) }
-    ensures files_stay { F.held from.new ≡ F.held from.old }
+    ensures files_stay { IsKept F.held F.steady from.old from.new }
 {
     match program {
         Ok(program) => {
@@ -184,7 +192,7 @@ fn read_checks<F: Files>(alloc: Global, start: &Start, from: &mut F) -> Result<R
     requires { IsStart start.now }
     ensures read { IfOk result (ChecksRead (files F.held F.steady F.faults from.old from.new) (2 ^ 24) start.now) }
     ensures short { IfOk result (IsShort (2 ^ 24)) }
-    ensures files_stay { F.held from.new ≡ F.held from.old }
+    ensures files_stay { IsKept F.held F.steady from.old from.new }
 {
     match start.made {
         Some(count) => Ok(Reading::Whole(checks_text(alloc, count)?)),
@@ -204,7 +212,7 @@ fn read_input<F: Files, I: Source>(
         (source I.left I.steady I.faults input.old input.new) (2 ^ 26) file.now.made file.now.asked.input) }
     ensures short { IfOk result (IsShort (2 ^ 26)) }
     ensures taken { TakesAtMost (I.left input.old) (I.left input.new) (2 ^ 26 + 1) }
-    ensures files_stay { F.held from.new ≡ F.held from.old }
+    ensures files_stay { IsKept F.held F.steady from.old from.new }
 {
     match file.made {
         Some(count) => Ok(Reading::Whole(input_text(alloc, count)?)),
@@ -227,7 +235,7 @@ fn read_file<F: Files>(
     requires small { limit < 2 ^ 62 }
     ensures read { IfOk result (FileRead (files F.held F.steady F.faults from.old from.new) limit name.now) }
     ensures short { IfOk result (IsShort limit) }
-    ensures files_stay { F.held from.new ≡ F.held from.old }
+    ensures files_stay { IsKept F.held F.steady from.old from.new }
 {
     match from_utf8(name) {
         Ok(name) => read_named(alloc, name, limit, from),

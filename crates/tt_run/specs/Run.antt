@@ -25,8 +25,9 @@ abbrev pub stream : {S : Type 0} → (S → Option (List ℕ)) → (S → ℕ) �
 stream held faults room old new =
     record { old = held old; new = held new; before = faults old; now = faults new; room = room old }
 
--- files: the bytes under each name, whether no call fails for certain, and the count of faults
+-- files: whether nobody touched them, the bytes under each name, whether no call fails for certain, and the count of faults
 pub record Files : Type 1 where
+  pub untouched : Type 0
   pub held : Option (List ℕ → Option (List ℕ))
   pub steady : Type 0
   pub before : ℕ
@@ -34,10 +35,11 @@ pub record Files : Type 1 where
 
 abbrev pub files : {F : Type 0} → (F → Option (List ℕ → Option (List ℕ))) → (F → Type 0) → (F → ℕ) → F → F → Files
 files held steady faults old new =
-    record { held = held old; steady = steady old; before = faults old; now = faults new }
+    record { untouched = new ≡ old; held = held old; steady = steady old; before = faults old; now = faults new }
 
--- a source: what it had and has left, whether no read fails for certain, and its count of faults
+-- a source: whether nobody touched it, what it had and has left, whether no read fails for certain, and its count of faults
 pub record Source : Type 1 where
+  pub untouched : Type 0
   pub old : Option (List ℕ)
   pub new : Option (List ℕ)
   pub steady : Type 0
@@ -45,8 +47,14 @@ pub record Source : Type 1 where
   pub now : ℕ
 
 abbrev pub source : {S : Type 0} → (S → Option (List ℕ)) → (S → Type 0) → (S → ℕ) → S → S → Source
-source left steady faults old new =
-    record { old = left old; new = left new; steady = steady old; before = faults old; now = faults new }
+source left steady faults old new = record {
+  untouched = new ≡ old;
+  old = left old;
+  new = left new;
+  steady = steady old;
+  before = faults old;
+  now = faults new;
+}
 
 -- ---- reading
 
@@ -74,12 +82,16 @@ IsShort limit Missing = ⊤
 IsShort limit TooLarge = ⊤
 IsShort limit Failed = ⊤
 
--- files and a source that were left alone
+-- files and a source that nobody touched
 abbrev pub FilesRest : Files → Type 0
-FilesRest f = f.now ≡ f.before
+FilesRest f = (f.now ≡ f.before) × f.untouched
 
 abbrev pub SourceRests : Source → Type 0
-SourceRests s = (s.new ≡ s.old) × (s.now ≡ s.before)
+SourceRests s = (s.new ≡ s.old) × (s.now ≡ s.before) × s.untouched
+
+-- what is handed on to the next call is steady where it was
+abbrev pub StaysSteady : {S : Type 0} → (S → Type 0) → S → S → Type 0
+StaysSteady steady old new = steady old → steady new
 
 -- ---- writing
 

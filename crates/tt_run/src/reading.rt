@@ -1,7 +1,7 @@
 //! What reading gave.
 ghost use Rattle.std.specs.Prelude.{◌≡◌, ◌≤◌, ◌<◌, ◌+◌, ◌^◌, IfOk, IsErr};
 ghost use Rattle.tt_outside.specs.Transfer.{TakesAtMost};
-ghost use Rattle.tt_run.specs.Run.{FileRead, IsShort, SourceRead, files, source};
+ghost use Rattle.tt_run.specs.Run.{FileRead, IsShort, SourceRead, StaysSteady, files, source};
 
 use std::alloc::Global;
 use tt_base::{Bytes, NoMemory};
@@ -32,6 +32,7 @@ pub fn read_named<F: Files>(
     ensures short { IfOk result (IsShort limit) }
     ensures calm { IsErr result → F.faults from.new ≡ F.faults from.old }
     ensures stay { F.held from.new ≡ F.held from.old }
+    ensures steady { StaysSteady F.steady from.old from.new }
 {
     match from.read_all(alloc, name, limit) {
         Ok(bytes) => Ok(Reading::Whole(bytes)),
