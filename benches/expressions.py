@@ -50,6 +50,20 @@ HOSTILE = [
 ]
 
 
+# An expression with references that stands nowhere in a line, where it has many ways to begin.
+REFERRING = [
+    ("`[[X:x]]{{(aa?)+}}[[X]]b` in an x, 42 a and a b", "[[X:x]]{{(aa?)+}}[[X]]b", 1, "x" + "a" * 42 + "b"),
+    ("`[[X:a+]][[X]]b` in 2,000 a, a blank and a b", "[[X:a+]][[X]]b", 1, "a" * 2000 + " b"),
+    ("`(a*)*\\1b` in 2,000 a", "{{(a*)*\\1b}}", 1, "a" * 2000),
+    ("`[[X:a+]][[X]]b` in 2,000 a and a b", "[[X:a+]][[X]]b", 0, "a" * 2000 + "b"),
+]
+
+
+def write_text(path, text):
+    with open(path, "w") as out:
+        out.write(text + "\n")
+
+
 def write_line(path, letter, size, end):
     """One line of letters, and what stands behind them."""
     with open(path, "w") as out:
@@ -81,6 +95,8 @@ def cases(mib):
     yield "NOT `%[[R:[a-z]+]] = %[[R]]` in 1 MiB", "CHECK-NOT: %[[R:[a-z]+]] = %[[R]]", 0, one, (0.05, None, None, None)
     yield "NOT `[[R:[a-z]+]] = [[R]]x` in 1 MiB", "CHECK-NOT: [[R:[a-z]+]] = [[R]]x", 0, one, (None, None, None, None)
     yield "NOT `[[X:%.*]] .. [[X]]` in 1 MiB", "CHECK-NOT: [[X:%.*]] .. [[X]]", 0, one, (None, None, None, None)
+    for title, body, status, text in REFERRING:
+        yield title, f"CHECK: {body}", status, lambda path, text=text: write_text(path, text), (0.01, None, None, 4)
     yield "an expression of size 98,000", "CHECK-NOT: {{((([ab]{95}c){250}){4})}}", 0, short, (0.1, None, None, 200)
     yield "16,000 sets", f"CHECK-NOT: {{{{{'[ab]' * 16000}}}}}", 0, short, (0.1, None, None, 200)
 

@@ -2,10 +2,11 @@
 -- A step is right for every slice, so it is for each that begins as the automaton was told. The hard ones are
 -- `found_more`, by which the span stays that of all matches that have ended, and `settled`, by which it is the span of
 -- the whole slice once no match that counts can end later.
-use Rattle.std.proofs.Common.{◌≡◌, ℕ, ◌+◌, ◌-◌, ◌<◌, ◌≤◌, ◌==◌, ◌||◌, ◌&&◌, Bool, true, false, IsSome, Option, Some, None, List, [], ◌∷◌, ◌++◌, length, refl, sym, ap, ◌∙◌, subst, inl, inr, arith, slice_index, slice_set, is_none, append_assoc, length-append, ne_eqb, true≢false}
+use Rattle.std.proofs.Common.{◌≡◌, ℕ, ◌+◌, ◌-◌, ◌<◌, ◌≤◌, ◌==◌, ◌||◌, ◌&&◌, Bool, true, false, IsSome, Option, Some, None, List, [], ◌∷◌, ◌++◌, suc, length, refl, sym, ap, ◌∙◌, subst, inl, inr, arith, slice_index, slice_set, is_none, append_assoc, length-append, ne_eqb, take, drop, take-append-drop, true≢false}
 use Rattle.std.proofs.Math.Bool.{and-true, and-false}
-use Rattle.std.proofs.Math.Seq.{get_or-append_seam}
-use Rattle.std.proofs.lemmas.List.{get_or-set_same, get_or-set_other, append-nil}
+use Rattle.std.proofs.Math.ListN.{get_or-append}
+use Rattle.std.proofs.Math.Seq.{drop-cons, get_or-append_seam}
+use Rattle.std.proofs.lemmas.List.{get_or-set_same, get_or-set_other, append-nil, length-take-le}
 use Rattle.std.proofs.lemmas.Bool.{cases_lt}
 use Rattle.std.proofs.lemmas.Option.{none-some}
 use Rattle.ere_tree.specs.Tree.{Tree}
@@ -195,6 +196,12 @@ stands_more a L next begun met step inside s st b shown =
           first l),
     )
 
+-- the byte at a place, with what stands before and behind it
+pub split_at : (s : List ℕ) (i : ℕ) → i < length s → take i s ++ slice_index s i ∷ drop (i + 1) s ≡ s
+split_at s i h =
+    let one : suc i ≡ i + 1 = omega arith in
+    ap (λ l. take i s ++ l) (sym (drop-cons s i 0 h ∙ ap (λ k. slice_index s i ∷ drop k s) one)) ∙ take-append-drop i s
+
 -- the byte behind a front
 shown_at : (front rest : List ℕ) (byte : ℕ) → slice_index (front ++ byte ∷ rest) (length front) ≡ byte
 shown_at front rest byte = get_or-append_seam front byte rest 0
@@ -320,22 +327,22 @@ seen_waiting a b t byte front waits seen w =
           });
     })
 
--- AT THE START
+-- WHERE NO START COUNTED YET
 
-abbrev started : State → State → State
-started a b = record b {
-  line = true;
+abbrev started : State → State → ℕ → Bool → State
+started a b at line = record b {
+  line = line;
   searching = true;
   threads = [];
-  at = 0;
+  at = at;
   best = None;
   nodes = a.nodes;
   entry = a.entry;
   kept = a.kept;
 }
 
-fresh_is : (a b : State) → Fresh a b → b ≡ started a b
-fresh_is a b f = λ i. record {
+fresh_is : (a b : State) (at : ℕ) (line : Bool) → Fresh a b at line → b ≡ started a b at line
+fresh_is a b at line f = λ i. record {
   nodes = f.nodes i;
   entry = f.entry i;
   begin = b.begin;
@@ -348,17 +355,40 @@ fresh_is a b f = λ i. record {
   kept = f.kept i;
 }
 
-pub seen_nothing : (a b : State) (t : Tree) → Fresh a b → IsFor a t → HasSeen b t []
-seen_nothing a b t f of = subst (λ x. HasSeen x t []) (sym (fresh_is a b f)) (record {
-  expression = record { leads = of.leads; steps = of.steps };
-  all = refl;
-  stands = λ rest. record {
-    stands = no_thread rest (node_at a.nodes) a.entry b.begin 0 None (slice_index b.starts) (omega arith) tt;
-    found = λ h j m l leads. absurd (omega (arith, l));
-    line = refl;
-    sought = refl;
-  };
-})
+-- whether a line starts behind a front is told by the front
+line_front : (front rest : List ℕ) → is_line_start (front ++ rest) (length front) ≡ is_line_start front (length front)
+line_front [] rest = refl
+line_front (x ∷ xs) rest =
+    ap (λ b. length (x ∷ xs) == 0 || b == 10) (get_or-append (x ∷ xs) rest 0 (length (x ∷ xs) - 1) (omega arith))
+
+seen_front : (a b : State) (t : Tree) (front : List ℕ) (line : Bool) → Fresh a b (length front) line
+    → is_line_start front (length front) ≡ line → length front ≤ b.begin → IsFor a t → HasSeen b t front
+seen_front a b t front line f starts low of =
+    subst (λ x. HasSeen x t front) (sym (fresh_is a b (length front) line f)) (record {
+      expression = record { leads = of.leads; steps = of.steps };
+      all = refl;
+      stands = λ rest. record {
+        stands =
+            no_thread (front ++ rest) (node_at a.nodes) a.entry b.begin (length front) None (slice_index b.starts) low tt;
+        found = λ h j m l leads.
+            omega (arith, m, l, low, goes_on (front ++ rest) (node_at a.nodes) leads.0 a.entry h 0 j leads.1);
+        line = line_front front rest ∙ starts;
+        sought = refl;
+      };
+    })
+
+pub seen_nothing : (a b : State) (t : Tree) → Fresh a b 0 true → IsFor a t → HasSeen b t []
+seen_nothing a b t f of = seen_front a b t [] true f refl (omega arith) of
+
+pub seen_part : (a b : State) (t : Tree) (s : List ℕ) (n : ℕ) → n ≤ length s → Fresh a b n (is_line_start s n)
+    → n ≤ b.begin → IsFor a t → HasSeen b t (take n s)
+seen_part a b t s n within f low of =
+    let long : length (take n s) ≡ n = length-take-le n s within in
+    let whole : is_line_start (take n s) (length (take n s)) ≡ is_line_start s n =
+    sym (line_front (take n s) (drop n s)) ∙ ap (λ x. is_line_start x (length (take n s))) (take-append-drop n s)
+    ∙ ap (is_line_start s) long in
+    seen_front a b t (take n s) (is_line_start s n) (subst (λ k. Fresh a b k (is_line_start s n)) (sym long) f) whole
+    (omega (arith, long, low)) of
 
 -- WHEN THE SPAN IS KNOWN
 

@@ -117,12 +117,12 @@ pub record Waits (a b : State) (byte : ℕ) : Type 0 where
   pub starts : b.starts ≡ a.starts
   pub kept : b.kept ≡ a.kept
 
--- The second state is that at a slice's start.
-pub record Fresh (a b : State) : Type 0 where
-  pub line : b.line ≡ true
+-- The second state is that of no thread behind so many bytes, where a line starts or doesn't.
+pub record Fresh (a b : State) (count : ℕ) (starts : Bool) : Type 0 where
+  pub line : b.line ≡ starts
   pub searching : b.searching ≡ true
   pub threads : b.threads ≡ []
-  pub at : b.at ≡ 0
+  pub at : b.at ≡ count
   pub best : b.best ≡ None
   pub nodes : b.nodes ≡ a.nodes
   pub entry : b.entry ≡ a.entry

@@ -1,5 +1,6 @@
 //! The automaton.
-ghost use Rattle.std.specs.Prelude.{◌≡◌, ℕ, ◌+◌, ◌<◌, ◌≤◌, ◌++◌, ◌∷◌, ◌↔◌, ◌&&◌, is_none, [], true, false, List, IsSome, IfOk, IfSome, IfNone, MatchOption, Some, length, vec_len, vec_capacity, slice_index};
+ghost use Rattle.std.specs.Prelude.{◌≡◌, ℕ, ◌+◌, ◌<◌, ◌≤◌, ◌++◌, ◌∷◌, ◌↔◌, ◌&&◌, is_none, [], true, false, List, IsSome, IfOk, IfSome, IfNone, MatchOption, Some, length, take, vec_len, vec_capacity, slice_index};
+ghost use Rattle.ere_tree.specs.Derivation.{is_line_start};
 ghost use Rattle.ere_tree.specs.Shape.{has_refs};
 ghost use Rattle.ere_tree.specs.Tree.{Tree};
 ghost use Rattle.ere_tree.specs.View.{view};
@@ -134,18 +135,47 @@ impl Auto {
     pub fn begin_at(&mut self, place: usize)
         ensures fresh { (t : Tree) → IsFor (state_of self.old) t → HasSeen (state_of self.new) t [] }
         ensures begin { self.new.begin ≡ place }
+        ensures shown { self.new.at ≡ 0 }
     {
-        self.restart();
+        self.restart(0, true);
         self.begin = place;
     }
 
-    /// The state at a slice's start.
-    fn restart(&mut self)
-        ensures { Fresh (state_of self.old) (state_of self.new) }
+    /// The state of no thread behind so many bytes, where a line starts or doesn't.
+    fn restart(&mut self, at: usize, line: bool)
+        ensures { Fresh (state_of self.old) (state_of self.new) at line }
     {
-        self.row = 0;
-        self.at = 0;
+        self.row = if line { 0 } else { 1 };
+        self.at = at;
         self.best = None;
+    }
+
+    /// Begins anew in a slice at a place, as if the bytes before it had been shown. No start before it will count.
+    fn skip_to(&mut self, slice: &[u8], place: usize)
+        requires { place ≤ length slice.now }
+        ensures seen { (t : Tree) → IsFor (state_of self.old) t → HasSeen (state_of self.new) t (take place slice.now) }
+        ensures begin { self.new.begin ≡ place }
+        ensures at { self.new.at ≡ place }
+    {
+        self.restart(place, is_line_start(slice, place));
+        self.begin = place;
+    }
+
+    /// The span in a whole slice, of those that begin at the place or behind it. Of the bytes before the place one at most
+    /// is looked at. No step is counted: it is for whoever counted the slice once.
+    pub fn span_from(&mut self, slice: &[u8], place: usize) -> Option<Cap>
+        requires { place ≤ length slice.now }
+        ensures found { (t : Tree) → IsFor (state_of self.old) t → IsSpan slice.now t place result }
+        ensures expression { (t : Tree) → IsFor (state_of self.old) t → IsFor (state_of self.new) t }
+    {
+        self.skip_to(slice, place);
+        for index in place..slice.len() {
+            if !self.show(slice[index]) {
+                return self.best;
+            }
+        }
+        self.finish();
+        self.best
     }
 
     /// Begins anew with a slice of which nothing was shown. What was made for earlier ones is kept.
@@ -338,6 +368,14 @@ impl Auto {
     {
         self.best
     }
+}
+
+/// Whether the place is the slice's start, or lies behind a newline.
+fn is_line_start(slice: &[u8], place: usize) -> bool
+    requires { place ≤ length slice.now }
+    ensures { result ≡ is_line_start slice.now place }
+{
+    place == 0 || slice[place - 1] == b'\n'
 }
 
 /// Whether a match is still sought once this thread was met.

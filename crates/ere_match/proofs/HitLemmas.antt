@@ -8,16 +8,10 @@ use Rattle.ere_tree.specs.declared.hit.Cap.{Cap}
 use Rattle.ere_auto.specs.Span.{IsFirstLongest, IsNowhere}
 use Rattle.ere_captures.specs.Best.{AreBestCaps}
 use Rattle.ere_captures.proofs.BestLemmas.{not_less}
-use Rattle.ere_match.specs.Begins.{NoneBefore}
 use Rattle.ere_tree.proofs.DerivationLemmas.{is_part}
 
 pub no_hit : (s : List ℕ) (t : Tree) → IsNowhere (Spans s t) 0 → HasNoHit s t
 no_hit s t none h k v d shows = none h k (omega arith) (v, empty, d, shows)
-
-pub no_hit_before : (s : List ℕ) (t : Tree) (place : ℕ) → NoneBefore s t place → length s < place → HasNoHit s t
-no_hit_before s t place n past h k v d shows =
-    let lies = is_part s t v h k empty d shows in
-    n.none h k (omega (arith, lies.0, lies.1, past)) (v, empty, d, shows)
 
 is_hit : (s : List ℕ) (t : Tree) (i j start : ℕ) (caps : List (Option Cap)) → IsFirstLongest (Spans s t) 0 i j
     → (best : AreBestCaps s t i j start caps) → IsHit s t i j best.captures

@@ -1,8 +1,7 @@
 -- How far an automaton was shown a slice when its answer was known, and what the answer says of the slice.
 -- Early, where the span can get no longer; at the end otherwise. Places before the first shown one begin no match.
 -- The hard one is `span_from_start`, that the span found from a later start is that of the slice.
-use Rattle.std.proofs.Common.{◌≡◌, ℕ, ◌+◌, ◌<◌, ◌≤◌, ◌∷◌, ◌++◌, Option, Some, None, List, suc, length, take, drop, refl, sym, ap, ◌∙◌, subst, inl, inr, arith, slice_index, IsSome, take-append-drop, take_all, true≢false}
-use Rattle.std.proofs.Math.Seq.{drop-cons}
+use Rattle.std.proofs.Common.{◌≡◌, ℕ, ◌+◌, ◌<◌, ◌≤◌, Option, Some, None, List, length, take, refl, sym, subst, inl, inr, arith, IsSome, take_all, true≢false}
 use Rattle.ere_tree.specs.declared.hit.Cap.{Cap}
 use Rattle.std.proofs.lemmas.Bool.{cases_lt}
 use Rattle.ere_match.specs.Begins.{NoneBefore}
@@ -12,12 +11,6 @@ use Rattle.ere_tree.specs.Tree.{Tree}
 use Rattle.ere_tree.proofs.DerivationLemmas.{is_part}
 use Rattle.ere_auto.specs.Span.{IsSpan}
 use Rattle.ere_auto.specs.Seen.{State, HasFound}
-
--- the byte at a place, with what stands before and behind it
-pub split_at : (s : List ℕ) (i : ℕ) → i < length s → take i s ++ slice_index s i ∷ drop (i + 1) s ≡ s
-split_at s i h =
-    let one : suc i ≡ i + 1 = omega arith in
-    ap (λ l. take i s ++ l) (sym (drop-cons s i 0 h ∙ ap (λ k. slice_index s i ∷ drop k s) one)) ∙ take-append-drop i s
 
 pub shown_early : (best : Option Cap) (count at shown : ℕ) → IsSome best → ((c : Cap) → best ≡ Some c → c.to ≤ at)
     → at ≤ shown → shown ≤ count + 1 → ShownFor count best shown

@@ -1,2 +1,3 @@
 pub mod Begins
+pub mod Filter
 pub mod Shown

@@ -7,12 +7,12 @@ ghost use Rattle.ere_auto.specs.Seen.{IsFor};
 ghost use Rattle.ere_auto.specs.State.{state_of};
 ghost use Rattle.ere_match.specs.Shown.{Finds, ShownForHit};
 
+use crate::filter::find_filtered;
 use crate::literal::earliest;
 use crate::span::{find_span, wait_through};
 use ere_auto::{Auto, Steps};
 use ere_captures::captures;
 use ere_one::{Walked, walk};
-use ere_slow::slow_hit;
 use ere_tree::{Cap, Ere, Hit};
 use std::alloc::Global;
 use std::sync::ledger::Ledger;
@@ -98,10 +98,8 @@ impl Search {
     }
 }
 
-/// The hit of the expression in the slice from `from` to the text's end, with offsets of the text. One with references
-/// is looked for among all its derivations, unless plain text of it stands nowhere. Whoever looks for one expression in
-/// many slices keeps a `Search`.
-#[tactic(auto, using(crate::proofs::HitLemmas::no_hit_before))]
+/// The hit of the expression in the slice from `from` to the text's end, with offsets of the text. Of one with references
+/// derivations are listed where a filter lets them begin. Whoever looks for one expression in many slices keeps a `Search`.
 pub fn find<L: Ledger>(
     alloc: Global,
     ere: &Ere,
@@ -117,14 +115,7 @@ pub fn find<L: Ledger>(
     ensures counted { steps.old ≤ steps.new }
 {
     if ere.has_refs() {
-        let rest = text.split_at(from).1;
-        if earliest(ere, rest) > rest.len() {
-            return Ok(None);
-        }
-        return match slow_hit(alloc, ere, text, from) {
-            Ok(found) => Ok(found),
-            Err(_) => Err(NoMemory),
-        };
+        return find_filtered(alloc, ere, text, from, steps);
     }
     let mut search = Search::new(alloc, ere)?;
     search.find(alloc, ere, text, from, steps)

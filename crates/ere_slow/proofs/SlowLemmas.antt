@@ -1,9 +1,10 @@
 -- What the slow program answers: its list holds all derivations, and its hit is the one of the definition.
 -- The best so far stays one to which none is preferred, since preference leads on; the hit is the best from the first
 -- place that has one. `best_changes` is the hard one.
-use Rattle.std.proofs.Common.{◌≡◌, ℕ, ◌+◌, ◌-◌, ◌^◌, Option, drop, List, [], ◌∷◌, ◌++◌, ◌<◌, length, map, refl, sym, ap, ◌∙◌, subst, inl, inr, arith}
+use Rattle.std.proofs.Common.{◌≡◌, ℕ, ◌+◌, ◌-◌, ◌^◌, MatchOption, None, Some, Option, drop, List, [], ◌∷◌, ◌++◌, ◌<◌, length, map, refl, sym, ap, ◌∙◌, subst, inl, inr, arith}
 use Rattle.std.specs.List.{All, Contains}
 use Rattle.std.proofs.lemmas.List.Elements.{All-push}
+use Rattle.std.proofs.lemmas.Bool.{cases_lt}
 use Rattle.std.specs.FinMap.{empty}
 use Rattle.std.specs.Ordering.{ordering_reverse}
 use Rattle.ere_tree.specs.Tree.{Tree}
@@ -14,7 +15,7 @@ use Rattle.ere_tree.specs.Derivation.{Way, Derives, IsPart}
 use Rattle.ere_tree.specs.Preference.{preference, IsPreferred}
 use Rattle.ere_tree.specs.Hit.{IsHit, TellsHit}
 use Rattle.ere_slow.specs.Listing.{found_of, all_ways}
-use Rattle.ere_slow.specs.Slow.{AreDerivations, AreAllDerivations, IsPreferredTo, IsMostPreferred, FitBehind}
+use Rattle.ere_slow.specs.Slow.{AreDerivations, AreAllDerivations, IsPreferredTo, IsMostPreferred, FitBehind, HasNoHitBefore}
 use Rattle.ere_slow.specs.WayView.{way_of, captures_of}
 use Rattle.ere_slow.specs.declared.slow.Derivation.{Derivation}
 use Rattle.ere_slow.proofs.MembershipLemmas.{IsIn, IsIn-append_left, IsIn-append_right, IsIn-map, map-IsIn, All-each, All-IsIn, IsIn-Contains, Contains-IsIn, IsIn-Any}
@@ -124,6 +125,24 @@ hit_here s t i ds best before are all most =
       leftmost = before;
       preferred = λ k v d h p. not_preferred s t i ds best are all most k v d h p;
     }
+
+-- no derivation begins before a place or at it
+pub none_before : (s : List ℕ) (t : Tree) (i : ℕ) → HasNoHitBefore s t i
+    → ((k : ℕ) (v : Way) (d : Captures) → Derives s t v i k empty d → ⊥) → HasNoHitBefore s t (i + 1)
+none_before s t i before here h k v d low shows = elim (cases_lt h i) [
+  | inl lower ↦ before h k v d lower shows
+  | inr upper ↦
+      let at : h ≡ i = omega arith in here k v d (subst (λ n. Derives s t v n k empty d) at shows)
+]
+
+-- the preferred of all derivations from a place is the hit, where none begins before it
+pub here_or_none : (s : List ℕ) (t : Tree) (i : ℕ) (ds : List Derivation) (best : Option Derivation) → HasNoHitBefore s t i
+    → AreDerivations s t i empty ds → AreAllDerivations s t i empty ds
+    → MatchOption best (ds ≡ []) (IsMostPreferred ds)
+    → MatchOption best (HasNoHitBefore s t (i + 1)) (λ d. IsHit s t i d.to (captures_of d.captures))
+here_or_none s t i ds None before are all most =
+    none_before s t i before (λ k v d shows. none_derives s t i empty ds all most v k d shows)
+here_or_none s t i ds (Some best) before are all most = hit_here s t i ds best before are all most
 
 -- a hit lies in its slice
 pub hit_within : (s : List ℕ) (t : Tree) (i j : ℕ) (c : Captures) → IsHit s t i j c → IsPart s i j

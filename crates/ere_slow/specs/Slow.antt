@@ -1,6 +1,6 @@
 -- What the slow program answers, in the words of the definitions.
 use Rattle.std.specs.Prelude.{◌≡◌, ℕ, List, Some, ◌+◌, ◌<◌, ◌^◌}
-use Rattle.std.specs.FinMap.{get}
+use Rattle.std.specs.FinMap.{empty, get}
 use Rattle.std.specs.List.{All, Any, Contains}
 use Rattle.ere_tree.specs.Tree.{Tree}
 use Rattle.ere_tree.specs.Captures.{Captures}
@@ -36,3 +36,7 @@ FitBehind start c = (n : ℕ) (p : ℕ × ℕ) → get c n ≡ Some p → (start
 -- no derivation of the tree begins at the place
 abbrev pub DerivesNothing : List ℕ → Tree → ℕ → Type 0
 DerivesNothing s t i = (w : Way) (j : ℕ) (c d : Captures) → Derives s t w i j c d → ⊥
+
+-- no hit of the tree in the slice begins before the place
+abbrev pub HasNoHitBefore : List ℕ → Tree → ℕ → Type 0
+HasNoHitBefore s t place = (h k : ℕ) (v : Way) (d : Captures) → h < place → Derives s t v h k empty d → ⊥

@@ -8,5 +8,5 @@ mod slow;
 mod way;
 
 pub use settings::{Setting, Settings};
-pub use slow::{Derivation, derivations, slow_hit};
+pub use slow::{Derivation, MAX_STEPS, derivations, slow_hit, slow_hit_from};
 pub use way::{OwnedStep, OwnedWay, OwnedWays};

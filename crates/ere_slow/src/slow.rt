@@ -8,7 +8,7 @@ ghost use Rattle.ere_tree.specs.View.{view, trees_in, members_of};
 ghost use Rattle.std.specs.FinMap.{empty};
 ghost use Rattle.ere_tree.specs.Captures.{cap_of, caps_of};
 ghost use Rattle.ere_tree.specs.Hit.{IsHit, HasNoHit, TellsHit, FindsHit};
-ghost use Rattle.ere_slow.specs.Slow.{AreDerivations, AreAllDerivations, IsPreferredTo, IsMostPreferred, FitBehind};
+ghost use Rattle.ere_slow.specs.Slow.{AreDerivations, AreAllDerivations, IsPreferredTo, IsMostPreferred, FitBehind, HasNoHitBefore};
 ghost use Rattle.ere_slow.specs.WayView.{captures_of};
 
 use crate::begin::may_begin;
@@ -32,6 +32,17 @@ struct Row {
     ways: OwnedWays,
     to: usize,
     captures: Settings,
+}
+
+/// How many steps the rows of one list may have together. A list of more is given up as for want of memory.
+pub const MAX_STEPS: usize = 5_000_000;
+
+/// How many steps rows have together that have as many as their last.
+fn steps_of(rows: &[Row]) -> usize {
+    match rows.last() {
+        Some(row) => rows.len().saturating_mul(row.ways.held.len()),
+        None => 0,
+    }
 }
 
 /// The bytes from `from` to `to`, as far as the text goes.
@@ -155,6 +166,9 @@ fn go_on(
     for row in rows {
         let found = ways_of(alloc, ere, text, row.to, &row.captures)?;
         put_behind(alloc, row, found, may_be_empty, &mut longer)?;
+        if steps_of(longer.as_slice()) > MAX_STEPS {
+            return Err(AllocError);
+        }
     }
     Ok(longer)
 }
@@ -224,11 +238,16 @@ fn rows_of_members(
         rows = go_on(alloc, inner, text, rows.as_slice(), true)?;
     }
     let mut all = Vec::new(alloc);
+    let mut steps: usize = 0;
     for _ in 0..more {
         if rows.is_empty() {
             return Ok(all);
         }
         let longer = go_on(alloc, inner, text, rows.as_slice(), false)?;
+        steps = steps.saturating_add(steps_of(rows.as_slice()));
+        if steps > MAX_STEPS {
+            return Err(AllocError);
+        }
         all.append(&mut rows)?;
         rows = longer;
     }
@@ -504,6 +523,24 @@ fn all_caps(
     Ok(Caps::from_vec(all))
 }
 
+/// The most preferred derivation of the expression from a place of a slice before which none begins.
+fn derived_from(
+    alloc: Global,
+    ere: &Ere,
+    slice: &[u8],
+    start: usize,
+) -> Result<Option<Derivation>, AllocError>
+    requires { HasNoHitBefore slice.now (view ere.now) start }
+    ensures { IfOk result (λ found. MatchOption found
+        (HasNoHitBefore slice.now (view ere.now) (start + 1))
+        (λ best. IsHit slice.now (view ere.now) start best.to (captures_of best.captures))) }
+{
+    if !may_begin(ere, slice, start) {
+        return Ok(None);
+    }
+    Ok(most_preferred(derivations(alloc, ere, slice, start)?))
+}
+
 /// The most preferred derivation of the expression from the first place of a slice that has one, with that place.
 fn first_derived(
     alloc: Global,
@@ -515,11 +552,8 @@ fn first_derived(
         (λ hit. IsHit slice.now (view ere.now) hit.0 hit.1.to (captures_of hit.1.captures))) }
 {
     for start in 0..slice.len() + 1 {
-        if may_begin(ere, slice, start) {
-            let found = derivations(alloc, ere, slice, start)?;
-            if let Some(best) = most_preferred(found) {
-                return Ok(Some((start, best)));
-            }
+        if let Some(best) = derived_from(alloc, ere, slice, start)? {
+            return Ok(Some((start, best)));
         }
     }
     Ok(None)
@@ -569,5 +603,26 @@ pub fn slow_hit(
     match first_derived(alloc, ere, slice)? {
         None => Ok(None),
         Some((start, best)) => Ok(Some(raised(alloc, ere, slice, from, start, &best)?)),
+    }
+}
+
+/// The hit of the expression in the slice of the text from `from` on, as `slow_hit` tells it, where it begins at the place
+/// `start` of that slice, and none begins before it.
+pub fn slow_hit_from(
+    alloc: Global,
+    ere: &Ere,
+    text: &[u8],
+    from: usize,
+    start: usize,
+) -> Result<Option<Hit>, AllocError>
+    requires before { HasNoHitBefore (drop from text.now) (view ere.now) start }
+    ensures hit { IfOk result (λ found. MatchOption found
+        (HasNoHitBefore (drop from text.now) (view ere.now) (start + 1))
+        (TellsHit text.now (view ere.now) from)) }
+{
+    let slice = behind(text, from);
+    match derived_from(alloc, ere, slice, start)? {
+        None => Ok(None),
+        Some(best) => Ok(Some(raised(alloc, ere, slice, from, start, &best)?)),
     }
 }

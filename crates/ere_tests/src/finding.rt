@@ -1,7 +1,7 @@
 //! Hits with their captures: rows by hand, and small expressions beside the list of all derivations.
 ghost use Rattle.std.specs.Prelude.{◌≡◌, ◌<◌, ◌≤◌, length};
 
-use crate::rows::{bytes_of, four};
+use crate::rows::{bytes_of, four, three};
 use crate::shown::{are_same, in_words};
 use ere_auto::Steps;
 use ere_match::find;
@@ -30,7 +30,12 @@ fn found_by<L: Ledger>(
 }
 
 /// The hit in the text from `from` on. A place behind the text counts as want of memory.
-fn found(alloc: Global, ere: &Ere, text: &[u8], from: usize) -> Result<Option<Hit>, AllocError> {
+pub(crate) fn found(
+    alloc: Global,
+    ere: &Ere,
+    text: &[u8],
+    from: usize,
+) -> Result<Option<Hit>, AllocError> {
     if from > text.len() {
         return Err(AllocError);
     }
@@ -67,13 +72,67 @@ b|abc|a => abcd => 0 => 0-3
 a*b => aaaaaaaa => 0 => none
 x((a*)(a*))b\3 => xaabaa => 0 => 0-6 1-3 1-1 1-3
 (a)|(b)\1 => b => 0 => none
-(a|ab)(b*)\2c => abbc => 0 => 0-4 0-1 1-2";
+(a|ab)(b*)\2c => abbc => 0 => 0-4 0-1 1-2
+(a+)\1c => aabaac => 0 => 3-6 3-4
+(a|b)\1 => ab => 0 => none";
 
 #[test]
 fn groups_hold_what_the_preferred_way_sets(rt: HostRuntime) -> Result<(), AllocError> {
     for row in HITS.lines() {
         assert!(rt; is_found(rt.alloc(), row)?, "{row}");
     }
+    Ok(())
+}
+
+/// The same of expressions that have to be tried behind the first place at which one without references would match: in
+/// a line, at a line's start, at the start of a line that begins there, and in a slice of the text.
+const BEHIND: &str = r"([ab])\1 => abb => 0 => 1-3 1-2
+^([ab])\1 => ab~bb => 0 => 3-5 3-4
+^((a*)b)?\2$ => ~aba => 0 => 1-4 1-3 1-2
+([ab])\1 => xaabb => 2 => 3-5 3-4";
+
+#[test]
+fn a_reference_may_match_behind_the_first_place(rt: HostRuntime) -> Result<(), AllocError> {
+    for row in BEHIND.lines() {
+        assert!(rt; is_found(rt.alloc(), row)?, "{row}");
+    }
+    Ok(())
+}
+
+/// Whether an expression is found nowhere in so many of a letter between two texts.
+fn is_nowhere(alloc: Global, row: &str, count: usize) -> Result<bool, AllocError> {
+    let Some((pattern, front, end)) = three(row) else {
+        return Ok(false);
+    };
+    let mut text = Vec::from_slice(alloc, front.as_bytes())?;
+    text.append(&mut vec![in alloc; b'a'; count]?)?;
+    text.extend_from_slice(end.as_bytes())?;
+    Ok(told(alloc, pattern, text.as_slice(), 0)?.as_str() == "none")
+}
+
+#[test]
+fn what_the_filter_shuts_out_is_told_at_once(rt: HostRuntime) -> Result<(), AllocError> {
+    assert!(rt; is_nowhere(rt.alloc(), r"(x)(aa?)+\1b => x => b", 42)?);
+    assert!(rt; is_nowhere(rt.alloc(), r"(a+)\1b => x =>  b", 2_000)?);
+    Ok(())
+}
+
+/// What is found of an expression in so many `a` and a `b`, in words. Want of memory is told as such.
+fn told_among(alloc: Global, pattern: &str, count: usize) -> Result<String, AllocError> {
+    let mut text = vec![in alloc; b'a'; count]?;
+    text.push(b'b')?;
+    match told(alloc, pattern, text.as_slice(), 0) {
+        Ok(words) => Ok(words),
+        Err(_) => String::from_str(alloc, "no memory"),
+    }
+}
+
+#[test]
+fn listings_end_at_their_limit(rt: HostRuntime) -> Result<(), AllocError> {
+    let below = told_among(rt.alloc(), r"(a*)\1b", 3_160)?;
+    assert!(rt; below.as_str() == "0-3161 0-1580", "{below}");
+    let above = told_among(rt.alloc(), r"(a*)\1b", 3_162)?;
+    assert!(rt; above.as_str() == "no memory", "{above}");
     Ok(())
 }
 
@@ -154,7 +213,7 @@ fn small_expressions_are_found_as_the_list_has_them(rt: HostRuntime) -> Result<(
 }
 
 /// Whether a text of so many of a letter has this hit, in words.
-fn is_found_among(
+pub(crate) fn is_found_among(
     alloc: Global,
     ere: &Ere,
     letter: u8,

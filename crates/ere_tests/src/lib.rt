@@ -15,6 +15,8 @@ mod parsing;
 #[cfg(test)]
 mod places;
 #[cfg(test)]
+mod relaxed;
+#[cfg(test)]
 mod rows;
 #[cfg(test)]
 mod shown;

@@ -89,7 +89,7 @@ fn show_all(alloc: Global, name: &str, list: &EreList, out: &mut String) -> Resu
 }
 
 /// A tree as a text.
-fn shown(alloc: Global, ere: &Ere) -> Result<String, AllocError> {
+pub(crate) fn shown(alloc: Global, ere: &Ere) -> Result<String, AllocError> {
     let mut out = String::new(alloc);
     show(alloc, ere, &mut out)?;
     Ok(out)

@@ -2,7 +2,8 @@ use Rattle.std.proofs.Common.{◌∙◌, ◌+◌, ◌-◌, refl, sym, subst, tak
 use Rattle.std.proofs.lemmas.List.{take_more}
 use Rattle.ere_auto.specs.Seen.{HasSeen, HasFound}
 use Rattle.ere_auto.specs.State.{state_of}
-use Rattle.ere_match.proofs.ShownLemmas.{split_at, finds_early, finds_all, take_whole}
+use Rattle.ere_auto.proofs.SeenLemmas.{split_at}
+use Rattle.ere_match.proofs.ShownLemmas.{finds_early, finds_all, take_whole}
 use Rattle.ere_match.proofs.span.find_span.Goals as goal
 
 pub returns-then-not-advance-clause-found : goal.returns-then-not-advance-clause-found

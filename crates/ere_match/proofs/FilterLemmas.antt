@@ -1,0 +1,62 @@
+-- Where a hit may lie, as the span of an expression without references tells that spans whatever this one spans.
+use Rattle.std.proofs.Common.{◌≡◌, ℕ, ◌+◌, ◌-◌, ◌≤◌, ◌<◌, Option, Some, None, IfSome, List, length, sym, subst, inl, inr, arith}
+use Rattle.std.proofs.lemmas.Bool.{cases_lt}
+use Rattle.std.specs.FinMap.{empty}
+use Rattle.ere_auto.specs.Span.{IsSpan}
+use Rattle.ere_match.specs.Begins.{NoneBefore}
+use Rattle.ere_match.specs.Filter.{MayLie}
+use Rattle.ere_match.specs.Shown.{ShownFor}
+use Rattle.ere_match.proofs.ShownLemmas.{spans_within}
+use Rattle.ere_relaxed.specs.Relaxed.{AreBytes, SpansAll}
+use Rattle.ere_slow.specs.Slow.{HasNoHitBefore}
+use Rattle.ere_tree.proofs.DerivationLemmas.{is_part}
+use Rattle.ere_tree.specs.Hit.{HasNoHit}
+use Rattle.ere_tree.specs.Tree.{Tree}
+use Rattle.ere_tree.specs.declared.hit.Cap.{Cap}
+
+pub no_hit_begins : (s : List ℕ) (t : Tree) (place : ℕ) → NoneBefore s t place → HasNoHitBefore s t place
+no_hit_begins s t place n h k v d low shows = n.none h k low (v, empty, d, shows)
+
+pub no_hit_behind : (s : List ℕ) (t : Tree) (place : ℕ) → HasNoHitBefore s t place → length s < place → HasNoHit s t
+no_hit_behind s t place none past h k v d shows =
+    let lies = is_part s t v h k empty d shows in
+    none h k v d (omega (arith, lies.0, lies.1, past)) shows
+
+pub may_lie : (s : List ℕ) (t u : Tree) (place : ℕ) (found : Option Cap) → AreBytes s → SpansAll t u
+    → HasNoHitBefore s t place → IsSpan s u place found → MayLie s t found
+may_lie s t u place None bytes spans before span = λ h k v d shows. elim (cases_lt h place) [
+  | inl low ↦ before h k v d low shows
+  | inr high ↦ span h k high (spans s v h k d bytes shows)
+]
+may_lie s t u place (Some cap) bytes spans before span =
+    let (w, c, d, shows) = span.0.matches in
+    let lies = is_part s u w cap.from cap.to c d shows in (
+      λ h k v e low other. elim (cases_lt h place) [
+        | inl early ↦ before h k v e early other
+        | inr late ↦ span.0.leftmost h k late low (spans s v h k e bytes other)
+      ],
+      omega (arith, lies.0, lies.1),
+      λ k v e other. span.0.longest k (spans s v cap.from k e bytes other),
+    )
+
+-- at most all was shown
+pub shown_most : (count shown : ℕ) (found : Option Cap) → ShownFor count found shown → shown ≤ count + 1
+shown_most count shown None h = omega (arith, h)
+shown_most count shown (Some cap) h = h.1
+
+-- how much is left to be tried
+abbrev pub left_of : ℕ → Option Cap → ℕ
+left_of count None = 0
+left_of count (Some span) = count + 1 - span.from
+
+-- each try leaves less
+pub fewer : (count : ℕ) (span : Cap) (old found : Option Cap) → old ≡ Some span → span.from ≤ count
+    → IfSome found (λ next. span.from < next.from) → left_of count found < left_of count old
+fewer count span old None is low later = subst (λ o. 0 < left_of count o) (sym is) (omega arith)
+fewer count span old (Some next) is low later =
+    subst (λ o. count + 1 - next.from < left_of count o) (sym is) (omega (arith, later))
+
+pub starts_behind : (s : List ℕ) (u : Tree) (place : ℕ) (found : Option Cap) → IsSpan s u (place + 1) found
+    → IfSome found (λ span. place < span.from)
+starts_behind s u place None span = tt
+starts_behind s u place (Some cap) span = omega (arith, span.0.begins)

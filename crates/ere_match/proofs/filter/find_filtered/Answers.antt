@@ -1,0 +1,50 @@
+-- What the filter told is kept from try to try: no hit begins before the place at hand. Each try moves that place.
+use Rattle.std.proofs.Common.{MatchOption, ◌+◌, drop, length, sym, ap, subst, arith}
+use Rattle.ere_match.proofs.FilterLemmas.{fewer, no_hit_begins, no_hit_behind}
+use Rattle.ere_match.specs.Begins.{NoneBefore}
+use Rattle.ere_match.specs.Filter.{MayLie}
+use Rattle.ere_slow.specs.Slow.{HasNoHitBefore}
+use Rattle.ere_tree.specs.Hit.{TellsHit}
+use Rattle.ere_tree.specs.View.{view}
+use Rattle.ere_match.proofs.filter.find_filtered.Goals as goal
+
+pub returns-then-begin-slice-clause-hit : goal.returns-then-begin-slice-clause-hit
+returns-then-begin-slice-clause-hit g c =
+    let s = drop c.args.from c.args.text.now in
+    let t = view c.args.ere.now in
+    let begin = c.earliest-begin.result in
+    let none = subst (λ x. NoneBefore x t begin) c.split_at.ensures.back c.earliest-begin.ensures in
+    no_hit_behind s t begin (no_hit_begins s t begin none)
+    (omega (arith, c.if-begin-slice.true, ap length c.split_at.ensures.back))
+
+pub loop-found-init : goal.loop-found-init
+loop-found-init g c =
+    let s = c.split_at.result.1.now in
+    let t = view c.args.ere.now in
+    record {
+      built = c.first-found.ensures.kept t c.in_ok-filter.ensures;
+      lies = c.first-found.ensures.lies t c.in_ok-filter.ensures
+          (no_hit_begins s t c.earliest-begin.result c.earliest-begin.ensures);
+    }
+
+pub loop-found-smaller : goal.loop-found-smaller
+loop-found-smaller g c =
+    let s = c.split_at.result.1.now in
+    let t = view c.args.ere.now in
+    let lies = subst (MayLie s t) c.in-Some.is c.loop-found.invariant.lies in
+    fewer (length s) c.in-Some.span c.loop-found.found c.behind-found.result c.in-Some.is lies.1
+    (c.behind-found.ensures.behind t c.loop-found.invariant.built)
+
+pub loop-found-preserved : goal.loop-found-preserved
+loop-found-preserved g c =
+    let s = c.split_at.result.1.now in
+    let rest = drop c.args.from c.args.text.now in
+    let t = view c.args.ere.now in
+    let next = c.in-Some.span.from + 1 in
+    let none = subst (λ o. MatchOption o (HasNoHitBefore rest t next) (TellsHit c.args.text.now t c.args.from))
+    c.in-Ok-None.field-0-is c.in-Ok-None.ensures.hit in
+    record {
+      built = c.behind-found.ensures.kept t c.loop-found.invariant.built;
+      lies = c.behind-found.ensures.lies t c.loop-found.invariant.built
+          (subst (λ x. HasNoHitBefore x t next) (sym c.split_at.ensures.back) none);
+    }

@@ -1,0 +1,96 @@
+//! Expressions with references, behind an automaton that tells where a hit may lie.
+ghost use Rattle.std.specs.Prelude.{◌≡◌, ℕ, ◌+◌, ◌-◌, ◌<◌, ◌≤◌, length, drop, IfOk, IfSome};
+ghost use Rattle.ere_auto.specs.State.{state_of};
+ghost use Rattle.ere_match.specs.Filter.{IsFilter, MayLie};
+ghost use Rattle.ere_slow.specs.Slow.{HasNoHitBefore};
+ghost use Rattle.ere_tree.specs.Hit.{FindsHit};
+ghost use Rattle.ere_tree.specs.Tree.{Tree};
+ghost use Rattle.ere_tree.specs.View.{view};
+
+use crate::literal::earliest;
+use crate::span::find_span;
+use ere_auto::{Auto, Steps};
+use ere_relaxed::relaxed;
+use ere_slow::slow_hit_from;
+use ere_tree::{Cap, Ere, Hit};
+use std::alloc::Global;
+use std::sync::ledger::Ledger;
+use tt_base::NoMemory;
+
+/// The automaton of an expression in which references gave way to the expressions of their groups.
+#[derive(Drop)]
+struct Filter {
+    automaton: Auto,
+}
+
+impl Filter {
+    fn new(alloc: Global, ere: &Ere) -> Result<Filter, NoMemory>
+        ensures { IfOk result (λ made. IsFilter (state_of made.automaton) (view ere.now)) }
+    {
+        let Ok(free) = relaxed(alloc, ere) else {
+            return Err(NoMemory);
+        };
+        match Auto::build(alloc, &free) {
+            Ok(automaton) => Ok(Filter { automaton }),
+            Err(NoMemory) => Err(NoMemory),
+        }
+    }
+
+    /// Where a hit may lie that begins at the place or behind it. Each byte, and the slice's end, is shown at most once.
+    fn first<L: Ledger>(&mut self, slice: &[u8], place: usize, steps: &mut Steps<L>) -> Option<Cap>
+        ensures lies { (t : Tree) → IsFilter (state_of self.old.automaton) t → HasNoHitBefore slice.now t place →
+            MayLie slice.now t result }
+        ensures most { (t : Tree) → IsFilter (state_of self.old.automaton) t →
+            steps.new ≤ steps.old + length slice.now + 1 }
+        ensures counted { steps.old ≤ steps.new }
+        ensures kept { (t : Tree) → IsFilter (state_of self.old.automaton) t → IsFilter (state_of self.new.automaton) t }
+    {
+        self.automaton.begin_at(place);
+        find_span(&mut self.automaton, slice, steps)
+    }
+
+    /// Where a hit may lie that begins behind the place.
+    fn behind(&mut self, slice: &[u8], place: usize) -> Option<Cap>
+        requires { place ≤ length slice.now }
+        ensures lies { (t : Tree) → IsFilter (state_of self.old.automaton) t → HasNoHitBefore slice.now t (place + 1) →
+            MayLie slice.now t result }
+        ensures behind { (t : Tree) → IsFilter (state_of self.old.automaton) t → IfSome result (λ cap. place < cap.from) }
+        ensures kept { (t : Tree) → IsFilter (state_of self.old.automaton) t → IsFilter (state_of self.new.automaton) t }
+    {
+        if place == slice.len() {
+            return None;
+        }
+        self.automaton.span_from(slice, place + 1)
+    }
+}
+
+/// The hit of an expression in the slice from `from` to the text's end, with offsets of the text. Derivations are listed
+/// from those places alone at which the filter lets one begin.
+pub(crate) fn find_filtered<L: Ledger>(
+    alloc: Global,
+    ere: &Ere,
+    text: &[u8],
+    from: usize,
+    steps: &mut Steps<L>,
+) -> Result<Option<Hit>, NoMemory>
+    requires inside { from ≤ length text.now }
+    ensures hit { IfOk result (FindsHit text.now (view ere.now) from) }
+    ensures most { steps.new ≤ steps.old + (length text.now - from) + 1 }
+    ensures counted { steps.old ≤ steps.new }
+{
+    let slice = text.split_at(from).1;
+    let begin = earliest(ere, slice);
+    if begin > slice.len() {
+        return Ok(None);
+    }
+    let mut filter = Filter::new(alloc, ere)?;
+    let mut found = filter.first(slice, begin, steps);
+    while let Some(span) = found {
+        match slow_hit_from(alloc, ere, text, from, span.from) {
+            Ok(None) => found = filter.behind(slice, span.from),
+            Ok(Some(hit)) => return Ok(Some(hit)),
+            Err(_) => return Err(NoMemory),
+        }
+    }
+    Ok(None)
+}
