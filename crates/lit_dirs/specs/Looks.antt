@@ -1,6 +1,6 @@
 -- What refuses a directory that is looked at, and what looking at it gives.
 -- Own rule: a Python configuration comes before the suite file; the least one in byte order is told.
-use Rattle.std.specs.Prelude.{◌≡◌, ◌≢◌, ℕ, nat_lt, Bool, true, false, codes, if◌then◌else◌, List, [], ◌∷◌, ◌++◌, length, Option, None, Some, Result, Ok, Err, ⊤}
+use Rattle.std.specs.Prelude.{◌≡◌, ◌≢◌, ℕ, nat_lt, Bool, true, false, codes, if◌then◌else◌, List, [], ◌∷◌, ◌++◌, length, Option, None, Some, Result, Ok, Err, ◌⊎◌, ⊤}
 use Rattle.std.specs.List.{find}
 use Rattle.std.specs.Option.{option_map}
 use Rattle.lit_paths.specs.Paths.{Parts, text_of}
@@ -64,6 +64,13 @@ python_or dir None later = later
 -- what refuses a directory that is looked at, behind the count of items
 abbrev pub fault_in : List Node → Parts → Option DiscoverFault
 fault_in nodes dir = python_or dir (python_in nodes dir) (suite_fault_in nodes dir)
+
+-- ---- answers, whatever the tree tells
+
+-- what is told as missing, for a look at a directory: the directory, or the suite file that it listed
+abbrev pub IsGone : Parts → DiscoverFault → Type 0
+IsGone dir (Missing path) = (path ≡ text_of dir) ⊎ (path ≡ suite_path dir)
+IsGone dir fault = ⊤
 
 -- ---- answers, where the tree tells
 

@@ -1,11 +1,11 @@
 //! What a directory tells.
-ghost use Rattle.std.specs.Prelude.{◌≡◌, ◌≢◌, ◌≤◌, ◌++◌, ◌∷◌, [], true, Err, IfOk, IfSome};
+ghost use Rattle.std.specs.Prelude.{◌≡◌, ◌≢◌, ◌≤◌, ◌++◌, ◌∷◌, [], true, Err, IfErr, IfOk, IfSome};
 ghost use Rattle.std.specs.List.{list_all};
 ghost use Rattle.tt_outside.specs.Faults.{Rose};
 ghost use Rattle.tt_outside.specs.TreeMap.{Lists, is_part};
 ghost use Rattle.lit_suite.specs.Whole.{IsWhole};
 ghost use Rattle.lit_paths.specs.Paths.{text_of};
-ghost use Rattle.lit_dirs.specs.Looks.{GivesListing, GivesReading, GivesSuite};
+ghost use Rattle.lit_dirs.specs.Looks.{GivesListing, GivesReading, GivesSuite, IsGone};
 ghost use Rattle.lit_dirs.specs.Suites.{suite_path};
 
 use crate::fault::DiscoverFault;
@@ -26,6 +26,7 @@ pub fn list_dir<T: Tree>(
     dir: &[Bytes],
 ) -> Result<Option<Items<Item>>, DiscoverFault>
     ensures gives { GivesListing (T.nodes tree.old) dir.now result }
+    ensures gone { IfErr result (IsGone dir.now) }
     ensures nodes { T.nodes tree.new ≡ T.nodes tree.old }
     ensures root { T.root tree.new ≡ T.root tree.old }
     ensures later { T.faults tree.old ≤ T.faults tree.new }
@@ -63,6 +64,7 @@ fn suite_path(alloc: Global, dir: &[Bytes]) -> Result<Bytes, NoMemory>
 #[tactic(auto, using(crate::proofs::ReadLemmas::read_well, crate::proofs::ReadLemmas::read_badly, crate::proofs::ReadLemmas::not_there, crate::proofs::ReadLemmas::too_large))]
 fn read_in<T: Tree>(alloc: Global, tree: &mut T, dir: &[Bytes]) -> Result<Suite, DiscoverFault>
     ensures gives { GivesReading (T.nodes tree.old) dir.now result }
+    ensures gone { IfErr result (IsGone dir.now) }
     ensures whole { IfOk result IsWhole }
     ensures nodes { T.nodes tree.new ≡ T.nodes tree.old }
     ensures root { T.root tree.new ≡ T.root tree.old }
@@ -97,6 +99,7 @@ pub fn look_in<T: Tree>(
     requires parts { list_all is_part dir.now ≡ true }
     requires lists { IfSome (T.nodes tree.old) (λ nodes. Lists nodes (text_of dir.now) items.now) }
     ensures gives { GivesSuite (T.nodes tree.old) dir.now result }
+    ensures gone { IfErr result (IsGone dir.now) }
     ensures whole { IfOk result (λ suite. IfSome suite IsWhole) }
     ensures nodes { T.nodes tree.new ≡ T.nodes tree.old }
     ensures root { T.root tree.new ≡ T.root tree.old }

@@ -2,6 +2,7 @@ pub mod ChildLemmas
 pub mod EntryLemmas
 pub mod GatherLemmas
 pub mod InsideLemmas
+pub mod LawLemmas
 pub mod NameLemmas
 pub mod OrderLemmas
 pub mod PathLemmas

@@ -99,6 +99,7 @@ made_right nodes words seen text suite test told is_rooted is_test (root, at, ma
       record {
         rooted = root;
         below = rest;
+        parts = subst (λ x. list_all is_part x ≡ true) same is_rooted.parts;
         suite = ap (λ x. nearest nodes (dir_of x)) (sym same) ∙ near;
         passes = subst (IsTest nodes words) same is_test;
         made = test_is;

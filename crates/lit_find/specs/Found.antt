@@ -23,6 +23,7 @@ use Rattle.lit_dirs.specs.Tests.{IsTestOf}
 pub record IsRight (nodes : List Node) (words : List Parts) (test : Test) : Type 0 where
   pub rooted : Rooted
   pub below : Parts
+  pub parts : list_all is_part (rooted.root ++ below) ≡ true
   pub suite : nearest nodes (dir_of (rooted.root ++ below)) ≡ Some rooted
   pub passes : IsTest nodes words (rooted.root ++ below)
   pub made : IsTestOf rooted.root rooted.suite below test

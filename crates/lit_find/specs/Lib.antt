@@ -2,6 +2,7 @@ pub mod Answers
 pub mod Discovery
 pub mod Entries
 pub mod Found
+pub mod Laws
 pub mod Places
 pub mod Refusals
 pub mod Sorting

@@ -43,6 +43,7 @@ fn add_words<T: Tree>(
     ensures later { T.faults tree.old ≤ T.faults tree.new }
     ensures cause { result ≡ Err DiscoverFault.TreeFault → Rose (T.faults tree.old) (T.faults tree.new) }
     ensures calm { result ≢ Err DiscoverFault.TreeFault → T.faults tree.new ≡ T.faults tree.old }
+    ensures steady { T.steady tree.old → (result ≢ Err DiscoverFault.TreeFault) × T.steady tree.new }
 {
     for text in texts {
         let word = match joined(alloc, base, text.as_slice()) {
@@ -69,6 +70,7 @@ fn walk_words<T: Tree>(
     ensures later { T.faults tree.old ≤ T.faults tree.new }
     ensures cause { result ≡ Err DiscoverFault.TreeFault → Rose (T.faults tree.old) (T.faults tree.new) }
     ensures calm { result ≢ Err DiscoverFault.TreeFault → T.faults tree.new ≡ T.faults tree.old }
+    ensures steady { T.steady tree.old → (result ≢ Err DiscoverFault.TreeFault) × T.steady tree.new }
 {
     let Ok(base) = read_path(alloc, tree.base()) else {
         return Err(DiscoverFault::NoMemory);
@@ -133,6 +135,7 @@ pub fn discover<T: Tree>(
     ensures later { T.faults tree.old ≤ T.faults tree.new }
     ensures cause { result ≡ Err DiscoverFault.TreeFault → Rose (T.faults tree.old) (T.faults tree.new) }
     ensures calm { result ≢ Err DiscoverFault.TreeFault → T.faults tree.new ≡ T.faults tree.old }
+    ensures steady { T.steady tree.old → (result ≢ Err DiscoverFault.TreeFault) × T.steady tree.new }
 {
     match walk_words(alloc, tree, paths) {
         Ok((walk, seen)) => tests_of(alloc, walk.found, &seen),
@@ -152,6 +155,7 @@ pub fn discover_names<T: Tree>(
     ensures later { T.faults tree.old ≤ T.faults tree.new }
     ensures cause { result ≡ Err DiscoverFault.TreeFault → Rose (T.faults tree.old) (T.faults tree.new) }
     ensures calm { result ≢ Err DiscoverFault.TreeFault → T.faults tree.new ≡ T.faults tree.old }
+    ensures steady { T.steady tree.old → (result ≢ Err DiscoverFault.TreeFault) × T.steady tree.new }
 {
     match walk_words(alloc, tree, paths) {
         Ok((walk, seen)) => names_of(alloc, walk.found, &seen),

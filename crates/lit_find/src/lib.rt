@@ -4,6 +4,7 @@
 
 mod discovery;
 mod found;
+mod laws;
 mod pending;
 mod place;
 mod sorting;
@@ -11,3 +12,4 @@ mod visit;
 mod words;
 
 pub use discovery::{discover, discover_names};
+pub use laws::law_of_tests;

@@ -1,9 +1,10 @@
 //! The walk through one directory.
-ghost use Rattle.std.specs.Prelude.{◌≡◌, ◌≢◌, ◌≤◌, ◌==◌, ◌∷◌, ℕ, if◌then◌else◌, All, Err, List, OnOk, Some, true};
+ghost use Rattle.std.specs.Prelude.{◌≡◌, ◌≢◌, ◌≤◌, ◌==◌, ◌∷◌, ℕ, if◌then◌else◌, All, Err, IfErr, List, OnOk, Some, true};
 ghost use Rattle.std.specs.List.{list_all};
 ghost use Rattle.std.specs.BTreeSet.{contains};
 ghost use Rattle.std.specs.Option.{option_map};
 ghost use Rattle.std.specs.Ordering.{nat_cmp};
+ghost use Rattle.lit_dirs.specs.Looks.{IsGone};
 ghost use Rattle.lit_find.specs.Places.{IsBefore};
 ghost use Rattle.lit_find.specs.Walk.{Enters, GivesVisit, GivesWalk, IsThrough, IsWalk, own_or, room, root_at, with_first};
 ghost use Rattle.lit_look.specs.declared.seen.Looked.{Looked};
@@ -137,12 +138,14 @@ fn visit<T: Tree>(
         → T.nodes tree.old ≡ Some nodes → IsWalk nodes words word first seen.old (with_first place walk.old)
         → All (λ other. IsBefore place.path other.path) walk.old.pending
         → GivesVisit nodes words word place.path first seen.old seen.new walk.new result }
+    ensures gone { IfErr result (IsGone place.path) }
     ensures room { OnOk result (room seen.new walk.new ≤ room seen.old walk.old) }
     ensures nodes { T.nodes tree.new ≡ T.nodes tree.old }
     ensures root { T.root tree.new ≡ T.root tree.old }
     ensures later { T.faults tree.old ≤ T.faults tree.new }
     ensures cause { result ≡ Err DiscoverFault.TreeFault → Rose (T.faults tree.old) (T.faults tree.new) }
     ensures calm { result ≢ Err DiscoverFault.TreeFault → T.faults tree.new ≡ T.faults tree.old }
+    ensures steady { T.steady tree.old → (result ≢ Err DiscoverFault.TreeFault) × T.steady tree.new }
 {
     let dir = place.path.as_slice();
     // No directory has a name that is no part of a path, whatever the tree lists.
@@ -177,6 +180,7 @@ pub(crate) fn walk_all<T: Tree>(
     ensures later { T.faults tree.old ≤ T.faults tree.new }
     ensures cause { result ≡ Err DiscoverFault.TreeFault → Rose (T.faults tree.old) (T.faults tree.new) }
     ensures calm { result ≢ Err DiscoverFault.TreeFault → T.faults tree.new ≡ T.faults tree.old }
+    ensures steady { T.steady tree.old → (result ≢ Err DiscoverFault.TreeFault) × T.steady tree.new }
 {
     while let Some(place) = walk.pending.pop() {
         match visit(alloc, tree, seen, walk, place) {

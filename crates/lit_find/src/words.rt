@@ -34,6 +34,7 @@ fn add_dir<T: Tree>(
     ensures later { T.faults tree.old ≤ T.faults tree.new }
     ensures cause { result ≡ Err DiscoverFault.TreeFault → Rose (T.faults tree.old) (T.faults tree.new) }
     ensures calm { result ≢ Err DiscoverFault.TreeFault → T.faults tree.new ≡ T.faults tree.old }
+    ensures steady { T.steady tree.old → (result ≢ Err DiscoverFault.TreeFault) × T.steady tree.new }
 {
     match nearest(alloc, tree, seen, word.as_slice(), word.as_slice()) {
         Ok(suite) => {
@@ -63,6 +64,7 @@ fn add_file<T: Tree>(
     ensures later { T.faults tree.old ≤ T.faults tree.new }
     ensures cause { result ≡ Err DiscoverFault.TreeFault → Rose (T.faults tree.old) (T.faults tree.new) }
     ensures calm { result ≢ Err DiscoverFault.TreeFault → T.faults tree.new ≡ T.faults tree.old }
+    ensures steady { T.steady tree.old → (result ≢ Err DiscoverFault.TreeFault) × T.steady tree.new }
 {
     // A file at `/` stands in no directory.
     if word.is_empty() {
@@ -95,6 +97,7 @@ pub(crate) fn add_word<T: Tree>(
     ensures later { T.faults tree.old ≤ T.faults tree.new }
     ensures cause { result ≡ Err DiscoverFault.TreeFault → Rose (T.faults tree.old) (T.faults tree.new) }
     ensures calm { result ≢ Err DiscoverFault.TreeFault → T.faults tree.new ≡ T.faults tree.old }
+    ensures steady { T.steady tree.old → (result ≢ Err DiscoverFault.TreeFault) × T.steady tree.new }
 {
     match look(alloc, tree, seen, word.as_slice()) {
         Ok(Some(_)) => add_dir(alloc, tree, seen, walk, word),

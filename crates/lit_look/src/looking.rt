@@ -1,7 +1,7 @@
 //! A look at a directory.
-ghost use Rattle.std.specs.Prelude.{◌≡◌, ◌≢◌, ◌≤◌, IfOk, IfSome, List, true};
+ghost use Rattle.std.specs.Prelude.{◌≡◌, ◌≢◌, ◌≤◌, IfErr, IfOk, IfSome, List, true};
 ghost use Rattle.std.specs.List.{list_all};
-ghost use Rattle.lit_dirs.specs.Looks.{kind_of};
+ghost use Rattle.lit_dirs.specs.Looks.{IsGone, kind_of};
 ghost use Rattle.lit_paths.specs.Paths.{text_of};
 ghost use Rattle.lit_look.specs.Looks.{Extends, GivesDirLook, GivesLook, IsNumberOf};
 ghost use Rattle.lit_look.specs.Seen.{AreLooks, Has};
@@ -30,6 +30,7 @@ fn enter<T: Tree>(
     requires new { ¬ (Has seen.old dir.now) }
     ensures gives { (nodes : List Node) → T.nodes tree.old ≡ Some nodes → AreLooks nodes seen.old
         → GivesDirLook nodes dir.now seen.old seen.new result }
+    ensures gone { IfErr result (IsGone dir.now) }
     ensures number { IfOk result (IsNumberOf seen.new dir.now) }
     ensures extends { Extends seen.old seen.new }
     ensures nodes { T.nodes tree.new ≡ T.nodes tree.old }
@@ -37,6 +38,7 @@ fn enter<T: Tree>(
     ensures later { T.faults tree.old ≤ T.faults tree.new }
     ensures cause { result ≡ Err DiscoverFault.TreeFault → Rose (T.faults tree.old) (T.faults tree.new) }
     ensures calm { result ≢ Err DiscoverFault.TreeFault → T.faults tree.new ≡ T.faults tree.old }
+    ensures steady { T.steady tree.old → (result ≢ Err DiscoverFault.TreeFault) × T.steady tree.new }
 {
     if !seen.has_room(items.len()) {
         return Err(DiscoverFault::TooManyItems);
@@ -64,6 +66,7 @@ pub fn look<T: Tree>(
     requires parts { list_all is_part dir.now ≡ true }
     ensures gives { (nodes : List Node) → T.nodes tree.old ≡ Some nodes → AreLooks nodes seen.old
         → GivesLook nodes dir.now seen.old seen.new result }
+    ensures gone { IfErr result (IsGone dir.now) }
     ensures number { IfOk result (λ found. IfSome found (IsNumberOf seen.new dir.now)) }
     ensures extends { Extends seen.old seen.new }
     ensures nodes { T.nodes tree.new ≡ T.nodes tree.old }
@@ -71,6 +74,7 @@ pub fn look<T: Tree>(
     ensures later { T.faults tree.old ≤ T.faults tree.new }
     ensures cause { result ≡ Err DiscoverFault.TreeFault → Rose (T.faults tree.old) (T.faults tree.new) }
     ensures calm { result ≢ Err DiscoverFault.TreeFault → T.faults tree.new ≡ T.faults tree.old }
+    ensures steady { T.steady tree.old → (result ≢ Err DiscoverFault.TreeFault) × T.steady tree.new }
 {
     if let Some(number) = seen.number_of(alloc, dir)? {
         return Ok(Some(number));
@@ -102,6 +106,7 @@ pub(crate) fn look_at_dir<T: Tree>(
     ensures later { T.faults tree.old ≤ T.faults tree.new }
     ensures cause { result ≡ Err DiscoverFault.TreeFault → Rose (T.faults tree.old) (T.faults tree.new) }
     ensures calm { result ≢ Err DiscoverFault.TreeFault → T.faults tree.new ≡ T.faults tree.old }
+    ensures steady { T.steady tree.old → (result ≢ Err DiscoverFault.TreeFault) × T.steady tree.new }
 {
     match look(alloc, tree, seen, dir) {
         Ok(Some(number)) => Ok(number),

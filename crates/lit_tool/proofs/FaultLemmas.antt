@@ -51,8 +51,12 @@ kept_calm shard (test ∷ tests) is = cc
 same_fault : (fault : DiscoverFault) → IsFault (Err (Discovery fault)) → fault ≡ TreeFault
 same_fault fault is = cc
 
+-- the tree counted a fault, and so it isn't one of which no call fails
+abbrev pub Failed : TreeRun → Type 0
+Failed t = Rose t.before t.now × (t.steady → ⊥)
+
 fault_of_shown : (t : TreeRun) (wanted : Wanted) (show : Bool) (outcome : Result (List Test) Stop)
-    → ShownFrom t wanted show outcome → IsFault outcome → Rose t.before t.now
+    → ShownFrom t wanted show outcome → IsFault outcome → Failed t
 fault_of_shown t wanted false outcome (rests, same) is = cc
 fault_of_shown t wanted true outcome (Ok tests, searched, same) is =
     absurd (kept_calm wanted.shard (selected wanted.select wanted.drop tests) (sym same ∙ is))
@@ -60,17 +64,38 @@ fault_of_shown t wanted true outcome (Err fault, searched, same) is =
     searched.1 (ap Err (same_fault fault (sym same ∙ is)))
 
 fault_of_tree : (t : TreeRun) (asked : Result Wanted WordsFault) (outcome : Result (List Test) Stop)
-    → OutcomeFrom t asked outcome → IsFault outcome → Rose t.before t.now
+    → OutcomeFrom t asked outcome → IsFault outcome → Failed t
 fault_of_tree t (Ok wanted) outcome from is = fault_of_shown t wanted wanted.show outcome from is
 fault_of_tree t (Err fault) outcome (rests, same) is = cc
 
 -- status 3 comes of a fault that was counted
+three_of_run : (t : TreeRun) (asked : Result Wanted WordsFault) (outcome : Result (List Test) Stop)
+    (message : List ℕ) (answer : Answer) (status : ℕ) (out err : Stream) → OutcomeFrom t asked outcome
+    → answer ≡ answer_to outcome → status ≡ 3 → Written message answer status out err
+    → Failed t ⊎ Rose out.before out.now ⊎ Rose err.before err.now
+three_of_run t asked outcome message answer status out err from same is (inl (taken, inl told)) =
+    inl (fault_of_tree t asked outcome from (answers_fault outcome (sym (told.0 ∙ ap (λ a. a.status) same) ∙ is)))
+three_of_run t asked outcome message answer status out err from same is (inl (taken, inr stopped)) =
+    inr (inr stopped.1.1)
+three_of_run t asked outcome message answer status out err from same is (inr stopped) = inr (inl stopped.1.1)
+
 pub fault_of_run : (t : TreeRun) (asked : Result Wanted WordsFault) (outcome : Result (List Test) Stop)
     (message : List ℕ) (answer : Answer) (status : ℕ) (out err : Stream) → OutcomeFrom t asked outcome
     → answer ≡ answer_to outcome → status ≡ 3 → Written message answer status out err
     → Rose t.before t.now ⊎ Rose out.before out.now ⊎ Rose err.before err.now
-fault_of_run t asked outcome message answer status out err from same is (inl (taken, inl told)) =
-    inl (fault_of_tree t asked outcome from (answers_fault outcome (sym (told.0 ∙ ap (λ a. a.status) same) ∙ is)))
-fault_of_run t asked outcome message answer status out err from same is (inl (taken, inr stopped)) =
-    inr (inr stopped.1.1)
-fault_of_run t asked outcome message answer status out err from same is (inr stopped) = inr (inl stopped.1.1)
+fault_of_run t asked outcome message answer status out err from same is written =
+    elim (three_of_run t asked outcome message answer status out err from same is written) [
+      | inl failed ↦ inl failed.0
+      | inr streams ↦ inr streams
+    ]
+
+-- and over a tree of which no call fails of a stream's
+pub fault_of_streams : (t : TreeRun) (asked : Result Wanted WordsFault) (outcome : Result (List Test) Stop)
+    (message : List ℕ) (answer : Answer) (status : ℕ) (out err : Stream) → OutcomeFrom t asked outcome
+    → answer ≡ answer_to outcome → status ≡ 3 → Written message answer status out err → t.steady
+    → Rose out.before out.now ⊎ Rose err.before err.now
+fault_of_streams t asked outcome message answer status out err from same is written steady =
+    elim (three_of_run t asked outcome message answer status out err from same is written) [
+      | inl failed ↦ absurd (failed.1 steady)
+      | inr streams ↦ streams
+    ]

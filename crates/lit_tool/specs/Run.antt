@@ -13,24 +13,32 @@ use Rattle.lit_tool.specs.Kept.{kept_of, names_in}
 use Rattle.lit_tool.specs.declared.stop.Stop.{Stop}
 use Rattle.lit_tool.specs.declared.stop.Stop.TheVariants.{Words, NotBuilt, Discovery}
 
--- a tree: what it tells, its base, and its count of faults as a run found and left it
-pub record TreeRun : Type 0 where
+-- a tree: what it tells, its base, whether no call fails for certain, and its count of faults as a run found and left it
+pub record TreeRun : Type 1 where
   pub nodes : Option (List Node)
   pub base : List ℕ
+  pub steady : Type 0
   pub before : ℕ
   pub now : ℕ
 
-abbrev pub tree : {T : Type 0} → (T → Option (List Node)) → (T → List ℕ) → (T → ℕ) → T → T → TreeRun
-tree nodes root faults old new = record { nodes = nodes old; base = root old; before = faults old; now = faults new }
+abbrev pub tree : {T : Type 0} → (T → Option (List Node)) → (T → List ℕ) → (T → Type 0) → (T → ℕ) → T → T → TreeRun
+tree nodes root steady faults old new = record {
+  nodes = nodes old;
+  base = root old;
+  steady = steady old;
+  before = faults old;
+  now = faults new;
+}
 
 -- a tree that was left alone
 abbrev pub TreeRests : TreeRun → Type 0
 TreeRests t = t.now ≡ t.before
 
--- a discovery by these paths answered this; a fault of the tree was counted, and else the tree was left as it was
+-- a discovery by these paths answered this; a fault of the tree was counted, and a tree of which no call fails has none;
+-- else the tree was left as it was
 abbrev pub TreeSearched : TreeRun → List (List ℕ) → Result (List Test) DiscoverFault → Type 0
 TreeSearched t paths found =
-    Discovers t.nodes t.base paths found × (found ≡ Err TreeFault → Rose t.before t.now)
+    Discovers t.nodes t.base paths found × (found ≡ Err TreeFault → Rose t.before t.now × (t.steady → ⊥))
     × (found ≢ Err TreeFault → TreeRests t) × (found ≢ Err NoMemory)
 
 -- the tests that are kept of those found, or why there are none

@@ -33,11 +33,13 @@ pub fn lit_run<T: Tree, O: Sink, E: Sink>(
     err: &mut E,
 ) -> u8
     ensures answer { result ≢ 4 → (outcome : Result (List Test) Stop)
-        × OutcomeFrom (tree T.nodes T.root T.faults from.old from.new) (asked_by (texts words.now)) outcome
+        × OutcomeFrom (tree T.nodes T.root T.steady T.faults from.old from.new) (asked_by (texts words.now)) outcome
         × Written cannot_write (answer_to outcome) result
         (stream O.held O.faults O.room out.old out.new) (stream E.held E.faults E.room err.old err.new) }
     ensures fault { result ≡ 3 → Rose (T.faults from.old) (T.faults from.new)
         ⊎ Rose (O.faults out.old) (O.faults out.new)
+        ⊎ Rose (E.faults err.old) (E.faults err.new) }
+    ensures steady { T.steady from.old → result ≡ 3 → Rose (O.faults out.old) (O.faults out.new)
         ⊎ Rose (E.faults err.old) (E.faults err.new) }
     ensures memory { result ≡ 4 → (O.held out.new ≡ O.held out.old)
         × Told out_of_memory (stream E.held E.faults E.room err.old err.new) }
@@ -62,7 +64,7 @@ fn outcome_from<T: Tree>(
     words: &[String],
     from: &mut T,
 ) -> Result<Result<Items<Bytes>, Stop>, NoMemory>
-    ensures value { IfOk result (NamesFrom (tree T.nodes T.root T.faults from.old from.new)
+    ensures value { IfOk result (NamesFrom (tree T.nodes T.root T.steady T.faults from.old from.new)
         (asked_by (texts words.now))) }
     ensures nodes { T.nodes from.new ≡ T.nodes from.old }
     ensures root { T.root from.new ≡ T.root from.old }
@@ -91,7 +93,7 @@ fn all_from<T: Tree>(
     requires shard { IfSome asked.now.shard IsShard }
     requires select { asked.now.select ≡ None }
     requires drop { asked.now.drop ≡ None }
-    ensures value { IfOk result (NamesShown (tree T.nodes T.root T.faults from.old from.new) (wanted asked.now)) }
+    ensures value { IfOk result (NamesShown (tree T.nodes T.root T.steady T.faults from.old from.new) (wanted asked.now)) }
     ensures nodes { T.nodes from.new ≡ T.nodes from.old }
     ensures root { T.root from.new ≡ T.root from.old }
     ensures later { T.faults from.old ≤ T.faults from.new }
@@ -110,7 +112,7 @@ fn chosen_from<T: Tree>(
     from: &mut T,
 ) -> Result<Result<Items<Bytes>, Stop>, NoMemory>
     requires { IfSome asked.now.shard IsShard }
-    ensures value { IfOk result (NamesShown (tree T.nodes T.root T.faults from.old from.new) (wanted asked.now)) }
+    ensures value { IfOk result (NamesShown (tree T.nodes T.root T.steady T.faults from.old from.new) (wanted asked.now)) }
     ensures nodes { T.nodes from.new ≡ T.nodes from.old }
     ensures root { T.root from.new ≡ T.root from.old }
     ensures later { T.faults from.old ≤ T.faults from.new }

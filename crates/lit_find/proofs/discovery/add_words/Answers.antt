@@ -34,6 +34,7 @@ loop-text-preserved g c =
       nodes = c.in-Ok-add_word.ensures.nodes ∙ c.loop-text.invariant.nodes;
       root = c.in-Ok-add_word.ensures.root ∙ c.loop-text.invariant.root;
       calm = c.in-Ok-add_word.ensures.calm (λ e. absurd (cc)) ∙ c.loop-text.invariant.calm;
+      steady = λ steady. (c.in-Ok-add_word.ensures.steady (c.loop-text.invariant.steady steady)).1;
       covered = λ nodes told nested is.
           subst (λ all. IsCovered nodes all c.add_word.new.seen c.add_word.new.walk) (sym words)
           (c.in-Ok-add_word.ensures.gives nodes (map (joined base) (take i texts)) (c.loop-text.invariant.nodes

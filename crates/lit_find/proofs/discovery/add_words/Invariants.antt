@@ -10,6 +10,7 @@ invariant-loop-text g l = record {
   nodes : g.T.Tree.nodes l.tree ≡ g.T.Tree.nodes l.fn.tree;
   root : g.T.Tree.root l.tree ≡ g.T.Tree.root l.fn.tree;
   calm : g.T.Tree.faults l.tree ≡ g.T.Tree.faults l.fn.tree;
+  steady : g.T.Tree.steady l.fn.tree → g.T.Tree.steady l.tree;
   covered : (nodes : List Node) → g.T.Tree.nodes l.fn.tree ≡ Some nodes → are_nested nodes ≡ true
       → IsCovered nodes [] l.fn.seen l.fn.walk
       → IsCovered nodes (map (joined l.base) (take l.text-index l.texts)) l.seen l.walk;

@@ -26,6 +26,7 @@ loop-place-preserved g c = record {
   nodes = c.in-Ok.ensures.nodes ∙ c.loop-place.invariant.nodes;
   root = c.in-Ok.ensures.root ∙ c.loop-place.invariant.root;
   calm = c.in-Ok.ensures.calm (λ e. absurd (cc)) ∙ c.loop-place.invariant.calm;
+  steady = λ steady. (c.in-Ok.ensures.steady (c.loop-place.invariant.steady steady)).1;
   walk = λ nodes words word first told is.
       c.in-Ok.ensures.gives nodes words word first (c.loop-place.invariant.nodes ∙ told)
       (with_pending nodes words word first c.loop-place.seen c.loop-place.walk _ c.in-Some.ensures.first

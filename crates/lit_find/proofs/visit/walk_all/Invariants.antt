@@ -10,6 +10,7 @@ invariant-loop-place g l = record {
   nodes : g.T.Tree.nodes l.tree ≡ g.T.Tree.nodes l.fn.tree;
   root : g.T.Tree.root l.tree ≡ g.T.Tree.root l.fn.tree;
   calm : g.T.Tree.faults l.tree ≡ g.T.Tree.faults l.fn.tree;
+  steady : g.T.Tree.steady l.fn.tree → g.T.Tree.steady l.tree;
   walk : (nodes : List Node) (words : List Parts) (word : Parts) (first : List Looked)
       → g.T.Tree.nodes l.fn.tree ≡ Some nodes → IsWalk nodes words word first l.fn.seen l.fn.walk
       → IsWalk nodes words word first l.seen l.walk;

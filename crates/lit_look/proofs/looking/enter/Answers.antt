@@ -49,3 +49,11 @@ returns-in_err-add-in-Ok-clause-calm g c = λ differs. c.in-Ok.ensures.calm (λ 
 
 pub returns-in_ok-add-in-Ok-clause-calm : goal.returns-in_ok-add-in-Ok-clause-calm
 returns-in_ok-add-in-Ok-clause-calm g c = λ differs. c.in-Ok.ensures.calm (λ e. cc)
+
+pub returns-in-Err-clause-steady : goal.returns-in-Err-clause-steady
+returns-in-Err-clause-steady g c = λ steady. (
+  λ e.
+      let same : c.in-Err.fault ≡ TreeFault = cc in
+      (c.in-Err.ensures.steady steady).0 (ap (λ x. Err x) same),
+  (c.in-Err.ensures.steady steady).1,
+)

@@ -10,6 +10,7 @@ loop-number-init g c = record {
   nodes = refl;
   root = refl;
   calm = refl;
+  steady = λ steady. steady;
 }
 
 pub returns-in-Err-clause-gives : goal.returns-in-Err-clause-gives
@@ -50,6 +51,7 @@ loop-number-preserved g c = record {
   nodes = c.in-Ok.ensures.nodes ∙ c.loop-number.invariant.nodes;
   root = c.in-Ok.ensures.root ∙ c.loop-number.invariant.root;
   calm = c.in-Ok.ensures.calm (λ e. cc) ∙ c.loop-number.invariant.calm;
+  steady = λ steady. (c.in-Ok.ensures.steady (c.loop-number.invariant.steady steady)).1;
 }
 
 pub returns-in-None-clause-gives : goal.returns-in-None-clause-gives

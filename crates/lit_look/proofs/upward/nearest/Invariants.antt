@@ -18,6 +18,7 @@ invariant-loop-number g l = record {
   nodes : g.T.Tree.nodes l.tree ≡ g.T.Tree.nodes l.fn.tree;
   root : g.T.Tree.root l.tree ≡ g.T.Tree.root l.fn.tree;
   calm : g.T.Tree.faults l.tree ≡ g.T.Tree.faults l.fn.tree;
+  steady : g.T.Tree.steady l.fn.tree → g.T.Tree.steady l.tree;
 }
 
 abbrev pub decreases-loop-number : goal.decreases-loop-number
