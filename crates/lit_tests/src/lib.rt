@@ -1,5 +1,5 @@
 //! Tests of the parts of `lit`: how tests are found and kept, suites, scripts and features, replacements, the lines
-//! of its shell, and runs whose tree or output fails. Whole runs are rows of `rows/`.
+//! of its shell, reports, and runs whose tree or output fails. Whole runs are rows of `rows/`.
 #![tactic(auto)]
 
 #[cfg(test)]
@@ -11,9 +11,13 @@ mod kept;
 #[cfg(test)]
 mod looks;
 #[cfg(test)]
+mod lost;
+#[cfg(test)]
 mod paths;
 #[cfg(test)]
 mod replacements;
+#[cfg(test)]
+mod reports;
 #[cfg(test)]
 mod rows;
 #[cfg(test)]
