@@ -1,7 +1,9 @@
 //! Tests of the parts of `lit`: how tests are found and kept, suites, scripts and features, replacements, the lines
-//! of its shell, reports, and runs whose tree or output fails. Whole runs are rows of `rows/`.
+//! of its shell and how they are played, reports, and runs whose tree or output fails. Whole runs are rows of `rows/`.
 #![tactic(auto)]
 
+#[cfg(test)]
+mod crews;
 #[cfg(test)]
 mod discoveries;
 #[cfg(test)]
@@ -14,6 +16,8 @@ mod looks;
 mod lost;
 #[cfg(test)]
 mod paths;
+#[cfg(test)]
+mod plays;
 #[cfg(test)]
 mod replacements;
 #[cfg(test)]

@@ -4,4 +4,5 @@ pub mod Grammar
 pub mod Quoting
 pub mod Reading
 pub mod Token
+pub mod Value
 pub mod Word

@@ -2,6 +2,7 @@
 ghost use Rattle.mini_shell.specs.Grammar.{LinesAreRead};
 ghost use Rattle.mini_shell.specs.Quoting.{WordsAreRead};
 ghost use Rattle.mini_shell.specs.Reading.{ReadingIsOne};
+ghost use Rattle.mini_shell.specs.Value.{LineIsRead};
 
 /// A text is read in one way.
 pub fn law_of_readings()
@@ -16,4 +17,10 @@ pub fn law_of_lines()
 /// A word is read at the front of a text exactly where one is written there.
 pub fn law_of_words()
     ensures { WordsAreRead }
+{}
+
+/// A text is read as the value, and as nothing else.
+#[tactic(auto, using(crate::proofs::ValueLemmas::line_is_read))]
+pub fn law_of_values()
+    ensures { LineIsRead }
 {}

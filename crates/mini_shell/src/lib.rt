@@ -13,6 +13,6 @@ mod token;
 mod word;
 
 pub use fault::{ShellFail, ShellFault, ShellKind};
-pub use laws::{law_of_lines, law_of_readings, law_of_words};
+pub use laws::{law_of_lines, law_of_readings, law_of_values, law_of_words};
 pub use line::{Command, Join, Line, Pipe, Redir, RedirForm};
 pub use parser::parse_line;

@@ -2,6 +2,7 @@
 ghost use Rattle.std.specs.Prelude.{◌≡◌};
 ghost use Rattle.mini_shell.specs.Grammar.{Parses};
 ghost use Rattle.mini_shell.specs.Reading.{Reads};
+ghost use Rattle.mini_shell.specs.Value.{IsLineIn, line_in};
 
 use crate::fault::ShellFail;
 use crate::line::Line;
@@ -10,10 +11,11 @@ use crate::token::{Next, next_token};
 use std::alloc::Global;
 
 /// The line that a text is, or its first refusal from the left. Of a refused line nothing is kept.
-#[tactic(auto, using(crate::proofs::SentenceLemmas::read_parses))]
+#[tactic(auto, using(crate::proofs::SentenceLemmas::read_parses, crate::proofs::ValueLemmas::reads_in))]
 pub fn parse_line(alloc: Global, text: &[u8]) -> Result<Line, ShellFail>
     ensures line { Parses text.now result }
     ensures first { Reads text.now result }
+    ensures value { IsLineIn result (line_in text.now) }
 {
     read_line(alloc, text)
 }

@@ -1,0 +1,4 @@
+pub mod Places
+pub mod Play
+pub mod Standing
+pub mod PlayOf

@@ -1,0 +1,410 @@
+//! What a reply changes.
+ghost use Rattle.std.specs.Prelude.{◌≡◌, ◌+◌, ◌<◌, ◌++◌, ◌∷◌, [], ℕ, List, IfOk, OnOk, length, if◌then◌else◌};
+ghost use Rattle.test_course.specs.Course.{after};
+ghost use Rattle.shell_play.specs.Places.{errors_of, flow_of, places_of, writes_of};
+ghost use Rattle.shell_play.specs.Play.{is_none_left, by_read, by_spawn, by_write, first_word, last_failed, lacking, quiet, status_of, streamed, tooled, write_files};
+ghost use Rattle.shell_play.specs.Standing.{IsHere, AreFew, files_left, is_heard, told_last, onward, stands, task, told_now, wanted};
+ghost use Rattle.shell_play.specs.declared.told.Told.{Told};
+
+use crate::places::{Write, errors_of, flow_of, places_of, writes_of};
+use crate::stage::{Running, Stage, Wants};
+use crate::steps::next_command;
+use crate::told::{Note, PlayEnd, Told};
+use crate::tools::tooled;
+use mini_shell::{Command, Redir};
+use std::alloc::Global;
+use tt_base::{Bytes, Items, NoMemory};
+use tt_outside::{Finish, Reply, Test};
+
+/// What is told now of the command at hand, and what is due next.
+#[derive(Drop)]
+pub struct Change<'a> {
+    pub now: Told,
+    pub stage: Stage<'a>,
+}
+
+fn status_of(finish: Finish) -> u32
+    ensures { result ≡ status_of finish }
+{
+    match finish {
+        Finish::Code(code) => u32::from(code),
+        Finish::Signal(signal) => 128 + u32::from(signal),
+    }
+}
+
+fn lacking(status: u32) -> u32
+    ensures { result ≡ lacking status }
+{
+    if status == 0 { 1 } else { status }
+}
+
+fn last_failed(failed: u32, status: u32) -> u32
+    ensures { result ≡ last_failed failed status }
+{
+    if status == 0 { failed } else { status }
+}
+
+/// An equal one.
+fn copy_running<'a>(alloc: Global, running: &Running<'a>) -> Result<Running<'a>, NoMemory>
+    ensures { IfOk result (λ copy. copy ≡ running.now) }
+{
+    Ok(Running {
+        line: running.line,
+        lines: running.lines,
+        pipes: running.pipes,
+        inverted: running.inverted,
+        commands: running.commands,
+        command: running.command,
+        dir: Bytes::from_slice(alloc, running.dir.as_slice())?,
+        failed: running.failed,
+    })
+}
+
+/// Files that are left to write, and then the command has its status.
+fn write_files<'a>(
+    alloc: Global,
+    test: &Test,
+    running: &Running<'a>,
+    now: Told,
+    writes: Items<Write>,
+    flow: Bytes,
+    status: u32,
+) -> Result<Change<'a>, NoMemory>
+    requires few { running.now.line + length running.now.lines.now < 1000 }
+    requires here { now.line ≡ running.now.line }
+    ensures few { IfOk result (λ change. AreFew change.stage) }
+    ensures here { IfOk result (λ change. IsHere change.stage change.now.line) }
+    ensures exact { IfOk result (λ change. (before : List Told)
+        → stands test.now (before ++ change.now ∷ []) change.stage
+        ≡ write_files writes (onward test.now running.now flow) before now status) }
+{
+    if writes.is_empty() {
+        let stage = next_command(
+            alloc,
+            test,
+            running,
+            last_failed(running.failed, status),
+            flow,
+        )?;
+        let mut now = now;
+        now.status = Some(status);
+        return Ok(Change { now, stage });
+    }
+    let running = copy_running(alloc, running)?;
+    Ok(Change {
+        now,
+        stage: Stage::Command(running, Wants::Files(writes, flow, status)),
+    })
+}
+
+/// Where the bytes of a command's streams come to.
+#[derive(Drop)]
+struct Poured {
+    writes: Items<Write>,
+    errors: Bytes,
+    flow: Bytes,
+}
+
+fn pour(
+    alloc: Global,
+    dir: &[u8],
+    redirs: &[Redir],
+    out: &[u8],
+    err: &[u8],
+) -> Result<Poured, NoMemory>
+    ensures { IfOk result (λ poured. (poured.writes ≡ writes_of (places_of dir.now redirs.now) out.now err.now)
+        × (poured.errors ≡ errors_of (places_of dir.now redirs.now) out.now err.now)
+        × (poured.flow ≡ flow_of (places_of dir.now redirs.now) out.now err.now)) }
+{
+    let places = places_of(alloc, dir, redirs)?;
+    let writes = writes_of(alloc, &places, out, err)?;
+    let errors = errors_of(alloc, &places, out, err)?;
+    let flow = flow_of(alloc, &places, out, err)?;
+    Ok(Poured {
+        writes,
+        errors,
+        flow,
+    })
+}
+
+fn is_none_left(commands: &[Command]) -> bool
+    ensures { result ≡ is_none_left commands.now }
+{
+    commands.is_empty()
+}
+
+/// What comes to the transcript of a pipe's last command, and what goes on behind another one.
+fn shown_or_passed(alloc: Global, last: bool, flow: Bytes) -> (Bytes, Bytes)
+    ensures shown { result.0 ≡ if last then flow else [] }
+    ensures passed { result.1 ≡ if last then [] else flow }
+{
+    if last {
+        (flow, Bytes::new(alloc))
+    } else {
+        (Bytes::new(alloc), flow)
+    }
+}
+
+/// A command that ended: its streams go to their places.
+fn streamed<'a>(
+    alloc: Global,
+    test: &Test,
+    running: &Running<'a>,
+    notes: Items<Note>,
+    out: &[u8],
+    err: &[u8],
+    status: u32,
+) -> Result<Change<'a>, NoMemory>
+    requires few { running.now.line + length running.now.lines.now < 1000 }
+    ensures few { IfOk result (λ change. AreFew change.stage) }
+    ensures here { IfOk result (λ change. IsHere change.stage change.now.line) }
+    ensures exact { IfOk result (λ change. (before : List Told)
+        → stands test.now (before ++ change.now ∷ []) change.stage
+        ≡ streamed (task test.now running.now) (onward test.now running.now) before
+        (record (quiet running.now.line) { notes = notes }) out.now err.now status) }
+{
+    let poured = pour(
+        alloc,
+        running.dir.as_slice(),
+        running.command.redirs.as_slice(),
+        out,
+        err,
+    )?;
+    let Poured {
+        writes,
+        errors,
+        flow,
+    } = poured;
+    let last = is_none_left(running.commands);
+    let (shown, passed) = shown_or_passed(alloc, last, flow);
+    let now = Told {
+        line: running.line,
+        notes,
+        out: shown,
+        err: errors,
+        status: None,
+    };
+    write_files(alloc, test, running, now, writes, passed, status)
+}
+
+/// The word of a program that is missing.
+fn program_of(alloc: Global, test: &Test, running: &Running) -> Result<Bytes, NoMemory>
+    ensures { IfOk result (λ word. word ≡ first_word (task test.now running.now).words) }
+{
+    let words = tooled(
+        alloc,
+        test.tools.as_slice(),
+        running.command.words.as_slice(),
+    )?;
+    match words.as_slice().split_first() {
+        Some((word, _)) => Bytes::from_slice(alloc, word.as_slice()),
+        None => Ok(Bytes::new(alloc)),
+    }
+}
+
+/// One note.
+fn one(alloc: Global, note: Note) -> Result<Items<Note>, NoMemory>
+    ensures { IfOk result (λ notes. notes ≡ note ∷ []) }
+{
+    let mut notes = Items::new(alloc);
+    notes.push(note)?;
+    Ok(notes)
+}
+
+/// A reply that ends the play.
+fn unresolved<'a>(now: Told, line: u32) -> Change<'a>
+    requires few { line < 1000 }
+    ensures { (result.now ≡ now) × (result.stage ≡ Stage.Over (line + 1) PlayEnd.Unresolved) }
+{
+    Change {
+        now,
+        stage: Stage::Over(line + 1, PlayEnd::Unresolved),
+    }
+}
+
+/// Behind the reply to the ReadFile of its input.
+fn by_read<'a>(
+    alloc: Global,
+    test: &Test,
+    running: &Running<'a>,
+    path: &Bytes,
+    reply: &Reply,
+) -> Result<Change<'a>, NoMemory>
+    requires few { running.now.line + length running.now.lines.now < 1000 }
+    ensures few { IfOk result (λ change. AreFew change.stage) }
+    ensures here { IfOk result (λ change. IsHere change.stage change.now.line) }
+    ensures exact { IfOk result (λ change. (before : List Told)
+        → stands test.now (before ++ change.now ∷ []) change.stage
+        ≡ by_read (task test.now running.now) path.now (onward test.now running.now) before (quiet running.now.line) reply.now) }
+{
+    match reply {
+        Reply::Bytes(bytes) => {
+            let input = Bytes::from_slice(alloc, bytes.as_slice())?;
+            let copy = copy_running(alloc, running)?;
+            Ok(Change {
+                now: Told::quiet(alloc, running.line),
+                stage: Stage::Command(copy, Wants::Program(input, true)),
+            })
+        }
+        Reply::Missing => {
+            let notes = one(
+                alloc,
+                Note::NoFile(Bytes::from_slice(alloc, path.as_slice())?),
+            )?;
+            streamed(alloc, test, running, notes, b"", b"", 1)
+        }
+        Reply::Written | Reply::Status { .. } | Reply::TooLarge(_) | Reply::Broken => {
+            Ok(unresolved(Told::quiet(alloc, running.line), running.line))
+        }
+    }
+}
+
+/// Behind the reply to the Spawn of its program.
+fn by_spawn<'a>(
+    alloc: Global,
+    test: &Test,
+    running: &Running<'a>,
+    reply: &Reply,
+) -> Result<Change<'a>, NoMemory>
+    requires few { running.now.line + length running.now.lines.now < 1000 }
+    ensures few { IfOk result (λ change. AreFew change.stage) }
+    ensures here { IfOk result (λ change. IsHere change.stage change.now.line) }
+    ensures exact { IfOk result (λ change. (before : List Told)
+        → stands test.now (before ++ change.now ∷ []) change.stage
+        ≡ by_spawn (task test.now running.now) (onward test.now running.now) before (quiet running.now.line) reply.now) }
+{
+    match reply {
+        Reply::Status { finish, out, err } => streamed(
+            alloc,
+            test,
+            running,
+            Items::new(alloc),
+            out.as_slice(),
+            err.as_slice(),
+            status_of(*finish),
+        ),
+        Reply::Missing => {
+            let notes = one(alloc, Note::NoProgram(program_of(alloc, test, running)?))?;
+            streamed(alloc, test, running, notes, b"", b"", 127)
+        }
+        Reply::Written | Reply::Bytes(_) | Reply::TooLarge(_) | Reply::Broken => {
+            Ok(unresolved(Told::quiet(alloc, running.line), running.line))
+        }
+    }
+}
+
+/// Adds equal files.
+fn add_writes(alloc: Global, writes: &mut Items<Write>, more: &[Write]) -> Result<(), NoMemory>
+    ensures { OnOk result (writes.new ≡ writes.old ++ more.now) }
+{
+    for write in more {
+        writes.push(Write {
+            path: Bytes::from_slice(alloc, write.path.as_slice())?,
+            bytes: Bytes::from_slice(alloc, write.bytes.as_slice())?,
+            append: write.append,
+        })?;
+    }
+    Ok(())
+}
+
+/// Behind the reply to a WriteFile, of which the path is given, and these files are left.
+fn by_write<'a>(
+    alloc: Global,
+    test: &Test,
+    running: &Running<'a>,
+    path: &Bytes,
+    left: &[Write],
+    flow: &Bytes,
+    status: u32,
+    now: Told,
+    reply: &Reply,
+) -> Result<Change<'a>, NoMemory>
+    requires few { running.now.line + length running.now.lines.now < 1000 }
+    requires here { now.line ≡ running.now.line }
+    ensures few { IfOk result (λ change. AreFew change.stage) }
+    ensures here { IfOk result (λ change. IsHere change.stage change.now.line) }
+    ensures exact { IfOk result (λ change. (before : List Told)
+        → stands test.now (before ++ change.now ∷ []) change.stage
+        ≡ by_write path.now (write_files left.now (onward test.now running.now flow.now) before) before now status reply.now) }
+{
+    let mut writes = Items::new(alloc);
+    add_writes(alloc, &mut writes, left)?;
+    let flow = Bytes::from_slice(alloc, flow.as_slice())?;
+    match reply {
+        Reply::Written => write_files(alloc, test, running, now, writes, flow, status),
+        Reply::Missing => {
+            let mut now = now;
+            now.notes
+                .push(Note::NoWrite(Bytes::from_slice(alloc, path.as_slice())?))?;
+            write_files(alloc, test, running, now, writes, flow, lacking(status))
+        }
+        Reply::Bytes(_) | Reply::Status { .. } | Reply::TooLarge(_) | Reply::Broken => {
+            Ok(unresolved(now, running.line))
+        }
+    }
+}
+
+/// Whether something was told of the command already.
+pub(crate) fn is_heard(wants: &Wants) -> bool
+    ensures { result ≡ is_heard wants.now }
+{
+    match wants {
+        Wants::Input(_) => false,
+        Wants::Program(_, heard) => *heard,
+        Wants::Files(..) => true,
+    }
+}
+
+/// An equal one of the last that was told.
+fn last_told(alloc: Global, line: u32, told: &[Told]) -> Result<Told, NoMemory>
+    ensures { IfOk result (λ last. last ≡ record (told_last told.now) { line = line }) }
+{
+    let mut last = if told.is_empty() {
+        Told::quiet(alloc, line)
+    } else {
+        told[told.len() - 1].copy(alloc)?
+    };
+    last.line = line;
+    Ok(last)
+}
+
+/// What a reply to a command's request changes.
+pub(crate) fn change_by<'a>(
+    alloc: Global,
+    test: &Test,
+    told: &[Told],
+    running: &Running<'a>,
+    wants: &Wants,
+    reply: &Reply,
+) -> Result<Change<'a>, NoMemory>
+    requires few { (running.now.line + length running.now.lines.now < 1000) × (0 < files_left wants.now) }
+    ensures few { IfOk result (λ change. AreFew change.stage) }
+    ensures here { IfOk result (λ change. IsHere change.stage change.now.line) }
+    ensures exact { IfOk result (λ change.
+        stands test.now (told_now (is_heard wants.now) told.now change.now) change.stage
+        ≡ after (wanted test.now told.now running.now wants.now) reply.now) }
+{
+    match wants {
+        Wants::Input(path) => by_read(alloc, test, running, path, reply),
+        Wants::Program(_, false) => by_spawn(alloc, test, running, reply),
+        Wants::Program(_, true) => by_spawn(alloc, test, running, reply),
+        Wants::Files(writes, flow, status) => {
+            let Some((first, left)) = writes.as_slice().split_first() else {
+                unreachable!();
+            };
+            let last = last_told(alloc, running.line, told)?;
+            let change = by_write(
+                alloc,
+                test,
+                running,
+                &first.path,
+                left,
+                flow,
+                *status,
+                last,
+                reply,
+            )?;
+            Ok(change)
+        }
+    }
+}
