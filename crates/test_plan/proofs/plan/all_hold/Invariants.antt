@@ -1,0 +1,14 @@
+use Rattle.std.proofs.Common.{◌≡◌, length}
+use Rattle.bool_exprs.specs.View.{exprs_of}
+use Rattle.lit_directives.specs.Lists.{AreFree}
+use Rattle.test_plan.specs.Plan.{all_hold}
+use Rattle.test_plan.proofs.plan.all_hold.Given as goal
+
+abbrev pub invariant-loop-first : goal.invariant-loop-first
+invariant-loop-first l = record {
+  free : AreFree l.rest;
+  whole : all_hold l.features (exprs_of l.rest) ≡ all_hold l.features (exprs_of l.exprs);
+}
+
+abbrev pub decreases-loop-first : goal.decreases-loop-first
+decreases-loop-first l = length l.rest
