@@ -1,0 +1,4 @@
+pub mod EndingLemmas
+pub mod LawLemmas
+pub mod LineLemmas
+pub mod TextLemmas

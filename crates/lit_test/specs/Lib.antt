@@ -1,0 +1,5 @@
+pub mod Laws
+pub mod Names
+pub mod Run
+pub mod Transcript
+pub mod Trial
