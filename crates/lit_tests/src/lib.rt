@@ -1,5 +1,6 @@
 //! Tests of the parts of `lit`: how tests are found and kept, suites, scripts and features, replacements, the lines
-//! of its shell and how they are played, reports, and runs whose tree or output fails. Whole runs are rows of `rows/`.
+//! of its shell and how they are played, tests that are run over planned replies, reports, and runs whose tree or output fails.
+//! Whole runs are rows of `rows/`.
 #![tactic(auto)]
 
 #[cfg(test)]
@@ -36,5 +37,7 @@ mod suites;
 mod tests_made;
 #[cfg(test)]
 mod trees;
+#[cfg(test)]
+mod trials;
 #[cfg(test)]
 mod wide;
