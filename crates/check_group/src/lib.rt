@@ -1,5 +1,6 @@
 //! What one directive comes to at a place of an input, what a group of DAGs does, and what NOTs tell of a region. After LLVM
-//! Command Guide, FileCheck. Patterns are sought below, in `pattern_scan`; blocks of directives stand above this crate.
+//! Command Guide, FileCheck. Patterns are sought below, in `pattern_scan`; blocks of directives stand above this crate. The matches of a group stand in a ring buffer, in order of
+//! their places, and those that a try overlaps are found by halves.
 #![tactic(auto)]
 
 mod alone;

@@ -1,5 +1,6 @@
 //! The texts of FileCheck: their canonical form, and the directives that a check file holds line by line.
-//! After LLVM Command Guide, FileCheck. Scanning and messages stand above.
+//! After LLVM Command Guide, FileCheck. Scanning and messages stand above. A text is made canonical in place, by vectors of sixteen
+//! bytes that a table moves together.
 #![tactic(auto)]
 
 mod canonical;

@@ -1,5 +1,6 @@
 //! The automaton of a regular expression without references: it is shown the bytes of a slice one by one, and finds
-//! the leftmost longest span. What it is shown is counted.
+//! the leftmost longest span. What it is shown is counted. The idea: Pike's threads, each with its start, over Thompson's table; the
+//! steps that were made are kept as the rows of a lazy DFA.
 #![tactic(auto)]
 
 mod auto;

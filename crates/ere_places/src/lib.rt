@@ -1,5 +1,5 @@
 //! The places that an expression without references leads to from given ones: the ends of its spans ahead, or the
-//! starts of its spans back. Captures inside a known span stand on this crate.
+//! starts of its spans back, as sets of bits. Captures inside a known span stand on this crate.
 #![tactic(auto)]
 
 mod leaf;

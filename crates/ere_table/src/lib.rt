@@ -1,5 +1,5 @@
-//! Regular expressions without references as tables of nodes that lead through a text. The automaton of the crate
-//! above runs over such a table, and never sees an expression.
+//! Regular expressions without references as tables of nodes that lead through a text: Thompson's NFA, with bounds unfolded.
+//! The automaton of the crate above runs over such a table, and never sees an expression.
 #![tactic(auto)]
 
 mod node;

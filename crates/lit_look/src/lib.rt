@@ -1,5 +1,6 @@
 //! Which directories a discovery has looked at, and the suite of a directory: the one at it, or the nearest above.
-//! After LLVM Command Guide, lit, 'TEST DISCOVERY'; a suite is what its `lit.suite.toml` says.
+//! After LLVM Command Guide, lit, 'TEST DISCOVERY'; a suite is what its `lit.suite.toml` says. What was looked at is
+//! kept, so each directory is read once.
 #![tactic(auto)]
 
 mod looking;

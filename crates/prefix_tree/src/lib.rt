@@ -1,4 +1,4 @@
-//! Prefixes as a tree of bytes: which of them is meant at a place, in a time that doesn't depend on how many there are.
+//! Prefixes as a tree of bytes, a trie: which of them is meant at a place, in a time that doesn't depend on how many there are.
 #![tactic(auto)]
 
 mod heads;
