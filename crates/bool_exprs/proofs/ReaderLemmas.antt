@@ -1,4 +1,6 @@
 -- What was read of a list, and what the rest of the text adds to it, is what the whole text says.
+-- One lemma for each step of the reader: a blank, a token, none, one that is refused, and the end of the text.
+-- `list_next` is the step of the loop; each follows from what the definition says of the first byte.
 use Rattle.std.proofs.Common.{◌≡◌, ℕ, ◌-◌, ◌<◌, ◌≤◌, suc, zero, Bool, true, false, true≢false, List, [], ◌∷◌, length, drop, Some, None, refl, sym, ap, ◌∙◌, arith}
 use Rattle.std.specs.Option.{option_and_then}
 use Rattle.ere_tree.specs.Class.{is_blank}

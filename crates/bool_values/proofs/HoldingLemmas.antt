@@ -1,4 +1,6 @@
 -- The value holds where the expression does: by cases on the expression, and for a tree by the list of its derivations.
+-- Names are sought in the list of features, by a test that computes or by a relation that says the same of each.
+-- The long one is the mutual block over expressions, both ways at once, since `!` turns them round.
 use Rattle.std.proofs.Common.{◌≡◌, ◌∙◌, ◌⊎◌, inl, inr, ◌==◌, ◌&&◌, ◌||◌, not, ℕ, Bool, true, false, List, [], ◌∷◌, length, refl, sym, ap, subst, true≢false, arith}
 use Rattle.std.specs.Prelude.{IsTrue, ◌↔◌}
 use Rattle.std.specs.FinMap.{empty}

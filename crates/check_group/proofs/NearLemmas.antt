@@ -1,5 +1,6 @@
 -- A plain text that begins nowhere before a place is first where it first is from there on.
 -- Shown: an occurrence in the rest of a text is one in the text, and none begins between the two places.
+-- The module has both ways; `begins_behind` says so of a directive whose pattern is plain.
 use Rattle.std.proofs.Common.{◌≡◌, ℕ, ◌+◌, ◌-◌, ◌<◌, ◌≤◌, ⊎_elim, List, [], ◌∷◌, length, take, drop, length-drop, Some, None, Ok, Err, refl, sym, ◌∙◌, ap, subst, arith}
 use Rattle.std.proofs.lemmas.Bool.{cases_lt}
 use Rattle.std.proofs.lemmas.List.{drop-drop}

@@ -1,4 +1,6 @@
--- Places of variables before the first directive.
+-- Places of variables before the first directive: each name of the patterns and of the words has one.
+-- By induction over the names, and over the bindings that are stored behind them; a place that is made stays.
+-- `fresh_placed` is the harder one, since a binding puts a value and a place at once.
 use Rattle.std.proofs.Common.{◌≡◌, ◌∙◌, ℕ, zero, suc, ◌<◌, arith, Bool, true, false, cond, is_some, Some, List, [], ◌∷◌, ◌++◌, get_or, length, map, refl, subst, ap, append-nil}
 use Rattle.std.specs.FinMap.{FinMap, empty, get, insert, get-insert}
 use Rattle.std.specs.Ordering.{is_eq}

@@ -1,5 +1,6 @@
 -- Bounds: what is read is spelled, and what is spelled is read.
--- Digits come first: how many there are, and their number. `braced_read` is the long one, a case for each form.
+-- Digits come first: how many there are, and their number, by induction over them; then a case for each form in braces.
+-- `braced_read` is the long one: it takes apart what was read at each byte where the reader chose.
 use Rattle.std.proofs.Common.{◌≡◌, ℕ, ◌+◌, ◌-◌, ◌*◌, ◌^◌, ◌<◌, ◌≤◌, true, false, ◌&&◌, ◌==◌, inl, inr, codes, List, [], ◌∷◌, ◌++◌, Option, Some, None, length, take, drop, nat_le, refl, sym, ap, subst, ◌∙◌, arith, append_assoc, length-append}
 use Rattle.std.proofs.Math.Nat.{add-mul, pow-suc}
 use Rattle.std.proofs.lemmas.Bool.Decides.{nat_tests}

@@ -1,4 +1,6 @@
--- What stands at the front of a text, as a test and as a relation.
+-- What stands at the front of a text, as a test that computes and as a relation, each from the other.
+-- By induction over the front; the empty front and one of a single byte are cases of their own.
+-- The module at the end takes a run of bytes that pass a test up to the first that doesn't.
 use Rattle.std.proofs.Common.{◌≡◌, ℕ, suc, ◌+◌, ◌<◌, Bool, true, false, cond, ◌==◌, ◌⊎◌, inl, inr, List, [], ◌∷◌, ◌++◌, Some, None, length, take, refl, sym, ap, ◌∙◌, arith}
 use Rattle.std.proofs.lemmas.Bool.{and_parts, eqb-true, eq-eqb, true≢false}
 use Rattle.std.specs.List.{list_all, prefix_len}

@@ -1,4 +1,6 @@
 -- Tokens: what is read is spelled, and what is spelled is read. An atom comes first, then the bound behind it.
+-- By cases on the first byte, each by what the reader computes there; bounds are those of BoundSpelling.
+-- The hard ones are `atom_told`, a case for each byte with a meaning of its own, and `atom_spelled`, its other way.
 use Rattle.std.proofs.Common.{◌≡◌, ℕ, suc, ◌+◌, ◌-◌, ◌<◌, ◌≤◌, Bool, true, false, cond, ◌&&◌, ◌||◌, ◌==◌, inl, inr, codes, IsTrue, List, [], ◌∷◌, ◌++◌, Some, None, Result, Ok, Err, length, drop, nat_lt, refl, sym, ap, subst, ◌∙◌, arith, length-append}
 use Rattle.std.proofs.lemmas.Bool.{and_from, eq-eqb, eqb-true, lt-ltb, true≢false, or_parts}
 use Rattle.std.proofs.lemmas.List.{drop_at, drop-drop}

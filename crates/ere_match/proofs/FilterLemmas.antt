@@ -1,4 +1,6 @@
 -- Where a hit may lie, as the span of an expression without references tells that spans whatever this one spans.
+-- Where that one spans nothing from a place on, this one has no hit there; each try leaves fewer places.
+-- `may_lie` is the hard one: the hit begins at the span's start or behind it.
 use Rattle.std.proofs.Common.{◌≡◌, ℕ, ◌+◌, ◌-◌, ◌≤◌, ◌<◌, Option, Some, None, IfSome, List, length, sym, subst, inl, inr, arith}
 use Rattle.std.proofs.lemmas.Bool.{cases_lt}
 use Rattle.std.specs.FinMap.{empty}

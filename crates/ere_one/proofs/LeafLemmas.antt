@@ -1,5 +1,6 @@
 -- What walks along bytes, a set, an anchor and a repeated set tell. Each span of a leaf has the end that its length
--- says; a repeated set spans no more than the run of its bytes. The hard one is `run_admits`, the run's end.
+-- says; a repeated set spans no more than the run of its bytes, and behind the run its follower begins.
+-- The hard one is `run_admits`, the run's end.
 use Rattle.std.proofs.Common.{◌≡◌, ℕ, ◌+◌, ◌-◌, ◌<◌, ◌≤◌, IsTrue, Option, Some, None, List, length, slice_index, refl, ap, subst, inl, inr, arith}
 use Rattle.std.specs.Prelude.{IfSome}
 use Rattle.std.specs.List.{Contains}

@@ -1,5 +1,6 @@
 -- Walks along groups, and along trees one behind the other. What a walk along the first tree tells, and one along those
--- behind it, makes what a walk along all of them tells. The hard one is `join`.
+-- behind it, makes what a walk along all of them tells: the first has one end before what follows can begin.
+-- The hard one is `join`.
 use Rattle.std.proofs.Common.{◌≡◌, ℕ, ◌+◌, ◌<◌, ◌≤◌, List, length, map, drop, slice_index_or, refl, sym, ap, ◌∙◌, subst}
 use Rattle.std.proofs.lemmas.List.{drop_more, drop_all}
 use Rattle.std.specs.FinMap.{empty, insert}

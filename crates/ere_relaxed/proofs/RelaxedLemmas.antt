@@ -1,5 +1,6 @@
 -- What an expression with references spans, its relaxed form spans. By induction on the tree.
--- The hard one is `relaxed_gives`: captures are handed on, and each setting of a group is one that its copy spans.
+-- Captures are handed on, and each setting of a group is one that the group's copy spans; nothing else is asked of them.
+-- The hard one is `relaxed_gives`, a case for each form; a reference takes its group's copy, or any text.
 use Rattle.std.proofs.Common.{◌≡◌, ℕ, zero, suc, ◌+◌, ◌-◌, ◌<◌, ◌≤◌, ◌==◌, Bool, true, false, cond, Option, Some, None, List, [], ◌∷◌, ◌++◌, length, refl, sym, ap, ◌∙◌, subst, inl, inr, arith, slice_index, eqb-true, true≢false}
 use Rattle.std.proofs.lemmas.Option.{none-some}
 use Rattle.std.specs.Cmp.{nat_cmp_total}

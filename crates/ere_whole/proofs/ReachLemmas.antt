@@ -1,5 +1,6 @@
 -- Places that are led to from those of a set: none, those that stay, those of two relations, and those led to through
--- the places of one block after the other. The hard one is `middle_more`, one block of middle places more.
+-- the places of one block after the other. A set of places knows one block of 256, so each lemma keeps to one block.
+-- The hard one is `middle_more`, one block of middle places more.
 use Rattle.std.proofs.Common.{◌≡◌, ◌↔◌, ℕ, ◌+◌, ◌<◌, ◌≤◌, ◌/◌, ◌==◌, ◌&&◌, ◌||◌, Bool, true, false, IsTrue, Some, List, length, zero, suc, refl, sym, ap, ◌∙◌, subst, inl, inr, arith, true≢false, eqb-true, eq-eqb}
 use Rattle.std.specs.Prelude.{◌⊎◌}
 use Rattle.std.proofs.lemmas.Bool.{cases_lt}

@@ -1,4 +1,6 @@
--- Tests that are put on a desk, one by one.
+-- Tests that are put on a desk, one by one: their parts stand behind one another, and what they keep is added up.
+-- By induction over the tests; what the desk shows, and of how many tests, stays from one to the next.
+-- `stops_in_a_part` is the hard one: what the refused test leaves is a front of its part, by the cause of the stop.
 use Rattle.std.proofs.Common.{◌≡◌, ℕ, ◌+◌, List, [], ◌∷◌, ◌++◌, length, map, refl, sym, ap, ◌∙◌, subst, arith}
 use Rattle.std.specs.List.{sum_by}
 use Rattle.std.proofs.lemmas.List.Sums.{sum_by-cons}

@@ -1,4 +1,6 @@
 -- No replacement of a test has an empty name, since none of its suite has one. So each path has a test.
+-- By the suite's invariant, over its own replacements and those of its parts, which are added one by one.
+-- `test_there` is the long one: it writes the whole test down that is there.
 use Rattle.std.proofs.Common.{◌≡◌, ◌<◌, ℕ, Bool, true, false, cond, List, [], ◌∷◌, ◌++◌, codes, length, map, refl}
 use Rattle.std.specs.List.{All, flat_map}
 use Rattle.std.proofs.lemmas.List.Elements.{All-nil, All-append, All-head, All-tail}

@@ -1,4 +1,6 @@
--- What a look gives where the directory was not looked at.
+-- What a look gives where the directory was not looked at: its suite, or its fault.
+-- `IsDue` has what is known once the items are listed and counted; from there the two answers of `look_in` lead on.
+-- The hard one is `suite_refuses`, a case for each fault that a directory may have.
 use Rattle.std.proofs.Common.{◌≡◌, ℕ, ◌+◌, ◌≤◌, List, [], ◌∷◌, ◌++◌, length, length-append, Option, Some, IfSome, Result, Ok, Err, ◌⊎◌, sym, ap, ◌∙◌, subst, arith}
 use Rattle.std.specs.Prelude.{slice_get}
 use Rattle.std.proofs.lemmas.List.{get_or_push}

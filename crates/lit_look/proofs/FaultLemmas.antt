@@ -1,4 +1,6 @@
 -- What a directory that was looked at is refused for: a Python configuration, its suite file, or too many items.
+-- By cases on what the definition computes of the directory's nodes: all other faults are of words or of the tree.
+-- `of_refused` says so of what was refused, for each property that holds of these three.
 use Rattle.std.proofs.Common.{◌≡◌, ℕ, ◌+◌, nat_lt, Bool, true, false, cond, List, [], ◌∷◌, ◌++◌, length, Option, Some, None, Result, Ok, Err, subst}
 use Rattle.lit_dirs.specs.Looks.{fault_in, python_in, python_or, reading_fault, suite_fault, suite_fault_in}
 use Rattle.lit_dirs.specs.Suites.{suite_path}

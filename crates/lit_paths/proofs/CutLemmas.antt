@@ -1,4 +1,6 @@
 -- Where a text is cut: behind a path, and at its last slash.
+-- Behind a path part by part: what was passed is those parts, each behind a slash. The last slash has none behind it.
+-- The hard one is `behind_part`, one part more.
 use Rattle.std.proofs.Common.{◌≡◌, ◌==◌, ℕ, ◌+◌, ◌-◌, ◌<◌, false, true≢false, inl, inr, List, [], ◌∷◌, ◌++◌, min, length, length-append, take, drop, get_or, All, Some, None, sym, ap, ◌∙◌, arith, add-one, suc, zero, append_assoc}
 use Rattle.std.proofs.Math.Seq.{drop-cons, get_or-append_right, get_or-append_seam, take-append_seam}
 use Rattle.std.proofs.lemmas.Bool.{cases_order}

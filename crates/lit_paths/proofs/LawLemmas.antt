@@ -1,4 +1,5 @@
 -- The laws of paths: where the path of a name is written, that a text tells its path, and that joined paths are normal.
+-- By induction over the parts of a path; a part has no slash, so a text is cut at its slashes in one way.
 -- A text is cut at its slashes, which gives the parts back: that is `cut_gives_parts`, the hard one.
 use Rattle.std.proofs.Common.{◌≡◌, ◌==◌, ℕ, Bool, true, List, [], ◌∷◌, ◌++◌, false, cond, refl, sym, ◌∙◌, ap, append-nil, append_assoc, arith}
 use Rattle.std.specs.List.{list_all, onto_first, slice_split}

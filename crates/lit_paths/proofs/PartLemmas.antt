@@ -1,4 +1,6 @@
--- What the tests on parts of paths say.
+-- What the tests on parts of paths say, of one part and of all parts of a path.
+-- They are conjunctions that compute: each lemma takes one side of one, or puts two together.
+-- `no_slash` is the one that is used most; none is hard.
 use Rattle.std.proofs.Common.{◌≡◌, ◌==◌, ℕ, Bool, true, false, not, ◌&&◌, ◌||◌, List, [], ◌∷◌, Option, None, map, refl, sym, ◌∙◌, ap, true≢false}
 use Rattle.std.proofs.lemmas.List.Elements.{All-nil, All-cons}
 use Rattle.std.proofs.lemmas.Iterator.{YieldsList}

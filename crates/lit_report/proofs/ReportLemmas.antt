@@ -1,4 +1,6 @@
 -- A report grows part by part, and each test is counted once.
+-- By induction over the tests: the part of the last one stands behind those before it, and its result adds one to one of the counts.
+-- `counts_each` is the hard one, a sum over all results.
 use Rattle.std.proofs.Common.{◌≡◌, ℕ, ◌+◌, Bool, true, false, if◌then◌else◌, List, [], ◌∷◌, ◌++◌, length, append_assoc, append-nil, sym, ap, ◌∙◌, refl, arith}
 use Rattle.lit_words.specs.declared.asked.Detail.{Detail}
 use Rattle.test_outcome.specs.Outcome.{is_same}

@@ -1,4 +1,6 @@
--- What was played of a test, and how it ended.
+-- What was played of a test, and how it ended: its attempts, its plan, and the test with the entry of its file.
+-- Each part is played along the course that the definition names, and where nothing more is asked the ending is told of what is left.
+-- The hard ones are `ends_runs`, attempts up to the end of a test, and `ends_behind_file`, a plan behind the first entry.
 use Rattle.std.proofs.Common.{◌≡◌, ◌≢◌, ◌∙◌, ◌≤◌, ◌<◌, ◌+◌, ◌^◌, ℕ, true, List, [], ◌∷◌, ◌++◌, refl, sym, ap, subst, arith}
 use Rattle.std.specs.Prelude.{nat_lt}
 use Rattle.std.proofs.lemmas.Bool.Decides.{nat_tests}

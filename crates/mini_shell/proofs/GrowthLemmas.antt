@@ -1,4 +1,6 @@
 -- A token ends behind where it is looked for: an operator has a sign, and a word has a byte that doesn't end one.
+-- By cases on what stands at an offset that isn't blank; the bytes of a run of signs are those of one operator.
+-- `next_grows` puts them together: so the reader comes to an end.
 use Rattle.std.proofs.Common.{◌≡◌, ◌∙◌, ℕ, zero, suc, ◌+◌, ◌≤◌, ◌<◌, ◌==◌, ◌&&◌, ◌||◌, Bool, true, false, if◌then◌else◌, List, [], ◌∷◌, length, take, drop, Option, Some, None, Result, Ok, Err, refl, sym, ap, subst, arith}
 use Rattle.std.proofs.lemmas.Bool.Decides.{nat_tests}
 use Rattle.std.proofs.lemmas.List.{length-drop}

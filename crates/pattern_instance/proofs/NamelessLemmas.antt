@@ -1,5 +1,6 @@
 -- Pieces that use no names: none of theirs lacks a value, and the groups of texts before them don't matter.
--- By induction over the pieces.
+-- By induction over the pieces, and for a number over its expression.
+-- The long one is `groups_aside`, a case for each kind of piece.
 use Rattle.std.proofs.Common.{◌≡◌, ℕ, ℤ, ◌+◌, Bool, true, false, true≢false, is_some, Option, Some, None, List, [], ◌∷◌, Result, Ok, Err, refl, sym, ap, ◌∙◌}
 use Rattle.std.specs.Prelude.{◌||◌}
 use Rattle.std.specs.FinMap.{empty, insert}

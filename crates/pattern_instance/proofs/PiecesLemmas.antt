@@ -1,4 +1,6 @@
 -- One piece more: what is made with it, in front of the rest, is what was made before, in front of all.
+-- By what the definition says of a first piece; the room that was counted ahead for groups covers those that are left.
+-- `one_more` is the step of the loop, and `one_fault` its early end.
 use Rattle.std.proofs.Common.{◌≡◌, false, ℕ, ◌+◌, ◌<◌, ◌≤◌, ◌^◌, List, ◌∷◌, length, drop, get_or, Result, Err, sym, ap, ◌∙◌, arith}
 use Rattle.std.specs.List.{sum_by}
 use Rattle.std.proofs.lemmas.List.Sums.{sum_by-cons}

@@ -1,5 +1,6 @@
 -- The groups of a part have numbers past those of the pieces before it, and a derivation leaves the other groups as they are.
--- By induction on the tree. The hard one is `keeps`.
+-- By induction on the tree, for one tree and for a list of them together.
+-- The hard one is `keeps`: each form hands on captures that differ at its own groups alone.
 use Rattle.std.proofs.Common.{◌≡◌, ℕ, ℤ, zero, suc, ◌+◌, ◌<◌, ◌≤◌, Bool, true, false, cond, Option, Some, None, Result, Ok, Err, IfOk, List, [], ◌∷◌, ◌++◌, ap, ◌∙◌, subst, arith}
 use Rattle.std.specs.Cmp.{nat_cmp_total, unsigned_tied}
 use Rattle.std.specs.FinMap.{get, insert, get-insert}

@@ -1,4 +1,6 @@
--- What is left behind one pipe of a line, or one line.
+-- What is left behind one pipe of a line, or one line, at each stage at which the code may stand.
+-- Each lemma takes one step of the definition, by cases on the status and on what is left, and names the stage that it comes to.
+-- The hard ones are `runs` and `follows`, where a command begins: its words, directory, input and files are those of the definition.
 use Rattle.tt_outside.specs.declared.request.Reply.{Reply}
 use Rattle.shell_play.specs.declared.places.Write.{Write}
 use Rattle.std.proofs.Common.{◌++◌, ◌==◌, ◌≡◌, ◌≢◌, ◌+◌, ℕ, true, false, List, [], ◌∷◌, Option, Some, None, refl, sym, arith, length, ◌<◌, Bor}

@@ -1,4 +1,6 @@
--- Attempts end to end. An attempt's entries are asked along its play, and so along the attempts; the hard one is `again`.
+-- Attempts end to end: an attempt's entries are asked along its play, and so along the attempts.
+-- An attempt begins with its first entry; one without an entry leaves all as it was, and one that failed is followed by the next.
+-- The hard one is `again`, an attempt behind others.
 use Rattle.std.proofs.Common.{◌≡◌, ◌≢◌, ◌+◌, ◌≤◌, ◌^◌, ◌⊎◌, inl, inr, ℕ, zero, suc, true, false, List, [], ◌∷◌, ◌++◌, length, append-nil, length-append, refl, sym, ap, subst, ◌∙◌, arith}
 use Rattle.tt_outside.specs.Gave.{Gave}
 use Rattle.tt_outside.specs.declared.request.Entry.{Entry}

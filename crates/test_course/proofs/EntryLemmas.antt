@@ -1,4 +1,6 @@
 -- Entries along a course, end to end, and along one that goes on as another.
+-- By induction over the first of two lists; what is kept behind it is where the second begins.
+-- `kept_first` is the hard one: bytes that are counted up to a number are counted alike from any place on.
 use Rattle.std.proofs.Common.{◌≡◌, ◌+◌, ◌≤◌, ◌^◌, ℕ, List, [], ◌∷◌, ◌++◌, append_assoc, append-nil, length, refl, arith}
 use Rattle.tt_outside.specs.Gave.{Gave, SameGave}
 use Rattle.tt_outside.specs.declared.request.Entry.{Entry}

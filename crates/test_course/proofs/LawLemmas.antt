@@ -1,4 +1,6 @@
 -- A steady crew leads along a course in one way, and each entry takes a byte: by induction on the lists.
+-- At each entry one request is due at most, and the crew has one reply to it; where nothing is due both lists end.
+-- The long one is `few_bytes`: what is kept grows by each entry up to the limit, past which nothing is asked.
 use Rattle.std.proofs.Common.{◌≡◌, ◌+◌, ◌*◌, ◌≤◌, ℕ, true, List, [], ◌∷◌, ◌++◌, length, refl, sym, ap, ◌∙◌, arith}
 use Rattle.std.proofs.lemmas.Bool.Decides.{nat_tests}
 use Rattle.tt_outside.specs.Fits.{fits}

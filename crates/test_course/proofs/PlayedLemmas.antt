@@ -1,4 +1,6 @@
 -- One entry more along a course, and entries end to end: what was played, what is kept, and what the hand counted.
+-- By induction over the entries, which lead the course on; what a hand gives may be said by another that gives the same.
+-- The hard ones are `played_behind`, of which `played_trans` is the use, and `faults_trans`, where one of two lists has the fault.
 use Rattle.std.proofs.lemmas.List.Folds.{list_any-append}
 use Rattle.tt_outside.specs.declared.request.Reply.{Reply}
 use Rattle.tt_outside.specs.declared.request.Reply.TheVariants.{Bytes, Written, Missing, Status, TooLarge, Broken}

@@ -1,4 +1,6 @@
 -- Names of replacements, and how many lines and retries a script has.
+-- No name is empty: those of the suite by its invariant, and the others are constants; counts are those of the script's directives.
+-- `script_few` is the hard one: RUN lines are joined from RUN directives, so there are no more of them.
 use Rattle.std.proofs.Common.{◌≡◌, ◌∙◌, ◌≤◌, ◌<◌, ◌+◌, ℕ, Bool, true, false, cond, List, [], ◌∷◌, ◌++◌, append_assoc, length, length-append, Option, Some, None, refl, sym, ap, if◌then◌else◌, arith}
 use Rattle.std.specs.Prelude.{codes, nat_le}
 use Rattle.std.proofs.lemmas.Bool.Decides.{nat_tests}

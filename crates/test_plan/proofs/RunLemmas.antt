@@ -1,4 +1,6 @@
 -- RUN lines, one after the other: what is read so far and what the definition says of the rest is the whole.
+-- One line is expanded and read, or refused; then lists of lines are taken from the front.
+-- `more_read` is the step of the loop, and `refused_here` its early end.
 use Rattle.std.proofs.Common.{◌≡◌, ◌∙◌, ◌+◌, ◌<◌, ◌≤◌, ℕ, zero, suc, List, [], ◌∷◌, ◌++◌, append_assoc, append-nil, add-one, drop, drop-cons, get_or, length, Option, Some, Ok, Err, refl, sym, ap, subst, arith}
 use Rattle.tt_outside.specs.declared.request.Pair.{Pair}
 use Rattle.tt_outside.specs.declared.test_data.Test.{Test}

@@ -1,3 +1,6 @@
+-- The loop over the members of a group: those before are placed as the definition has it, and the ranges in order are theirs.
+-- Each turn places one member among them and binds what its match gives; at want of memory some first bindings were made.
+-- The long goal is `loop-index-preserved`.
 use Rattle.std.proofs.Common.{◌≡◌, IfOk, None, Ok, length, sym, ◌∙◌, ap, subst, arith, All}
 use Rattle.std.proofs.Math.Nat.{le_refl}
 use Rattle.check_group.specs.Group.{AreInOrder, EndsBy, group, group_at, lowest, placed}

@@ -1,3 +1,6 @@
+-- The loop over the tries of a member: each begins behind the match that shared a byte with one of the group's.
+-- A try that is free ends it, and so does none; what is left of the text is the measure.
+-- The long goal is `loop-tries-preserved`, a match that overlaps.
 use Rattle.std.proofs.Common.{◌≤◌, IfOk, length, sym, ◌∙◌, subst, arith, take}
 use Rattle.std.proofs.Math.Nat.{le_trans}
 use Rattle.check_group.specs.Matches.{Fits, looked}

@@ -1,3 +1,6 @@
+-- The walk along an expression: what is told of each form is what the lemmas on leaves and on walks say of it.
+-- The loop over parts tells of those from a place of the list on, and each turn joins one part to them.
+-- The long goal is `walk_all-loop-index-preserved`.
 use Rattle.std.proofs.Common.{◌≡◌, sym, ap, ◌∙◌, subst}
 use Rattle.ere_tree.specs.Tree.{Tree, plain, group}
 use Rattle.ere_tree.specs.View.{view}

@@ -1,3 +1,6 @@
+-- The loops of the walk down an expression, and why it ends.
+-- Each loop goes through the blocks between two places: what was found so far is what is led to through the blocks before.
+-- The measures are the hard part: the tree first, then how many members, then how many blocks are left.
 use Rattle.std.proofs.Common.{◌≡◌, ◌+◌, ◌*◌, ◌-◌, ◌/◌, ◌<◌, min, length, map, take}
 use Rattle.ere_tree.specs.Derivation.{Spans}
 use Rattle.ere_tree.specs.Tree.{repeat, trees_of}

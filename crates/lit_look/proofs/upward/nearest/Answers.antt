@@ -1,3 +1,6 @@
+-- The loop from a directory upward: those that were passed have no suite, and the first that has one is the nearest.
+-- A turn looks at one directory more; the answers say so over the nodes that the tree tells, where it tells them.
+-- The long goal is `loop-number-preserved`.
 use Rattle.std.proofs.Common.{[], refl, sym, ◌∙◌, append-nil, arith}
 use Rattle.lit_look.proofs.ClimbLemmas.{climbs_refused, climbs_start, extends_more, looks_of, parts_above, step_at_root, step_next, step_to_suite}
 use Rattle.lit_look.proofs.upward.nearest.Goals as goal

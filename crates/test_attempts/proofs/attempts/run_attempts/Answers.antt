@@ -1,3 +1,6 @@
+-- The loop over attempts: what was played behind the entries before it is what the attempts so far played.
+-- Each turn is one of three ends of an attempt: it asked nothing, it is the last, or another one follows.
+-- The long goal is `loop-last-preserved`, an attempt that failed with some left.
 use Rattle.std.proofs.Common.{◌≡◌, ◌≢◌, ◌∙◌, ◌⊎◌, inl, inr, [], false, true, length, ◌+◌, ◌-◌, ◌≤◌, suc, ap, arith}
 use Rattle.tt_outside.specs.Gave.{last_of}
 use Rattle.test_course.specs.Course.{followed, shown}
