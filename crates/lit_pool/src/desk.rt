@@ -1,28 +1,11 @@
 //! Where trials go.
 ghost use Rattle.std.specs.Prelude.{◌<◌, IfErr, OnOk};
-ghost use Rattle.lit_pool.specs.Pool.{told_of};
 
+use crate::told::ReportedTrial;
 use lit_desk::{DeskStop, LitDesk};
-use lit_report::Reported;
-use lit_test::{Outcome, Trial};
+use lit_test::Trial;
 use std::alloc::Global;
 use tt_outside::Sink;
-
-impl Reported for Trial {
-    ghost told = { told_of };
-
-    fn name(&self) -> &[u8] {
-        self.test.name.as_slice()
-    }
-
-    fn outcome(&self) -> Outcome {
-        self.result
-    }
-
-    fn text(&self) -> &[u8] {
-        self.text.as_slice()
-    }
-}
 
 /// Takes the trials of a run one by one, in their order.
 pub trait Desk {
@@ -58,6 +41,6 @@ impl<'a, O: Sink> Desk for LitDesk<'a, O> {
         (desk new.detail new.tests new.kept (O.held new.out.now) (O.faults new.out.now) (O.room new.out.now)) };
 
     fn put(&mut self, alloc: Global, place: u64, trial: &Trial) -> Result<(), DeskStop> {
-        LitDesk::put(self, alloc, place, trial.kept(), trial)
+        LitDesk::put(self, alloc, place, trial.kept(), &ReportedTrial { trial })
     }
 }

@@ -6,8 +6,10 @@ mod desk;
 mod laws;
 mod serial;
 mod stop;
+mod told;
 
 pub use desk::Desk;
 pub use laws::law_of_runs;
 pub use serial::run_serial;
 pub use stop::{PoolStop, PoolWhy};
+pub use told::{ReportedTrial, reported};
