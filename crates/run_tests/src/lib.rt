@@ -4,6 +4,8 @@
 #[cfg(test)]
 mod demo;
 #[cfg(test)]
+mod desks;
+#[cfg(test)]
 mod rows;
 #[cfg(test)]
 mod runs;
