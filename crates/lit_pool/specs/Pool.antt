@@ -1,0 +1,92 @@
+-- The trials of a run, and how a run stops.
+-- Own rules: a test's number is its place among those that are run; trials are put on a desk in that order; a stopped run returns
+-- what was put, and the trial that the desk refused.
+use Rattle.std.specs.Prelude.{◌≡◌, ℕ, ◌+◌, ◌≤◌, Bool, List, [], ◌∷◌, ◌++◌, length, Option, None, Some}
+use Rattle.std.specs.List.{list_any, range_with_len, sum_by}
+use Rattle.std.specs.Option.{option_to_list}
+use Rattle.tt_outside.specs.Gave.{Gave}
+use Rattle.tt_outside.specs.declared.test_data.Test.{Test}
+use Rattle.test_course.specs.Bytes.{kept_behind}
+use Rattle.test_course.specs.Entries.{AreGiven}
+use Rattle.test_course.specs.Played.{any_broken}
+use Rattle.lit_test.specs.Trial.{IsTrial}
+use Rattle.lit_test.specs.declared.trial.Trial.{Trial}
+use Rattle.lit_report.specs.Report.{TestReport}
+use Rattle.lit_desk.specs.Desk.{Kept, PutFrom}
+use Rattle.lit_desk.specs.declared.stop.DeskStop.{DeskStop}
+use Rattle.lit_desk.specs.declared.stop.DeskStop.TheVariants as desk
+use Rattle.lit_pool.specs.declared.stop.PoolStop.{PoolStop}
+use Rattle.lit_pool.specs.declared.stop.PoolWhy.{PoolWhy}
+use Rattle.lit_pool.specs.declared.stop.PoolWhy.TheVariants.{SinkFault, TooMuch, NoMemory}
+
+-- ---- trials
+
+-- what a report tells of a trial
+abbrev pub told_of : Trial → TestReport
+told_of trial = record { name = trial.test.name; result = trial.result; text = trial.text }
+
+-- what a desk takes of it
+abbrev pub kept_of : Trial → Kept
+kept_of trial = record { kept = kept_behind 0 trial.entries; told = told_of trial }
+
+-- a trial is that of a test under a number, from replies that were given
+pub record IsTrialOf (gave : Gave) (place : ℕ) (its : Test) (trial : Trial) : Type 0 where
+  pub number : trial.number ≡ place
+  pub test : trial.test ≡ its
+  pub shows : IsTrial its trial.entries trial.result trial.text
+  pub given : AreGiven gave place [] trial.entries
+
+-- one trial for each test, in order; the first test has this number
+abbrev pub AreTrials : Gave → ℕ → List Test → List Trial → Type 0
+AreTrials gave place [] [] = Unit {0}
+AreTrials gave place [] (trial ∷ trials) = ⊥
+AreTrials gave place (test ∷ tests) [] = ⊥
+AreTrials gave place (test ∷ tests) (trial ∷ trials) =
+    IsTrialOf gave place test trial × AreTrials gave (place + 1) tests trials
+
+-- how many entries trials have
+abbrev pub sum_entries : List Trial → ℕ
+sum_entries trials = sum_by (λ trial. length trial.entries) trials
+
+-- whether one of their replies is a fault of the outside
+abbrev pub any_fault : List Trial → Bool
+any_fault trials = list_any (λ trial. any_broken trial.entries) trials
+
+-- ---- a stopped run
+
+-- all trials that a stopped run returns: those that were put, and behind them the other one
+abbrev pub returned : PoolStop → List Trial
+returned stop = stop.trials ++ option_to_list stop.other
+
+abbrev pub why_of : DeskStop → PoolWhy
+why_of desk.SinkFault = SinkFault
+why_of desk.TooMuch = TooMuch
+why_of desk.NoMemory = NoMemory
+
+-- A desk refused the other trial, which tells why the run stopped. Where there is none, memory was wanting, and the desk was left
+-- alone.
+abbrev pub Refuses : {D : Type 0} → (D → ℕ → Trial → DeskStop → D → Type 0) → ℕ → PoolWhy → Option Trial → D → D → Type 0
+Refuses Keeps place why None old new = (why ≡ NoMemory) × (old ≡ new)
+Refuses Keeps place why (Some other) old new =
+    (stop : DeskStop) × (why ≡ why_of stop) × Keeps old place other stop new
+
+-- A run stopped: what it returns are the trials of the first tests, in order. All but the other one were put on the desk, in
+-- order, and then the desk refused that one.
+pub record IsStopped {D : Type 0} (Takes : D → ℕ → Trial → D → Type 0) (Keeps : D → ℕ → Trial → DeskStop → D → Type 0)
+    (gave : Gave) (tests : List Test) (old new : D) (stop : PoolStop) : Type 0 where
+  pub done : List Test
+  pub rest : List Test
+  pub all : tests ≡ done ++ rest
+  pub trials : AreTrials gave 0 done (returned stop)
+  pub between : D
+  pub put : PutFrom Takes old 0 stop.trials between
+  pub refused : Refuses Keeps (length stop.trials) stop.why stop.other between new
+
+-- A stopped hand began the first of so many tests, in order: those of the trials that the run returns, and at most one more, and
+-- that only where the desk refused none.
+pub record BeginsSome (tests : ℕ) (old new : List ℕ) (stop : PoolStop) : Type 0 where
+  pub count : ℕ
+  pub begun : new ≡ old ++ range_with_len 0 count
+  pub within : count ≤ tests
+  pub least : length (returned stop) ≤ count
+  pub most : count ≤ length stop.trials + 1

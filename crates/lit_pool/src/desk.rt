@@ -1,0 +1,46 @@
+//! Where trials go.
+ghost use Rattle.std.specs.Prelude.{◌<◌, IfErr, OnOk};
+
+use crate::told::ReportedTrial;
+use lit_desk::{DeskStop, LitDesk};
+use lit_test::Trial;
+use std::alloc::Global;
+use tt_outside::Sink;
+
+/// Takes the trials of a run one by one, in their order.
+pub trait Desk {
+    ghost use Rattle.std.specs.Prelude.{ℕ};
+    ghost use Rattle.lit_desk.specs.declared.stop.DeskStop.{DeskStop};
+    ghost use Rattle.lit_test.specs.declared.trial.Trial.{Trial};
+
+    /// What a trial that is taken does to the desk.
+    ghost took: { Self → ℕ → Trial → Self → Type 0 };
+
+    /// What a refused one does.
+    ghost kept: { Self → ℕ → Trial → DeskStop → Self → Type 0 };
+
+    /// Takes the trial of a place, counted from 0.
+    fn put(&mut self, alloc: Global, place: u64, trial: &Trial) -> Result<(), DeskStop>
+        requires { place < 100000 }
+        ensures took { OnOk result (took self.old place trial.now self.new) }
+        ensures kept { IfErr result (λ stop. kept self.old place trial.now stop self.new) };
+}
+
+impl<'a, O: Sink> Desk for LitDesk<'a, O> {
+    ghost use Rattle.lit_desk.specs.Desk.{Refused, Took, desk};
+    ghost use Rattle.lit_pool.specs.Pool.{kept_of};
+
+    ghost took = { λ old place trial new. Took
+        (desk old.detail old.tests old.kept (O.held old.out.now) (O.faults old.out.now) (O.room old.out.now))
+        place (kept_of trial)
+        (desk new.detail new.tests new.kept (O.held new.out.now) (O.faults new.out.now) (O.room new.out.now)) };
+
+    ghost kept = { λ old place trial stop new. Refused
+        (desk old.detail old.tests old.kept (O.held old.out.now) (O.faults old.out.now) (O.room old.out.now))
+        place (kept_of trial) stop
+        (desk new.detail new.tests new.kept (O.held new.out.now) (O.faults new.out.now) (O.room new.out.now)) };
+
+    fn put(&mut self, alloc: Global, place: u64, trial: &Trial) -> Result<(), DeskStop> {
+        LitDesk::put(self, alloc, place, trial.kept(), &ReportedTrial { trial })
+    }
+}

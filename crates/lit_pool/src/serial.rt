@@ -1,0 +1,76 @@
+//! A run by one hand.
+ghost use Rattle.std.specs.Prelude.{◌≡◌, ◌+◌, ◌<◌, ◌≤◌, ◌^◌, ◌++◌, IfErr, IfOk, IfSome, OnOk, false, length, true};
+ghost use Rattle.std.specs.List.{range_with_len};
+ghost use Rattle.tt_outside.specs.Faults.{Rose};
+ghost use Rattle.tt_outside.specs.Gave.{SameGave};
+ghost use Rattle.lit_desk.specs.Desk.{PutFrom};
+ghost use Rattle.lit_pool.specs.Pool.{AreTrials, BeginsSome, IsStopped, any_fault, returned, sum_entries};
+
+use crate::desk::Desk;
+use crate::stop::{PoolStop, PoolWhy, why_of};
+use lit_test::{Trial, run_test};
+use std::alloc::Global;
+use tt_base::Items;
+use tt_outside::{Runner, Test};
+
+/// Runs tests one after the other, each under its place, and puts the trial of each on a desk before the next begins. It waits for
+/// programs.
+pub fn run_serial<R: Runner, D: Desk>(
+    alloc: Global,
+    tests: &Items<Test>,
+    hand: &mut R,
+    desk: &mut D,
+) -> Result<Items<Trial>, PoolStop>
+    requires few { length tests.now ≤ 100000 }
+    requires room { length tests.now ≤ R.rooms hand.old }
+    requires asked { R.asked hand.old < 2 ^ 62 }
+    requires ready { R.ready hand.old }
+    ensures trials { IfOk result (λ trials. AreTrials (R.gave hand.old) 0 tests.now trials) }
+    ensures put { IfOk result (λ trials. PutFrom D.took desk.old 0 trials desk.new) }
+    ensures begun { OnOk result (R.begun hand.new ≡ R.begun hand.old ++ range_with_len 0 (length tests.now)) }
+    ensures asked { IfOk result (λ trials. R.asked hand.new ≡ R.asked hand.old + sum_entries trials) }
+    ensures broken { IfOk result (λ trials. any_fault trials ≡ true → Rose (R.faults hand.old) (R.faults hand.new)) }
+    ensures calm { IfOk result (λ trials. any_fault trials ≡ false → R.faults hand.new ≡ R.faults hand.old) }
+
+    // At a stop nothing is said of what a test asked whose trial isn't returned.
+    ensures stopped { IfErr result (λ stop. IsStopped D.took D.kept (R.gave hand.old) tests.now desk.old desk.new stop) }
+    ensures stop_begun { IfErr result (λ stop. BeginsSome (length tests.now) (R.begun hand.old) (R.begun hand.new) stop) }
+    ensures stop_asked { IfErr result (λ stop.
+        IfSome stop.other (λ _. R.asked hand.new ≡ R.asked hand.old + sum_entries (returned stop))) }
+    ensures stop_broken { IfErr result (λ stop.
+        any_fault (returned stop) ≡ true → Rose (R.faults hand.old) (R.faults hand.new)) }
+
+    ensures later { R.faults hand.old ≤ R.faults hand.new }
+    ensures room { length (R.begun hand.new) + R.rooms hand.new ≡ length (R.begun hand.old) + R.rooms hand.old }
+    ensures gave { SameGave (R.gave hand.new) (R.gave hand.old) }
+    ensures ready { R.ready hand.new }
+{
+    let mut trials = Vec::new(alloc);
+    let mut place = 0;
+    for test in tests.as_slice() {
+        // The list gets room before the test begins: a trial that was put is always returned.
+        if trials.reserve(1).is_err() {
+            return Err(stop(PoolWhy::NoMemory, trials, None));
+        }
+        let Ok(trial) = run_test(alloc, place, test, hand) else {
+            return Err(stop(PoolWhy::NoMemory, trials, None));
+        };
+        if let Err(why) = desk.put(alloc, place, &trial) {
+            return Err(stop(why_of(why), trials, Some(trial)));
+        }
+        trials.push_reserved(trial);
+        place += 1;
+    }
+    Ok(Items::from_vec(trials))
+}
+
+/// A stop with the trials that were put.
+fn stop(why: PoolWhy, trials: Vec<Trial>, other: Option<Trial>) -> PoolStop
+    ensures { (result.why ≡ why) × (result.trials ≡ trials.items) × (result.other ≡ other) }
+{
+    PoolStop {
+        why,
+        trials: Items::from_vec(trials),
+        other,
+    }
+}

@@ -1,0 +1,110 @@
+//! The tests of a suite `demo` at `/w/demo`, over planned replies.
+use crate::rows::both;
+use std::alloc::Global;
+use tt_base::{Bytes, Items, NoMemory};
+use tt_outside::{Finish, Planned, Reply, Test};
+
+/// A suite's tests, in order, and the replies that their commands get.
+#[derive(Drop)]
+pub(crate) struct Demo {
+    pub tests: Items<Test>,
+    pub plan: Items<Planned>,
+}
+
+/// The paths of the test of a file: of the file, and how those of its temporary files begin.
+fn paths(alloc: Global, file: &str) -> Result<(Bytes, Bytes, Bytes), NoMemory> {
+    let name = both(alloc, "demo :: ", file)?;
+    let path = both(alloc, "/w/demo/", file)?;
+    let temp = both(alloc, "/w/demo/Output/", file)?;
+    Ok((name, path, temp))
+}
+
+/// Its directories: of the file, in which its commands run, and of its temporary files.
+fn dirs(alloc: Global) -> Result<(Bytes, Bytes, Bytes), NoMemory> {
+    let source_dir = both(alloc, "/w/demo", "")?;
+    let work_dir = both(alloc, "/w/demo", "")?;
+    let temp_dir = both(alloc, "/w/demo", "/Output")?;
+    Ok((source_dir, work_dir, temp_dir))
+}
+
+/// The test of a file.
+fn test_of(alloc: Global, file: &str) -> Result<Test, NoMemory> {
+    let (name, path, temp) = paths(alloc, file)?;
+    let (source_dir, work_dir, temp_dir) = dirs(alloc)?;
+    Ok(Test {
+        name,
+        path,
+        source_dir,
+        work_dir,
+        temp_dir,
+        temp,
+        features: Items::new(alloc),
+        substitutions: Items::new(alloc),
+        tools: Items::new(alloc),
+        environment: Items::new(alloc),
+    })
+}
+
+/// A program that ended with a code.
+fn ended(alloc: Global, code: u8) -> Reply {
+    Reply::Status {
+        finish: Finish::Code(code),
+        out: Bytes::new(alloc),
+        err: Bytes::new(alloc),
+    }
+}
+
+/// What the program of a test comes to, by a digit: its code, or else Broken.
+fn reply_of(alloc: Global, word: &str) -> Reply {
+    match word.bytes().next() {
+        Some(byte) if byte.is_ascii_digit() => ended(alloc, byte - b'0'),
+        _ => Reply::Broken,
+    }
+}
+
+/// A test's file, which is read behind no entries, and its program, which is run behind two.
+fn planned(
+    alloc: Global,
+    test: u64,
+    text: &str,
+    word: &str,
+) -> Result<(Planned, Planned), NoMemory> {
+    let file = Planned {
+        test,
+        earlier: 0,
+        reply: Reply::Bytes(both(alloc, text, "")?),
+    };
+    let program = Planned {
+        test,
+        earlier: 2,
+        reply: reply_of(alloc, word),
+    };
+    Ok((file, program))
+}
+
+/// Adds the test of a field, as `0 a.txt: RUN: true`, whose program ends with code 0.
+fn add_test(alloc: Global, demo: &mut Demo, number: u64, field: &str) -> Result<(), NoMemory> {
+    let (word, rest) = field.split_once(" ").unwrap_or(("", field));
+    let (file, text) = rest.split_once(": ").unwrap_or((rest, ""));
+    let test = test_of(alloc, file)?;
+    demo.tests.push(test)?;
+    let (file, program) = planned(alloc, number, text, word)?;
+    demo.plan.push(file)?;
+    demo.plan.push(program)
+}
+
+/// The tests of a line, with semicolons between them.
+pub(crate) fn demo_of(alloc: Global, line: &str) -> Result<Demo, NoMemory> {
+    let mut demo = Demo {
+        tests: Items::new(alloc),
+        plan: Items::new(alloc),
+    };
+    let mut number = 0;
+    for field in line.split("; ") {
+        if !field.is_empty() && number < 100 {
+            add_test(alloc, &mut demo, number, field)?;
+            number += 1;
+        }
+    }
+    Ok(demo)
+}

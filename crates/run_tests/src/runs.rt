@@ -1,0 +1,124 @@
+//! Tests that are run by one hand.
+use crate::demo::{Demo, demo_of};
+use crate::desks::Noted;
+use crate::rows::{add_number, both, three};
+use crate::shown::{add_end, add_left};
+use lit_desk::{LitDesk, MAX_KEPT};
+use lit_pool::{Desk, run_serial};
+use lit_report::header;
+use lit_words::Detail;
+use std::alloc::Global;
+use tt_base::{Bytes, Items, NoMemory};
+use tt_outside::{Crew, MemCrew, MemSink, write_all};
+
+/// Runs the tests of a line, and tells what came of it and what the hand did.
+fn told<D: Desk>(alloc: Global, line: &str, desk: &mut D) -> Result<Bytes, NoMemory> {
+    let Demo { tests, plan } = demo_of(alloc, line)?;
+    let room = tests.len() as u64;
+    if room > 99 {
+        return Err(NoMemory);
+    }
+    let mut crew = MemCrew::new(alloc, plan);
+    let mut hand = crew.hire(alloc, room)?;
+    let end = run_serial(alloc, &tests, &mut hand, desk);
+    crew.dismiss(hand);
+    let mut out = Bytes::new(alloc);
+    add_end(&mut out, &end)?;
+    for left in crew.hands() {
+        add_left(&mut out, left)?;
+    }
+    Ok(out)
+}
+
+/// The same on lit's desk behind the header, whose sink takes so many bytes and whose tests may keep so many; and what the sink
+/// holds then.
+fn told_on_desk(alloc: Global, capacity: usize, left: u64, line: &str) -> Result<Bytes, NoMemory> {
+    let mut out = MemSink::new(alloc, capacity)?;
+    let tests = line.split("; ").count() as u64;
+    let text = header(alloc, Detail::Plain, tests)?;
+    if write_all(&mut out, text.as_slice()).is_err() {
+        return Err(NoMemory);
+    }
+    let mut desk = LitDesk {
+        out: &mut out,
+        detail: Detail::Plain,
+        tests,
+        kept: MAX_KEPT.saturating_sub(left),
+    };
+    let mut told = told(alloc, line, &mut desk)?;
+    told.append(b"\n")?;
+    told.append(out.as_slice())?;
+    Ok(told)
+}
+
+/// Whether the tests of a row come to what stands behind its last arrow, where so many bytes are taken and may be kept.
+fn is_told_on_desk(alloc: Global, row: &str) -> Result<bool, NoMemory> {
+    let Some((setting, line, due)) = three(row) else {
+        return Ok(false);
+    };
+    let (capacity, left) = setting.split_once(" ").unwrap_or(("", ""));
+    let capacity = capacity.parse::<usize>().unwrap_or(0);
+    let left = left.parse::<u64>().unwrap_or(0);
+    let told = told_on_desk(alloc, capacity, left, line)?;
+    Ok(told.as_slice() == both(alloc, due, "")?.as_slice())
+}
+
+/// How many bytes the sink takes and the tests may keep; the tests, each with the code of its program; and the trials, the stop,
+/// what the hand did, and the report.
+const ON_DESK: &str =
+    "1000 1000 => 0 a.txt: RUN: true; 1 b.txt: RUN: false; 1 c.txt: RUN: false~XFAIL: *; 0 d.txt: RUN: true~REQUIRES: gpu; 0 e.txt: hello => 0 PASS, 1 FAIL, 2 XFAIL, 3 UNSUPPORTED, 4 UNRESOLVED, begun 01234, asked 11, faults 0~-- Testing: 5 tests --~PASS: demo :: a.txt (1 of 5)~FAIL: demo :: b.txt (2 of 5)~XFAIL: demo :: c.txt (3 of 5)~UNSUPPORTED: demo :: d.txt (4 of 5)~UNRESOLVED: demo :: e.txt (5 of 5)~
+1000 1000 => b a.txt: RUN: true; 0 b.txt: RUN: true => 0 UNRESOLVED, 1 PASS, begun 01, asked 6, faults 1~-- Testing: 2 tests --~UNRESOLVED: demo :: a.txt (1 of 2)~PASS: demo :: b.txt (2 of 2)~
+40 1000 => 0 a.txt: RUN: true; 1 b.txt: RUN: false; 0 c.txt: a; 0 d.txt: a; 0 e.txt: a => a fault at 0 PASS, begun 0, asked 3, faults 0~-- Testing: 5 tests --~PASS: demo :: a.t
+30 1000 => 0 a.txt: RUN: true => a fault at 0 PASS, begun 0, asked 3, faults 0~-- Testing: 1 tests --~PASS: d
+60 1000 => 0 a.txt: RUN: true; 0 b.txt: RUN: true => 0 PASS, a fault at 1 PASS, begun 01, asked 6, faults 0~-- Testing: 2 tests --~PASS: demo :: a.txt (1 of 2)~PASS: de
+1000 100 => 0 a.txt: RUN: true; 0 b.txt: RUN: true => 0 PASS, 1 PASS, begun 01, asked 6, faults 0~-- Testing: 2 tests --~PASS: demo :: a.txt (1 of 2)~PASS: demo :: b.txt (2 of 2)~
+1000 99 => 0 a.txt: RUN: true; 0 b.txt: RUN: true; 0 c.txt: RUN: true => 0 PASS, too much at 1 PASS, begun 01, asked 6, faults 0~-- Testing: 3 tests --~PASS: demo :: a.txt (1 of 3)~
+1000 49 => 0 a.txt: RUN: true => too much at 0 PASS, begun 0, asked 3, faults 0~-- Testing: 1 tests --~";
+
+#[test]
+fn trials_are_put_on_the_desk_in_order_up_to_a_fault(rt: HostRuntime) -> Result<(), NoMemory> {
+    for row in ON_DESK.lines() {
+        assert!(rt; is_told_on_desk(rt.alloc(), row)?, "{row}");
+    }
+    Ok(())
+}
+
+/// The same on a desk that takes so many trials, with the numbers that were put.
+fn told_of_most(alloc: Global, most: u64, line: &str) -> Result<Bytes, NoMemory> {
+    let mut desk = Noted {
+        numbers: Items::new(alloc),
+        most,
+    };
+    let mut told = told(alloc, line, &mut desk)?;
+    told.append(b", put ")?;
+    for number in desk.numbers.as_slice() {
+        add_number(&mut told, *number)?;
+    }
+    Ok(told)
+}
+
+fn is_told_of_most(alloc: Global, row: &str) -> Result<bool, NoMemory> {
+    let Some((most, line, due)) = three(row) else {
+        return Ok(false);
+    };
+    let told = told_of_most(alloc, most.parse::<u64>().unwrap_or(0), line)?;
+    Ok(told.as_slice() == both(alloc, due, "")?.as_slice())
+}
+
+/// How many trials a desk takes; the tests; and the trials, the stop, what the hand did, and the numbers that were put.
+const ON_NOTES: &str =
+    "9 => 0 a: RUN: p; 1 b: RUN: p; 2 c: RUN: p => 0 PASS, 1 FAIL, 2 FAIL, begun 012, asked 9, faults 0, put 012
+2 => 0 a: RUN: p; 1 b: RUN: p; 2 c: RUN: p => 0 PASS, 1 FAIL, no memory at 2 FAIL, begun 012, asked 9, faults 0, put 01
+1 => 0 a: RUN: p; 1 b: RUN: p; 2 c: RUN: p => 0 PASS, no memory at 1 FAIL, begun 01, asked 6, faults 0, put 0
+0 => 0 a: RUN: p; 1 b: RUN: p => no memory at 0 PASS, begun 0, asked 3, faults 0, put 
+9 =>  => begun , asked 0, faults 0, put ";
+
+#[test]
+fn a_desk_that_refuses_ends_the_run_with_the_trial_that_it_was_given(
+    rt: HostRuntime,
+) -> Result<(), NoMemory> {
+    for row in ON_NOTES.lines() {
+        assert!(rt; is_told_of_most(rt.alloc(), row)?, "{row}");
+    }
+    Ok(())
+}
