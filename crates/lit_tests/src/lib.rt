@@ -1,14 +1,9 @@
-//! Tests of the parts of `lit`: how tests are found and kept, suites, scripts and features, replacements, the lines
-//! of its shell and how they are played, tests that are run over planned replies, reports, and runs whose tree or output fails.
-//! Whole runs are rows of `rows/`.
+//! Tests of which tests there are: how they are found and kept, suites and paths, and runs whose tree or output fails. Whole runs are
+//! rows of `rows/`.
 #![tactic(auto)]
 
 #[cfg(test)]
-mod crews;
-#[cfg(test)]
 mod discoveries;
-#[cfg(test)]
-mod features;
 #[cfg(test)]
 mod kept;
 #[cfg(test)]
@@ -18,17 +13,7 @@ mod lost;
 #[cfg(test)]
 mod paths;
 #[cfg(test)]
-mod plays;
-#[cfg(test)]
-mod replacements;
-#[cfg(test)]
-mod reports;
-#[cfg(test)]
 mod rows;
-#[cfg(test)]
-mod scripts;
-#[cfg(test)]
-mod shell;
 #[cfg(test)]
 mod show_faults;
 #[cfg(test)]
@@ -37,7 +22,5 @@ mod suites;
 mod tests_made;
 #[cfg(test)]
 mod trees;
-#[cfg(test)]
-mod trials;
 #[cfg(test)]
 mod wide;

@@ -1,13 +1,30 @@
-//! Tests of runs: tests of a suite that are run over planned replies by a hand, and what comes to a desk of them.
+//! Tests of how tests run: scripts and features, replacements, the lines of lit's shell and how they are played, tests over planned
+//! replies, reports, and what comes to a desk of a run.
 #![tactic(auto)]
 
+#[cfg(test)]
+mod crews;
 #[cfg(test)]
 mod demo;
 #[cfg(test)]
 mod desks;
 #[cfg(test)]
+mod features;
+#[cfg(test)]
+mod plays;
+#[cfg(test)]
+mod replacements;
+#[cfg(test)]
+mod reports;
+#[cfg(test)]
 mod rows;
 #[cfg(test)]
 mod runs;
 #[cfg(test)]
+mod scripts;
+#[cfg(test)]
+mod shell;
+#[cfg(test)]
 mod shown;
+#[cfg(test)]
+mod trials;
