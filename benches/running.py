@@ -1,0 +1,201 @@
+#!/usr/bin/env python3
+"""Times how lit runs tests, beside LLVM's lit where it is installed, and beside the floor.
+
+    benches/running.py [--rounds N] [--lit LIT] [--tests N] [--programs FOLDER]
+
+The programs are those that ./run builds, or with --programs those in a folder, under their names. LIT is LLVM's lit.py;
+without it, one is looked for. It runs the same tests in its own shell, with one worker, and its own FileCheck. The floor is
+a C program that starts the same commands by posix_spawn, one after the other, hands each the output of the one before, and
+reads both streams to their end; without a C compiler there is none. Wall time, the best of the rounds, in which the three run
+in alternation; memory is the greatest resident set of a process. A goal is the greatest ratio that is wanted.
+"""
+import argparse
+import glob
+import os
+import shutil
+import subprocess
+import sys
+import tempfile
+
+from filecheck import MIB, best_of, built, other_programs, peak
+
+SUITE = """version = 1
+name = "demo"
+suffixes = [".txt"]
+excludes = ["inputs"]
+[tools]
+FileCheck = "{filecheck}"
+"""
+
+PYTHON = """import lit.formats
+config.name = "demo"
+config.test_format = lit.formats.ShTest(execute_external=False)
+config.suffixes = [".txt"]
+config.excludes = ["inputs"]
+config.environment["PATH"] = "{path}"
+"""
+
+# The floor: `floor TIMES WORD .. [| WORD ..] ..` runs a pipe so many times.
+FLOOR = r"""
+#define _GNU_SOURCE
+#include <fcntl.h>
+#include <poll.h>
+#include <spawn.h>
+#include <stdio.h>
+#include <stdlib.h>
+#include <string.h>
+#include <signal.h>
+#include <sys/wait.h>
+#include <unistd.h>
+
+extern char **environ;
+enum { ROOM = 5 << 20 };
+static char buffers[3][ROOM];
+
+// Runs a command with an input; its output goes to `out`, of which the length is the answer.
+static size_t stage(char **words, const char *in, size_t size, char *out) {
+    int to[2], from[2], errors[2], status;
+    if (pipe2(to, O_CLOEXEC) || pipe2(from, O_CLOEXEC) || pipe2(errors, O_CLOEXEC)) exit(2);
+    posix_spawn_file_actions_t actions;
+    posix_spawn_file_actions_init(&actions);
+    posix_spawn_file_actions_adddup2(&actions, to[0], 0);
+    posix_spawn_file_actions_adddup2(&actions, from[1], 1);
+    posix_spawn_file_actions_adddup2(&actions, errors[1], 2);
+    pid_t child;
+    if (posix_spawnp(&child, words[0], &actions, NULL, words, environ)) exit(2);
+    posix_spawn_file_actions_destroy(&actions);
+    close(to[0]), close(from[1]), close(errors[1]);
+    fcntl(to[1], F_SETFL, O_NONBLOCK);
+    size_t fed = 0, had = 0, wrong = 0;
+    struct pollfd polled[3] = {{to[1], POLLOUT, 0}, {from[0], POLLIN, 0}, {errors[0], POLLIN, 0}};
+    if (size == 0) close(to[1]), polled[0].fd = -1;
+    while (polled[1].fd >= 0 || polled[2].fd >= 0) {
+        poll(polled, 3, -1);
+        if (polled[0].fd >= 0 && polled[0].revents) {
+            ssize_t wrote = write(to[1], in + fed, size - fed);
+            if (wrote > 0) fed += wrote;
+            if (wrote < 0 || fed == size) close(to[1]), polled[0].fd = -1;
+        }
+        for (int stream = 1; stream < 3; stream++) {
+            if (polled[stream].fd < 0 || !polled[stream].revents) continue;
+            size_t *so_far = stream == 1 ? &had : &wrong;
+            ssize_t got = read(polled[stream].fd, (stream == 1 ? out : buffers[2]) + *so_far, ROOM - *so_far);
+            if (got > 0) *so_far += got;
+            else close(polled[stream].fd), polled[stream].fd = -1;
+        }
+    }
+    if (polled[0].fd >= 0) close(to[1]);
+    if (waitpid(child, &status, 0) != child || status != 0) exit(1);
+    return had;
+}
+
+int main(int count, char **words) {
+    signal(SIGPIPE, SIG_IGN);
+    for (int times = atoi(words[1]); times > 0; times--) {
+        size_t had = 0;
+        int which = 0;
+        for (int at = 2; at < count;) {
+            char *command[32] = {0};
+            for (int word = 0; at < count && strcmp(words[at], "|") != 0 && word < 31; word++) command[word] = words[at++];
+            at++;
+            had = stage(command, buffers[which], had, buffers[1 - which]);
+            which = 1 - which;
+        }
+    }
+    return 0;
+}
+"""
+
+
+def write(path, text):
+    os.makedirs(os.path.dirname(path), exist_ok=True)
+    with open(path, "w", encoding="utf-8") as made:
+        made.write(text)
+
+
+def checks(number):
+    """A check file for a small input that a compiler might have written, and that input."""
+    lines = [f"f{k}:\n\tmov r{k}, #{number + k}\n\tadd r{k}, r{k}, #1\n\tret\n" for k in range(8)]
+    made = "".join(f"CHECK-LABEL: f{k}:\nCHECK: mov [[R:r[0-9]+]], #[[#N:]]\nCHECK-NEXT: add [[R]], [[R]], #1\n" for k in range(8))
+    return made, "".join(lines)
+
+
+def trees(top, tests, filecheck, path):
+    """The same tests for both lits, in folders of their own."""
+    for name, file, text in [("ours", "lit.suite.toml", SUITE.format(filecheck=filecheck)), ("llvm", "lit.cfg", PYTHON.format(path=path))]:
+        at = os.path.join(top, name)
+        for folder, one in [("true", "RUN: true\n"), ("wide", "RUN: head -c 3900000 %S/../inputs/large\n" * 4),
+                            ("piped", "RUN: head -c 2600000 %S/../inputs/large | cat | cat | wc -c\n")]:
+            for number in range(tests if folder == "true" else 1):
+                write(os.path.join(at, folder, f"t{number:04}.txt"), one)
+        for number in range(tests // 2):
+            made, given = checks(number)
+            write(os.path.join(at, "checks", f"t{number:04}.txt"), f"RUN: cat %S/../inputs/i{number:04} | FileCheck %s\n" + made)
+            write(os.path.join(at, "inputs", f"i{number:04}"), given)
+        write(os.path.join(at, "inputs", "large"), "a line of a text that is handed on and on\n" * (4 * MIB // 42))
+        write(os.path.join(at, file), text)
+
+
+def floor_program(top):
+    compiler = shutil.which(os.environ.get("CC", "cc"))
+    if compiler is None:
+        return None
+    source, made = os.path.join(top, "floor.c"), os.path.join(top, "floor")
+    write(source, FLOOR)
+    subprocess.run([compiler, "-O2", "-o", made, source], check=True)
+    return made
+
+
+def table_row(case, goals, commands, rounds):
+    """Runs a case by ours, the floor and LLVM's, those that there are, and prints its row."""
+    there = [command for command in commands if command]
+    times = dict(zip(map(id, there), best_of(there, os.devnull, 0, rounds)))
+    memory = {id(command): peak(command, os.devnull) for command in there}
+    ours, floor, llvm = [(times.get(id(command)), memory.get(id(command))) if command else (None, None) for command in commands]
+
+    def ratio(one, other):
+        return f"{one / other:.2f}" if one and other else "?"
+
+    def shown(pair):
+        return [f"{pair[0] * 1000:.1f} ms" if pair[0] else "?", f"{pair[1] / 1024:.1f} MiB" if pair[1] else "?"]
+
+    cells = [case, *shown(ours), *shown(llvm), f"{ratio(ours[0], llvm[0])} (goal {goals[0]})",
+             ratio(ours[1], llvm[1]) + (f" (goal {goals[1]})" if goals[1] else ""), shown(floor)[0], f"{ratio(ours[0], floor[0])} (goal 1.3)"]
+    print("| " + " | ".join(cells) + " |", flush=True)
+
+
+def main():
+    wants = argparse.ArgumentParser(description="Times how lit runs tests, beside LLVM's.")
+    wants.add_argument("--rounds", type=int, default=5, help="runs, of which the best counts (5)")
+    wants.add_argument("--tests", type=int, default=1000, help="tests of the first case, and twice those of the second (1000)")
+    wants.add_argument("--lit", default=None, help="LLVM's lit.py")
+    wants.add_argument("--programs", help="the folder in which lit and filecheck stand")
+    given = wants.parse_args()
+    program, filecheck = [os.path.join(os.path.abspath(given.programs), name) if given.programs else built(name) for name in ("lit", "filecheck")]
+    found = [os.path.abspath(given.lit)] if given.lit else sorted(glob.glob("/usr/lib/llvm-*/build/utils/lit/lit.py"))[-1:]
+    others = other_programs()[:1]
+    path = ":".join([os.path.dirname(os.path.realpath(one)) for one in others] + [os.environ["PATH"]])
+    print("| case | ours | memory | LLVM | memory | time, ours / LLVM | memory, ours / LLVM | floor | time, ours / floor |")
+    print("|---|---|---|---|---|---|---|---|---|")
+    with tempfile.TemporaryDirectory() as top:
+        trees(top, given.tests, filecheck, path)
+        os.chdir(top)
+        floor = floor_program(top)
+
+        def case(title, goals, where, times, pipe):
+            ours = [program, "-q", os.path.join("ours", where)]
+            llvm = [sys.executable, found[0], "-q", "-j1", os.path.join("llvm", where)] if found else None
+            table_row(title, goals, [ours, [floor, str(times), *pipe] if floor else None, llvm], given.rounds)
+
+        large = os.path.join("ours", "inputs", "large")
+        case(f"{given.tests:,} tests `RUN: true`", ("0.35", "0.25"), "true", given.tests, ["true"])
+        case(f"{given.tests // 2:,} tests with a pipe into FileCheck", ("0.5", ""), "checks", given.tests // 2,
+             ["cat", os.path.join("ours", "inputs", "i0000"), "|", filecheck, os.path.join("ours", "checks", "t0000.txt")])
+        case("one test, named directly", ("0.1", ""), os.path.join("true", "t0007.txt"), 1, ["true"])
+        case("a test with an output of 15 MiB", ("1.0", ""), "wide", 4, ["head", "-c", "3900000", large])
+        case("a test that hands 15 MiB through three pipes", ("1.0", ""), "piped", 1,
+             ["head", "-c", "2600000", large, "|", "cat", "|", "cat", "|", "wc", "-c"])
+
+
+if __name__ == "__main__":
+    main()
