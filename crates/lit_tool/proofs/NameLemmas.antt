@@ -9,13 +9,11 @@ use Rattle.lit_find.specs.Found.{DiscoversNames}
 use Rattle.lit_select.specs.Selection.{selected}
 use Rattle.lit_words.specs.Asked.{Wanted, wanted}
 use Rattle.lit_words.specs.declared.asked.Asked.{Asked}
-use Rattle.lit_words.specs.declared.fault.WordsFault.{WordsFault}
 use Rattle.lit_words.specs.declared.number.Shard.{Shard}
 use Rattle.tt_outside.specs.declared.test_data.Test.{Test}
-use Rattle.tt_run.specs.declared.answer.Answer.{Answer}
-use Rattle.lit_tool.specs.Answer.{answer_by, answer_to, name_line}
+use Rattle.lit_tool.specs.Answer.{name_line, shown_names, shown_text}
 use Rattle.lit_tool.specs.Kept.{has_place, names_in, names_of, shard_from, unless_none}
-use Rattle.lit_tool.specs.Run.{NamesFrom, NamesShown, OutcomeFrom, TreeRests, TreeRun}
+use Rattle.lit_tool.specs.Run.{NamesFrom, TreeRests, TreeRun, shown_of}
 use Rattle.lit_tool.specs.declared.stop.Stop.{Stop}
 
 map_more : {A B : Type 0} (f : A → B) (b : Bool) (x : A) (xs : List A) (ys : List B) → map f xs ≡ ys
@@ -39,18 +37,10 @@ names_kept None (test ∷ tests) = refl
 names_kept (Some s) (test ∷ tests) = ap Ok (sym (shard_map (λ (t : Test). t.name) s 0 (test ∷ tests)))
 
 -- what is written of the names is what is written of the tests
-answer_named : (outcome : Result (List Test) Stop) → answer_by (names_in outcome) ≡ answer_to outcome
-answer_named (Ok tests) = rw (flat_map-map name_line (λ (t : Test). t.name) tests)
-answer_named (Err stop) = refl
-
-pub answer_is : (outcome : Result (List Test) Stop) (named : Result (List (List ℕ)) Stop) (answer : Answer)
-    → answer ≡ answer_by named → named ≡ names_in outcome → answer ≡ answer_to outcome
-answer_is outcome named answer is same = is ∙ ap answer_by same ∙ answer_named outcome
-
--- where there are no tests there are no names
-pub no_names : (t : TreeRun) (asked : Result Wanted WordsFault) (stop : Stop)
-    → OutcomeFrom t asked (Err stop) → NamesFrom t asked (Err stop)
-no_names t asked stop from = (Err stop, from, refl)
+pub names_told : (tests : List Test) (names : List (List ℕ)) → Ok names ≡ names_in (Ok tests)
+    → shown_names names ≡ shown_text tests
+names_told tests names same =
+    (let is : names ≡ names_of tests = cc in ap shown_names is) ∙ rw (flat_map-map name_line (λ (t : Test). t.name) tests)
 
 -- no answer is a refusal
 pub no_err : {A E : Type 0} (x : A) (fault : E) → Ok x ≡ Err fault → ⊥
@@ -62,14 +52,14 @@ all_selected : (select drop : Option Ere) (tests : List Test) → select ≡ Non
 all_selected select drop tests no_select no_drop = rw (no_select, no_drop)
 
 -- then the names found are those of all tests
-pub all_shown : {E : Type 0} (t : TreeRun) (asked : Asked) (names : List (List ℕ))
+pub all_named : {E : Type 0} (t : TreeRun) (asked : Asked) (names : List (List ℕ))
     (result : Result (Result (List (List ℕ)) Stop) E) → asked.select ≡ None → asked.drop ≡ None
     → DiscoversNames t.nodes t.base asked.paths (Ok names) → TreeRests t
-    → IfOk result (λ kept. kept ≡ unless_none asked.shard names) → IfOk result (NamesShown t (wanted asked))
-all_shown t asked names (Err fault) no_select no_drop found rests is = tt
-all_shown t asked names (Ok kept) no_select no_drop (tests, discovers, same) rests is = (
-  Ok tests,
-  (discovers, λ bad. absurd (no_err tests TreeFault bad), λ _. rests, no_err tests NoMemory),
+    → IfOk result (λ kept. kept ≡ unless_none asked.shard names) → IfOk result (NamesFrom t (wanted asked))
+all_named t asked names (Err fault) no_select no_drop found rests is = tt
+all_named t asked names (Ok kept) no_select no_drop (tests, discovers, same) rests is = (
+  shown_of (wanted asked) (Ok tests),
+  (Ok tests, (discovers, λ bad. absurd (no_err tests TreeFault bad), λ _. rests, no_err tests NoMemory), refl),
   is ∙ ap (unless_none asked.shard) same ∙ names_kept asked.shard tests
       ∙ ap (λ all. names_in (unless_none asked.shard all))
       (all_selected asked.select asked.drop tests no_select no_drop),
