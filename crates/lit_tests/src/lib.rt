@@ -26,11 +26,11 @@ mod reports;
 #[cfg(test)]
 mod rows;
 #[cfg(test)]
+mod run_faults;
+#[cfg(test)]
 mod scripts;
 #[cfg(test)]
 mod shell;
-#[cfg(test)]
-mod show_faults;
 #[cfg(test)]
 mod suites;
 #[cfg(test)]

@@ -62,7 +62,9 @@ TestsFrom t wanted outcome =
 
 -- the same, of their names
 abbrev pub NamesFrom : TreeRun → Wanted → Result (List (List ℕ)) Stop → Type 0
-NamesFrom t wanted named = (outcome : Result (List Test) Stop) × TestsFrom t wanted outcome × (named ≡ names_in outcome)
+NamesFrom t wanted named =
+    (found : Result (List Test) DiscoverFault) × TreeSearched t wanted.paths found
+    × (named ≡ names_in (shown_of wanted found))
 
 -- ---- a call
 

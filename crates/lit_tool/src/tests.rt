@@ -18,7 +18,6 @@ const MAX_TESTS: usize = 100_000;
 
 /// The tests that are run, or why there are none. Discovery says how many there are at most of a tree that tells what stands in
 /// it; here it is looked at for each.
-#[tactic(auto, using(crate::proofs::TestLemmas::kept_few))]
 pub(crate) fn tests_from<T: Tree>(
     alloc: Global,
     asked: &Asked,
