@@ -1,12 +1,11 @@
 -- A call of lit, put together of what its steps left.
-use Rattle.std.proofs.Common.{◌≡◌, ◌⊎◌, ℕ, Bool, true, false, List, Result, Ok, Err, sym, ◌∙◌, ap, subst, inl, inr}
-use Rattle.tt_outside.specs.declared.test_data.Test.{Test}
+use Rattle.std.proofs.Common.{◌≡◌, ℕ, true, false, List, Ok, Err, sym, ◌∙◌, ap, subst, inl, inr}
 use Rattle.lit_words.specs.Asked.{Wanted, asked_by}
 use Rattle.lit_words.specs.declared.fault.WordsFault.{WordsFault}
 use Rattle.run_report.specs.Run.{Around, NoHand, Rests, untried}
 use Rattle.run_report.specs.declared.ending.LitEnd.{LitEnd}
 use Rattle.lit_tool.specs.Answer.{LacksMemory, TellsNames, TellsStop}
-use Rattle.lit_tool.specs.Run.{AskedEnds, Call, LitEnds, NothingRan, RunsFrom, RunsTests, ShowsFrom, ShowsOrRuns, TestsFrom, TreeRests}
+use Rattle.lit_tool.specs.Run.{AskedEnds, Call, LitEnds, NothingRan, RunsFrom, ShowsFrom, ShowsOrRuns, TestsFrom, TreeRests}
 use Rattle.lit_tool.specs.declared.stop.Stop.{Stop}
 use Rattle.lit_tool.specs.declared.stop.Stop.TheVariants.{Words}
 

@@ -1,5 +1,5 @@
 -- Status 3 comes of a stream's fault that was counted. By cases on where a run stopped.
-use Rattle.std.proofs.Common.{◌≡◌, ◌⊎◌, ℕ, Bool, true, false, if◌then◌else◌, List, length, map, Option, Some, None, ap, inl, inr}
+use Rattle.std.proofs.Common.{◌≡◌, ◌⊎◌, ℕ, Bool, true, false, if◌then◌else◌, List, length, map, Option, ap, inl, inr}
 use Rattle.std.specs.List.{list_any}
 use Rattle.tt_outside.specs.Faults.{Rose}
 use Rattle.tt_outside.specs.declared.test_data.Test.{Test}

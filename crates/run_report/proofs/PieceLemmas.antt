@@ -1,7 +1,7 @@
 -- Pieces that are written one behind the other.
 -- Shown: what is written behind other bytes is written behind both, and so is what stops. A stream is told by three moments, each
 -- with what it holds, its count of faults and its room.
-use Rattle.std.proofs.Common.{◌≡◌, ◌≢◌, ◌⊎◌, ℕ, ◌+◌, ◌<◌, ◌≤◌, List, [], ◌++◌, length, length-append, append_assoc, append-nil, Option, inl, inr, sym, ap, subst, ◌∙◌, arith}
+use Rattle.std.proofs.Common.{ℕ, ◌+◌, ◌<◌, ◌≤◌, List, [], ◌++◌, length, length-append, append_assoc, append-nil, Option, inl, inr, sym, subst, ◌∙◌, arith}
 use Rattle.std.specs.Io.KnownBytes.{Appends}
 use Rattle.std.proofs.KnownBytes.{Appends-trans}
 use Rattle.tt_outside.specs.Faults.{Rose}

@@ -1,13 +1,12 @@
 -- Tests that were put on lit's desk, all of them or up to a stop.
 -- Shown: what was put is in the report, behind what was written before. By the laws of the desk, over any object that has lit's
 -- desk in it. The hard one is `stopped_at`: by the desk's cause, the other trial's part is there in front.
-use Rattle.std.proofs.Common.{◌≡◌, ℕ, ◌+◌, ◌<◌, ◌≤◌, List, [], ◌∷◌, ◌++◌, append-nil, length, map, IfErr, IfOk, Option, None, Some, Result, Ok, Err, refl, sym, ap, subst, ◌∙◌, arith}
+use Rattle.std.proofs.Common.{◌≡◌, ℕ, ◌+◌, ◌<◌, ◌≤◌, List, [], ◌∷◌, append-nil, length, map, IfErr, IfOk, Option, None, Some, Result, Ok, Err, refl, sym, ap, subst, ◌∙◌, arith}
 use Rattle.std.specs.Io.KnownBytes.{Appends}
-use Rattle.tt_outside.specs.Faults.{Rose}
 use Rattle.tt_outside.specs.Gave.{Gave, SameGave}
 use Rattle.tt_outside.specs.declared.test_data.Test.{Test}
 use Rattle.test_course.proofs.EntryLemmas.{AreGiven_same}
-use Rattle.tt_run.specs.Run.{Stream, Taken}
+use Rattle.tt_run.specs.Run.{Taken}
 use Rattle.lit_words.specs.declared.asked.Detail.{Detail}
 use Rattle.lit_test.specs.declared.trial.Trial.{Trial}
 use Rattle.lit_report.specs.Report.{part_of, parts_from}
@@ -16,7 +15,7 @@ use Rattle.lit_desk.specs.declared.desk.LitDesk.{LitDesk}
 use Rattle.lit_desk.specs.declared.stop.DeskStop.{DeskStop}
 use Rattle.lit_desk.specs.declared.stop.DeskStop.TheVariants as stops
 use Rattle.lit_desk.proofs.PutLemmas.{parts_are_written, stays}
-use Rattle.lit_pool.specs.Pool.{AreTrials, IsStopped, IsTrialOf, Refuses, kept_of, returned, told_of, why_of}
+use Rattle.lit_pool.specs.Pool.{AreTrials, IsStopped, Refuses, kept_of, returned, told_of, why_of}
 use Rattle.lit_pool.specs.declared.stop.PoolStop.{PoolStop}
 use Rattle.lit_pool.specs.declared.stop.PoolWhy.{PoolWhy}
 use Rattle.lit_pool.specs.declared.stop.PoolWhy.TheVariants.{SinkFault, TooMuch, NoMemory}

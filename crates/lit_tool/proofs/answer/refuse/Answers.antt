@@ -1,8 +1,4 @@
 use Rattle.std.proofs.Common.{inr}
-use Rattle.tt_run.specs.Run.{Answered, stream}
-use Rattle.run_report.specs.Message.{unplaced}
-use Rattle.lit_tool.specs.Answer.{status_of}
-use Rattle.lit_tool.specs.Message.{text_of}
 use Rattle.lit_tool.proofs.answer.refuse.Goals as goal
 
 pub returns : goal.returns
