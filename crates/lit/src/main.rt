@@ -1,5 +1,5 @@
-//! `lit --show-tests PATH ..`: shows the names of the tests that suites of directories hold.
-//! All that it says and how it ends is `lit_tool`'s; here are the real words, folders and streams.
+//! `lit PATH ..`: runs the tests that suites of directories hold, and reports; with `--show-tests` it shows their names.
+//! All that it says and how it ends is `lit_tool`'s; here are the real words, folders, programs and streams.
 #![tactic(auto)]
 
 use lit_tool::lit_run;
@@ -9,7 +9,7 @@ use std::process::ExitCode;
 use tt_base::Bytes;
 use tt_main::{no_words, words};
 use tt_outside::Sink;
-use tt_real::{StdErr, StdOut, StdTree};
+use tt_real::{StdCrew, StdErr, StdOut, StdTree};
 use tt_run::{answer_on, tell};
 
 /// The path that words are joined to: that of the current directory.
@@ -52,5 +52,15 @@ fn main(rt: HostRuntime) -> ExitCode {
     };
     let mut out = StdOut::new(rt.stdout());
     let mut tree = StdTree::current(rt, base);
-    ExitCode::from(lit_run(alloc, words.as_slice(), &mut tree, &mut out, &mut err))
+    let mut crew = StdCrew::new(alloc, rt);
+    let end = lit_run(
+        &rt,
+        alloc,
+        words.as_slice(),
+        &mut tree,
+        &mut crew,
+        &mut out,
+        &mut err,
+    );
+    ExitCode::from(end.status)
 }

@@ -1,7 +1,7 @@
 -- A desk that tests are put on, one by one.
 -- Own rule: the part of a test is written as it is taken. A refused test leaves a proper front of its part, and that only at a
 -- fault of the stream; the bytes that are kept have a limit.
-use Rattle.std.specs.Prelude.{◌≡◌, ◌≢◌, ℕ, ◌+◌, ◌<◌, ◌≤◌, List, [], ◌∷◌, Option}
+use Rattle.std.specs.Prelude.{◌≡◌, ◌≢◌, ℕ, ◌+◌, ◌<◌, ◌≤◌, List, [], ◌∷◌, length, Option}
 use Rattle.tt_run.specs.Run.{Stopped, Stream, Taken}
 use Rattle.lit_words.specs.declared.asked.Detail.{Detail}
 use Rattle.lit_report.specs.Report.{TestReport, part_of}
@@ -51,6 +51,7 @@ pub record Took (old : DeskNow) (place : ℕ) (test : Kept) (new : DeskNow) : Ty
   pub detail : new.detail ≡ old.detail
   pub tests : new.tests ≡ old.tests
   pub wrote : Taken (part_on old place test) (between old new)
+  pub room : old.room ≤ new.room + length (part_on old place test)
   pub kept : new.kept ≡ old.kept + test.kept
   pub most : new.kept ≤ MAX_KEPT
 

@@ -1,5 +1,5 @@
 -- Laws of desks.
-use Rattle.std.specs.Prelude.{◌≡◌, ◌≢◌, ℕ, ◌+◌, List, [], ◌++◌, length, map}
+use Rattle.std.specs.Prelude.{◌≡◌, ◌≢◌, ℕ, ◌+◌, ◌≤◌, List, [], ◌++◌, length, map}
 use Rattle.std.specs.List.{sum_by}
 use Rattle.std.specs.Io.KnownBytes.{Appends}
 use Rattle.tt_run.specs.Run.{Taken}
@@ -8,13 +8,14 @@ use Rattle.lit_desk.specs.Desk.{DeskNow, Kept, PutFrom, Refused, Took, between}
 use Rattle.lit_desk.specs.declared.stop.DeskStop.{DeskStop}
 use Rattle.lit_desk.specs.declared.stop.DeskStop.TheVariants.{SinkFault, TooMuch, NoMemory}
 
--- tests that were put on a desk: their parts were written one behind the other, no fault was counted, and what they keep was
--- added up
+-- tests that were put on a desk: their parts were written one behind the other, no fault was counted, what they keep was added
+-- up, and the stream's room shrank by no more than their parts
 abbrev pub PartsAreWritten : Type 0
 PartsAreWritten =
     (old new : DeskNow) (place : ℕ) (tests : List Kept) → PutFrom Took old place tests new
     → Taken (parts_from old.detail old.tests place (map (λ test. test.told) tests)) (between old new)
     × (new.kept ≡ old.kept + sum_by (λ test. test.kept) tests)
+    × (old.room ≤ new.room + length (parts_from old.detail old.tests place (map (λ test. test.told) tests)))
 
 -- what a refused test leaves of its part: a proper front where the stream failed, and else nothing
 abbrev pub LeavesFront : DeskStop → List ℕ → List ℕ → Type 0

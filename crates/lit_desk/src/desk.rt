@@ -25,6 +25,7 @@ pub struct LitDesk<'a, O: Sink> {
 
 impl<'a, O: Sink> LitDesk<'a, O> {
     /// Takes the test of a place, counted from 0, which keeps so many bytes.
+    #[tactic(auto, using(crate::proofs::PutLemmas::room_left))]
     pub fn put<T: Reported>(
         &mut self,
         alloc: Global,
@@ -45,6 +46,7 @@ impl<'a, O: Sink> LitDesk<'a, O> {
             place (record { kept = kept; told = T.told test.now }) stop
             (desk self.new.detail self.new.tests self.new.kept
             (O.held self.new.out.now) (O.faults self.new.out.now) (O.room self.new.out.now))) }
+        ensures same_stream { self.new.out.ghost_name ≡ self.old.out.ghost_name }
     {
         let sum = self.kept.saturating_add(kept);
         if sum > MAX_KEPT {

@@ -66,7 +66,7 @@ pub fn run_serial<R: Runner, D: Desk>(
 
 /// A stop with the trials that were put.
 fn stop(why: PoolWhy, trials: Vec<Trial>, other: Option<Trial>) -> PoolStop
-    ensures { (result.why ≡ why) × (result.trials ≡ trials.items) × (result.other ≡ other) }
+    ensures { result ≡ record { why = why; trials = trials.items; other = other } }
 {
     PoolStop {
         why,

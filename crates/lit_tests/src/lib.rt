@@ -1,5 +1,4 @@
-//! Tests of which tests there are: how they are found and kept, suites and paths, and runs whose tree or output fails. Whole runs are
-//! rows of `rows/`.
+//! Tests of which tests there are: how they are found and kept, suites, and paths. Whole runs are rows of `rows/`.
 #![tactic(auto)]
 
 #[cfg(test)]
@@ -14,8 +13,6 @@ mod lost;
 mod paths;
 #[cfg(test)]
 mod rows;
-#[cfg(test)]
-mod show_faults;
 #[cfg(test)]
 mod suites;
 #[cfg(test)]

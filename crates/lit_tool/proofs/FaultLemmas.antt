@@ -1,29 +1,32 @@
 -- Status 3 comes of a fault that was counted.
--- Shown: a run that ends with 3 had a tree or a stream that failed. By cases on the stops, of which one alone has this
--- status, and on what a discovery answered. The hard one is `fault_of_shown`: keeping tests makes no fault of the tree.
+-- Shown: a call that ends with 3 had a tree or a stream that failed. By cases on what the words asked for, and on what a discovery
+-- answered. The hard one is `fault_of_tests`: keeping tests makes no fault of the tree.
 use Rattle.std.proofs.Common.{◌≡◌, ◌⊎◌, ℕ, Bool, true, false, List, [], ◌∷◌, Option, Result, Ok, Err, sym, ◌∙◌, ap, inl, inr, refl}
 use Rattle.tt_outside.specs.Faults.{Rose}
 use Rattle.tt_outside.specs.declared.test_data.Test.{Test}
-use Rattle.tt_run.specs.Run.{Stream, Written}
-use Rattle.tt_run.specs.declared.answer.Answer.{Answer}
+use Rattle.tt_run.specs.Run.{Stream}
 use Rattle.lit_dirs.specs.declared.fault.DiscoverFault.{DiscoverFault}
 use Rattle.lit_dirs.specs.declared.fault.DiscoverFault.TheVariants.{Missing, PythonConfig, NoSuite, BadSuite, SuiteTooLarge, TooMany, TooManyItems, NoTests, TreeFault, NoMemory}
 use Rattle.lit_select.specs.Selection.{selected}
-use Rattle.lit_words.specs.Asked.{Wanted}
+use Rattle.lit_words.specs.Asked.{Wanted, asked_by}
+use Rattle.lit_words.specs.declared.asked.Detail.{Detail}
 use Rattle.lit_words.specs.declared.fault.WordsFault.{WordsFault}
 use Rattle.lit_words.specs.declared.number.Shard.{Shard}
-use Rattle.lit_tool.specs.Answer.{answer_to}
+use Rattle.run_report.specs.Run.{Around}
+use Rattle.run_report.specs.declared.ending.LitEnd.{LitEnd}
+use Rattle.run_report.proofs.FaultLemmas.{StreamFailed, run_fault}
+use Rattle.lit_tool.specs.Answer.{TellsNames, TellsStop, status_of}
 use Rattle.lit_tool.specs.Kept.{unless_none}
-use Rattle.lit_tool.specs.Run.{OutcomeFrom, ShownFrom, TreeRun}
+use Rattle.lit_tool.specs.Run.{AskedEnds, Call, LitEnds, ShowsOrRuns, TestsFrom, TreeRun}
 use Rattle.lit_tool.specs.declared.stop.Stop.{Stop}
-use Rattle.lit_tool.specs.declared.stop.Stop.TheVariants.{Words, NotBuilt, Discovery, NoneSelected}
+use Rattle.lit_tool.specs.declared.stop.Stop.TheVariants.{Words, Discovery, NoneSelected}
 
 -- the tree failed
 abbrev pub IsFault : Result (List Test) Stop → Type 0
 IsFault outcome = outcome ≡ Err (Discovery TreeFault)
 
--- an answer of status 3 is to a fault of the tree
-found_fault : (fault : DiscoverFault) → (answer_to (Err (Discovery fault))).status ≡ 3 → IsFault (Err (Discovery fault))
+-- a stop of status 3 is a fault of the tree
+found_fault : (fault : DiscoverFault) → status_of (Discovery fault) ≡ 3 → IsFault (Err (Discovery fault))
 found_fault (Missing path) is = cc
 found_fault (PythonConfig path) is = cc
 found_fault (NoSuite path) is = cc
@@ -35,12 +38,10 @@ found_fault NoTests is = cc
 found_fault TreeFault is = refl
 found_fault NoMemory is = cc
 
-answers_fault : (outcome : Result (List Test) Stop) → (answer_to outcome).status ≡ 3 → IsFault outcome
-answers_fault (Ok tests) is = cc
-answers_fault (Err (Words fault)) is = cc
-answers_fault (Err NotBuilt) is = cc
-answers_fault (Err NoneSelected) is = cc
-answers_fault (Err (Discovery fault)) is = found_fault fault is
+stop_fault : (stop : Stop) → status_of stop ≡ 3 → IsFault (Err stop)
+stop_fault (Words fault) is = cc
+stop_fault NoneSelected is = cc
+stop_fault (Discovery fault) is = found_fault fault is
 
 -- keeping tests makes none
 kept_calm : (shard : Option Shard) (tests : List Test) → IsFault (unless_none shard tests) → ⊥
@@ -55,47 +56,74 @@ same_fault fault is = cc
 abbrev pub Failed : TreeRun → Type 0
 Failed t = Rose t.before t.now × (t.steady → ⊥)
 
-fault_of_shown : (t : TreeRun) (wanted : Wanted) (show : Bool) (outcome : Result (List Test) Stop)
-    → ShownFrom t wanted show outcome → IsFault outcome → Failed t
-fault_of_shown t wanted false outcome (rests, same) is = cc
-fault_of_shown t wanted true outcome (Ok tests, searched, same) is =
+fault_of_tests : (t : TreeRun) (wanted : Wanted) (outcome : Result (List Test) Stop) → TestsFrom t wanted outcome
+    → IsFault outcome → Failed t
+fault_of_tests t wanted outcome (Ok tests, searched, same) is =
     absurd (kept_calm wanted.shard (selected wanted.select wanted.drop tests) (sym same ∙ is))
-fault_of_shown t wanted true outcome (Err fault, searched, same) is =
+fault_of_tests t wanted outcome (Err fault, searched, same) is =
     searched.1 (ap Err (same_fault fault (sym same ∙ is)))
 
-fault_of_tree : (t : TreeRun) (asked : Result Wanted WordsFault) (outcome : Result (List Test) Stop)
-    → OutcomeFrom t asked outcome → IsFault outcome → Failed t
-fault_of_tree t (Ok wanted) outcome from is = fault_of_shown t wanted wanted.show outcome from is
-fault_of_tree t (Err fault) outcome (rests, same) is = cc
+-- ---- what is told
 
--- status 3 comes of a fault that was counted
-three_of_run : (t : TreeRun) (asked : Result Wanted WordsFault) (outcome : Result (List Test) Stop)
-    (message : List ℕ) (answer : Answer) (status : ℕ) (out err : Stream) → OutcomeFrom t asked outcome
-    → answer ≡ answer_to outcome → status ≡ 3 → Written message answer status out err
-    → Failed t ⊎ Rose out.before out.now ⊎ Rose err.before err.now
-three_of_run t asked outcome message answer status out err from same is (inl (taken, inl told)) =
-    inl (fault_of_tree t asked outcome from (answers_fault outcome (sym (told.0 ∙ ap (λ a. a.status) same) ∙ is)))
-three_of_run t asked outcome message answer status out err from same is (inl (taken, inr stopped)) =
-    inr (inr stopped.1.1)
-three_of_run t asked outcome message answer status out err from same is (inr stopped) = inr (inl stopped.1.1)
+-- a stop was told with status 3: it is a fault of the tree, or the stream failed
+told_three : (stop : Stop) (status : ℕ) (err : Stream) → TellsStop stop status err → status ≡ 3
+    → IsFault (Err stop) ⊎ Rose err.before err.now
+told_three stop status err (inl (four, told)) is = cc
+told_three stop status err (inr (inl (same, taken))) is = inl (stop_fault stop (sym same ∙ is))
+told_three stop status err (inr (inr (three, stopped))) is = inr stopped.1
 
-pub fault_of_run : (t : TreeRun) (asked : Result Wanted WordsFault) (outcome : Result (List Test) Stop)
-    (message : List ℕ) (answer : Answer) (status : ℕ) (out err : Stream) → OutcomeFrom t asked outcome
-    → answer ≡ answer_to outcome → status ≡ 3 → Written message answer status out err
-    → Rose t.before t.now ⊎ Rose out.before out.now ⊎ Rose err.before err.now
-fault_of_run t asked outcome message answer status out err from same is written =
-    elim (three_of_run t asked outcome message answer status out err from same is written) [
+names_three : (outcome : Result (List Test) Stop) (status : ℕ) (out err : Stream) → TellsNames outcome status out err
+    → status ≡ 3 → IsFault outcome ⊎ StreamFailed out err
+names_three (Ok tests) status out err (inl (taken, inl (same, told))) is = cc
+names_three (Ok tests) status out err (inl (taken, inr (three, stopped))) is = inr (inr stopped.1)
+names_three (Ok tests) status out err (inr (three, stopped, told)) is = inr (inl stopped.1)
+names_three (Err stop) status out err (rests, told) is =
+    elim (told_three stop status err told is) [
+      | inl fault ↦ inl fault
+      | inr rose ↦ inr (inr rose)
+    ]
+
+ends_three : (show : Bool) (detail : Detail) (outcome : Result (List Test) Stop) (a : Around) (end : LitEnd)
+    → ShowsOrRuns show detail outcome a end → end.status ≡ 3 → IsFault outcome ⊎ StreamFailed a.out a.err
+ends_three true detail outcome a end (nothing, tells) is = names_three outcome end.status a.out a.err tells is
+ends_three false detail (Ok tests) a end runs is = inr (run_fault detail tests a end runs is)
+ends_three false detail (Err stop) a end (nothing, rests, told) is =
+    elim (told_three stop end.status a.err told is) [
+      | inl fault ↦ inl fault
+      | inr rose ↦ inr (inr rose)
+    ]
+
+asked_three : (asked : Result Wanted WordsFault) (t : TreeRun) (a : Around) (end : LitEnd) → AskedEnds asked t a end
+    → end.status ≡ 3 → Failed t ⊎ StreamFailed a.out a.err
+asked_three (Ok wanted) t a end (outcome, from, ends) is =
+    elim (ends_three wanted.show wanted.detail outcome a end ends is) [
+      | inl fault ↦ inl (fault_of_tests t wanted outcome from fault)
+      | inr failed ↦ inr failed
+    ]
+asked_three (Err fault) t a end (rests, (nothing, still, told)) is =
+    elim (told_three (Words fault) end.status a.err told is) [
+      | inl fault_is ↦ absurd (let no = fault_is in cc)
+      | inr rose ↦ inr (inr rose)
+    ]
+
+three_of_call : (words : List (List ℕ)) (c : Call) (end : LitEnd) → LitEnds words c end → end.status ≡ 3
+    → Failed c.searched ⊎ StreamFailed c.around.out c.around.err
+three_of_call words c end (inl (nothing, (four, rests, told))) is = cc
+three_of_call words c end (inr ends) is = asked_three (asked_by words) c.searched c.around end ends is
+
+pub fault_of_call : (words : List (List ℕ)) (c : Call) (end : LitEnd) → LitEnds words c end → end.status ≡ 3
+    → Rose c.searched.before c.searched.now ⊎ StreamFailed c.around.out c.around.err
+fault_of_call words c end ends is =
+    elim (three_of_call words c end ends is) [
       | inl failed ↦ inl failed.0
       | inr streams ↦ inr streams
     ]
 
 -- and over a tree of which no call fails of a stream's
-pub fault_of_streams : (t : TreeRun) (asked : Result Wanted WordsFault) (outcome : Result (List Test) Stop)
-    (message : List ℕ) (answer : Answer) (status : ℕ) (out err : Stream) → OutcomeFrom t asked outcome
-    → answer ≡ answer_to outcome → status ≡ 3 → Written message answer status out err → t.steady
-    → Rose out.before out.now ⊎ Rose err.before err.now
-fault_of_streams t asked outcome message answer status out err from same is written steady =
-    elim (three_of_run t asked outcome message answer status out err from same is written) [
+pub fault_of_streams : (words : List (List ℕ)) (c : Call) (end : LitEnd) → LitEnds words c end → c.searched.steady
+    → end.status ≡ 3 → StreamFailed c.around.out c.around.err
+fault_of_streams words c end ends steady is =
+    elim (three_of_call words c end ends is) [
       | inl failed ↦ absurd (failed.1 steady)
       | inr streams ↦ streams
     ]

@@ -1,5 +1,5 @@
 -- What is made of tests and then named is made of their names.
-use Rattle.std.proofs.Common.{◌≡◌, ℕ, ◌+◌, Bool, true, false, if◌then◌else◌, List, [], ◌∷◌, map, Option, Some, None, IfOk, Result, Ok, Err, ap, sym, ◌∙◌, refl}
+use Rattle.std.proofs.Common.{◌≡◌, ℕ, ◌+◌, Bool, true, false, if◌then◌else◌, List, [], ◌∷◌, ◌++◌, map, codes, inl, inr, subst, Option, Some, None, IfOk, Result, Ok, Err, ap, sym, ◌∙◌, refl}
 use Rattle.std.specs.Option.{option_map}
 use Rattle.std.proofs.lemmas.List.Folds.{flat_map-map}
 use Rattle.ere_tree.specs.View.{view}
@@ -9,13 +9,14 @@ use Rattle.lit_find.specs.Found.{DiscoversNames}
 use Rattle.lit_select.specs.Selection.{selected}
 use Rattle.lit_words.specs.Asked.{Wanted, wanted}
 use Rattle.lit_words.specs.declared.asked.Asked.{Asked}
-use Rattle.lit_words.specs.declared.fault.WordsFault.{WordsFault}
 use Rattle.lit_words.specs.declared.number.Shard.{Shard}
 use Rattle.tt_outside.specs.declared.test_data.Test.{Test}
-use Rattle.tt_run.specs.declared.answer.Answer.{Answer}
-use Rattle.lit_tool.specs.Answer.{answer_by, answer_to, name_line}
+use Rattle.tt_run.specs.Run.{Stream, Written}
+use Rattle.run_report.specs.Message.{cannot_write, newline}
+use Rattle.run_report.specs.Run.{Rests}
+use Rattle.lit_tool.specs.Answer.{TellsStop, WritesNames, name_line, showing, shown_names, shown_text}
 use Rattle.lit_tool.specs.Kept.{has_place, names_in, names_of, shard_from, unless_none}
-use Rattle.lit_tool.specs.Run.{NamesFrom, NamesShown, OutcomeFrom, TreeRests, TreeRun}
+use Rattle.lit_tool.specs.Run.{NamesFrom, ShowsFrom, TestsFrom, TreeRests, TreeRun, shown_of}
 use Rattle.lit_tool.specs.declared.stop.Stop.{Stop}
 
 map_more : {A B : Type 0} (f : A → B) (b : Bool) (x : A) (xs : List A) (ys : List B) → map f xs ≡ ys
@@ -39,18 +40,56 @@ names_kept None (test ∷ tests) = refl
 names_kept (Some s) (test ∷ tests) = ap Ok (sym (shard_map (λ (t : Test). t.name) s 0 (test ∷ tests)))
 
 -- what is written of the names is what is written of the tests
-answer_named : (outcome : Result (List Test) Stop) → answer_by (names_in outcome) ≡ answer_to outcome
-answer_named (Ok tests) = rw (flat_map-map name_line (λ (t : Test). t.name) tests)
-answer_named (Err stop) = refl
+names_told : (tests : List Test) (names : List (List ℕ)) → names ≡ names_of tests → shown_names names ≡ shown_text tests
+names_told tests names same =
+    ap shown_names same
+    ∙ ap (λ lines. (codes "-- Available Tests --" ++ newline) ++ lines)
+    (flat_map-map name_line (λ (t : Test). t.name) tests)
 
-pub answer_is : (outcome : Result (List Test) Stop) (named : Result (List (List ℕ)) Stop) (answer : Answer)
-    → answer ≡ answer_by named → named ≡ names_in outcome → answer ≡ answer_to outcome
-answer_is outcome named answer is same = is ∙ ap answer_by same ∙ answer_named outcome
+ok_same : {A E : Type 0} (one : Result A E) (x y : A) → one ≡ Ok x → one ≡ Ok y → x ≡ y
+ok_same one x y first second = cc
 
--- where there are no tests there are no names
-pub no_names : (t : TreeRun) (asked : Result Wanted WordsFault) (stop : Stop)
-    → OutcomeFrom t asked (Err stop) → NamesFrom t asked (Err stop)
-no_names t asked stop from = (Err stop, from, refl)
+err_same : {A E : Type 0} (one : Result A E) (x y : E) → one ≡ Err x → one ≡ Err y → x ≡ y
+err_same one x y first second = cc
+
+no_both : {A E : Type 0} (one : Result A E) (x : A) (fault : E) → one ≡ Ok x → one ≡ Err fault → ⊥
+no_both one x fault first second = cc
+
+-- names are written
+names_by : (t : TreeRun) (wanted : Wanted) (outcome : Result (List Test) Stop) (named : Result (List (List ℕ)) Stop)
+    (names : List (List ℕ)) (status : ℕ) (out err : Stream) → TestsFrom t wanted outcome → named ≡ Ok names
+    → named ≡ names_in outcome → Written cannot_write (showing (shown_names names)) status out err
+    → ShowsFrom t wanted status out err
+names_by t wanted (Ok tests) named names status out err from is same written =
+    inr (
+      Ok tests,
+      from,
+      subst (λ text. Written cannot_write (showing text) status out err)
+          (names_told tests names (ok_same named names (names_of tests) is same)) written,
+    )
+names_by t wanted (Err stop) named names status out err from is same written = absurd (no_both named names stop is same)
+
+pub shows_names : (t : TreeRun) (wanted : Wanted) (named : Result (List (List ℕ)) Stop) (names : List (List ℕ)) (status : ℕ)
+    (out err : Stream) → named ≡ Ok names → NamesFrom t wanted named → WritesNames names status out err
+    → ShowsFrom t wanted status out err
+shows_names t wanted named names status out err is from (inl lack) = inl lack
+shows_names t wanted named names status out err is (found, searched, same) (inr written) =
+    names_by t wanted (shown_of wanted found) named names status out err (found, searched, refl) is same written
+
+-- why there are none is told
+stop_by : (t : TreeRun) (wanted : Wanted) (outcome : Result (List Test) Stop) (named : Result (List (List ℕ)) Stop)
+    (stop : Stop) (status : ℕ) (out err : Stream) → TestsFrom t wanted outcome → named ≡ Err stop
+    → named ≡ names_in outcome → Rests out → TellsStop stop status err → ShowsFrom t wanted status out err
+stop_by t wanted (Ok tests) named stop status out err from is same rests told =
+    absurd (no_both named (names_of tests) stop same is)
+stop_by t wanted (Err other) named stop status out err from is same rests told =
+    inr (Err other, from, (rests, subst (λ s. TellsStop s status err) (err_same named stop other is same) told))
+
+pub shows_stop : (t : TreeRun) (wanted : Wanted) (named : Result (List (List ℕ)) Stop) (stop : Stop) (status : ℕ)
+    (out err : Stream) → named ≡ Err stop → NamesFrom t wanted named → Rests out → TellsStop stop status err
+    → ShowsFrom t wanted status out err
+shows_stop t wanted named stop status out err is (found, searched, same) rests told =
+    stop_by t wanted (shown_of wanted found) named stop status out err (found, searched, refl) is same rests told
 
 -- no answer is a refusal
 pub no_err : {A E : Type 0} (x : A) (fault : E) → Ok x ≡ Err fault → ⊥
@@ -62,12 +101,12 @@ all_selected : (select drop : Option Ere) (tests : List Test) → select ≡ Non
 all_selected select drop tests no_select no_drop = rw (no_select, no_drop)
 
 -- then the names found are those of all tests
-pub all_shown : {E : Type 0} (t : TreeRun) (asked : Asked) (names : List (List ℕ))
+pub all_named : {E : Type 0} (t : TreeRun) (asked : Asked) (names : List (List ℕ))
     (result : Result (Result (List (List ℕ)) Stop) E) → asked.select ≡ None → asked.drop ≡ None
     → DiscoversNames t.nodes t.base asked.paths (Ok names) → TreeRests t
-    → IfOk result (λ kept. kept ≡ unless_none asked.shard names) → IfOk result (NamesShown t (wanted asked))
-all_shown t asked names (Err fault) no_select no_drop found rests is = tt
-all_shown t asked names (Ok kept) no_select no_drop (tests, discovers, same) rests is = (
+    → IfOk result (λ kept. kept ≡ unless_none asked.shard names) → IfOk result (NamesFrom t (wanted asked))
+all_named t asked names (Err fault) no_select no_drop found rests is = tt
+all_named t asked names (Ok kept) no_select no_drop (tests, discovers, same) rests is = (
   Ok tests,
   (discovers, λ bad. absurd (no_err tests TreeFault bad), λ _. rests, no_err tests NoMemory),
   is ∙ ap (unless_none asked.shard) same ∙ names_kept asked.shard tests

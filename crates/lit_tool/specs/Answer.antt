@@ -1,14 +1,25 @@
--- What is written of a run, and its status.
+-- What is written where nothing is run: the names of tests, or why there are none.
 -- After LLVM Command Guide, lit, --show-tests: the names of the tests that would run. Own rules: the texts, and the
 -- statuses 2 for a refusal and 3 for a fault of the tree.
-use Rattle.std.specs.Prelude.{ℕ, List, [], ◌++◌, codes, Result, Ok, Err}
+use Rattle.std.specs.Prelude.{◌≡◌, ◌⊎◌, ℕ, List, [], ◌++◌, codes, Result, Ok, Err}
 use Rattle.std.specs.List.{flat_map}
 use Rattle.lit_dirs.specs.declared.fault.DiscoverFault.TheVariants.{TreeFault}
-use Rattle.lit_tool.specs.Message.{newline, text_of, unplaced}
+use Rattle.lit_tool.specs.Message.{text_of}
 use Rattle.lit_tool.specs.declared.stop.Stop.{Stop}
 use Rattle.lit_tool.specs.declared.stop.Stop.TheVariants.{Discovery}
+use Rattle.run_report.specs.Message.{cannot_write, newline, out_of_memory, unplaced}
+use Rattle.run_report.specs.Run.{Rests}
 use Rattle.tt_outside.specs.declared.test_data.Test.{Test}
+use Rattle.tt_run.specs.Run.{Answered, Stream, Told, Written}
 use Rattle.tt_run.specs.declared.answer.Answer.{Answer}
+
+-- ---- want of memory
+
+-- memory was wanting before a byte of the report
+abbrev pub LacksMemory : ℕ → Stream → Stream → Type 0
+LacksMemory status out err = (status ≡ 4) × Rests out × Told out_of_memory err
+
+-- ---- names
 
 -- a name stands on a line, behind two spaces
 abbrev pub name_line : List ℕ → List ℕ
@@ -24,19 +35,29 @@ shown_text tests = (codes "-- Available Tests --" ++ newline) ++ flat_map line_o
 abbrev pub shown_names : List (List ℕ) → List ℕ
 shown_names names = (codes "-- Available Tests --" ++ newline) ++ flat_map name_line names
 
+-- an answer of status 0 that writes a text
+abbrev pub showing : List ℕ → Answer
+showing text = record { out = text; err = []; status = 0 }
+
+-- ---- a stop
+
 abbrev pub status_of : Stop → ℕ
 status_of (Discovery TreeFault) = 3
 status_of stop = 2
 
-abbrev pub row_of : Stop → Answer
-row_of stop = record { out = []; err = unplaced (text_of stop); status = status_of stop }
+-- it is told, unless memory is wanting
+abbrev pub TellsStop : Stop → ℕ → Stream → Type 0
+TellsStop stop status err =
+    ((status ≡ 4) × Told out_of_memory err) ⊎ Answered (unplaced (text_of stop)) (status_of stop) status err
 
--- what is written of a run
-abbrev pub answer_to : Result (List Test) Stop → Answer
-answer_to (Ok tests) = record { out = shown_text tests; err = []; status = 0 }
-answer_to (Err stop) = row_of stop
+-- ---- names, or a stop
 
--- the same, of the names alone
-abbrev pub answer_by : Result (List (List ℕ)) Stop → Answer
-answer_by (Ok names) = record { out = shown_names names; err = []; status = 0 }
-answer_by (Err stop) = row_of stop
+-- these names are written, unless memory is wanting before a byte of them
+abbrev pub WritesNames : List (List ℕ) → ℕ → Stream → Stream → Type 0
+WritesNames names status out err =
+    LacksMemory status out err ⊎ Written cannot_write (showing (shown_names names)) status out err
+
+-- the names of these tests are written, or why there are none
+abbrev pub TellsNames : Result (List Test) Stop → ℕ → Stream → Stream → Type 0
+TellsNames (Ok tests) status out err = Written cannot_write (showing (shown_text tests)) status out err
+TellsNames (Err stop) status out err = Rests out × TellsStop stop status err

@@ -1,5 +1,5 @@
--- The messages of lit. Own texts: of the first refusal alone, and a path is whole and normal.
-use Rattle.std.specs.Prelude.{ℕ, List, [], ◌∷◌, ◌++◌, codes}
+-- Why a run is refused, in words. Own texts: of the first refusal alone, and a path is whole and normal.
+use Rattle.std.specs.Prelude.{ℕ, List, ◌++◌, codes}
 use Rattle.lit_dirs.specs.declared.fault.DiscoverFault.{DiscoverFault}
 use Rattle.lit_dirs.specs.declared.fault.DiscoverFault.TheVariants.{Missing, PythonConfig, NoSuite, BadSuite, SuiteTooLarge, TooMany, TooManyItems, NoTests, TreeFault, NoMemory}
 use Rattle.lit_suite.specs.declared.suite_file.SuiteFault.{SuiteFault}
@@ -7,16 +7,8 @@ use Rattle.lit_suite.specs.declared.suite_file.SuiteFault.TheVariants.{NotToml, 
 use Rattle.lit_words.specs.declared.fault.WordsFault.{WordsFault}
 use Rattle.lit_words.specs.declared.fault.WordsFault.TheVariants.{Faulty, NoPath, Misfit, BadRegex}
 use Rattle.lit_tool.specs.declared.stop.Stop.{Stop}
-use Rattle.lit_tool.specs.declared.stop.Stop.TheVariants.{Words, NotBuilt, Discovery, NoneSelected}
+use Rattle.lit_tool.specs.declared.stop.Stop.TheVariants.{Words, Discovery, NoneSelected}
 use Rattle.opt_words.specs.Fault.{text_before, text_behind}
-
--- the end of a line
-abbrev pub newline : List ℕ
-newline = 10 ∷ []
-
--- a message, with the program's name before it
-abbrev pub unplaced : List ℕ → List ℕ
-unplaced text = codes "lit: error: " ++ text ++ newline
 
 abbrev pub words_text : WordsFault → List ℕ
 words_text (Faulty fault word) = text_before fault ++ word ++ text_behind fault
@@ -47,13 +39,5 @@ discovery_text NoMemory = codes "out of memory"
 -- what is told of a stop
 abbrev pub text_of : Stop → List ℕ
 text_of (Words fault) = words_text fault
-text_of NotBuilt = codes "form not built yet"
 text_of (Discovery fault) = discovery_text fault
 text_of NoneSelected = codes "no tests selected"
-
--- the two that tell a fault of the run itself
-abbrev pub cannot_write : List ℕ
-cannot_write = unplaced (codes "cannot write")
-
-abbrev pub out_of_memory : List ℕ
-out_of_memory = unplaced (codes "out of memory")

@@ -1,17 +1,26 @@
--- What a run of lit does to the tree that it is given.
--- Own rule: the tree is looked at only where the words are accepted.
-use Rattle.std.specs.Prelude.{◌≡◌, ◌≢◌, ℕ, Bool, true, false, List, Option, Result, Ok, Err}
+-- A call of lit, by what the words ask for.
+-- Own rules: the tree is looked at only where the words are accepted; names are shown, or tests run, where there are any.
+use Rattle.std.specs.Prelude.{◌≡◌, ◌≢◌, ◌⊎◌, ℕ, Bool, true, false, List, Option, Result, Ok, Err}
 use Rattle.tt_outside.specs.Faults.{Rose}
+use Rattle.tt_outside.specs.Gave.{Gave}
+use Rattle.tt_outside.specs.declared.crew.Left.{Left}
 use Rattle.tt_outside.specs.declared.test_data.Test.{Test}
 use Rattle.tt_outside.specs.declared.tree.Node.{Node}
+use Rattle.tt_run.specs.Run.{Stream, stream}
 use Rattle.lit_find.specs.Found.{Discovers}
 use Rattle.lit_dirs.specs.declared.fault.DiscoverFault.{DiscoverFault}
 use Rattle.lit_dirs.specs.declared.fault.DiscoverFault.TheVariants.{TreeFault, NoMemory}
-use Rattle.lit_words.specs.Asked.{Wanted}
+use Rattle.lit_words.specs.Asked.{Wanted, asked_by}
+use Rattle.lit_words.specs.declared.asked.Detail.{Detail}
 use Rattle.lit_words.specs.declared.fault.WordsFault.{WordsFault}
+use Rattle.run_report.specs.Run.{Around, NoHand, Rests, RunEnds, around, crew, untried}
+use Rattle.run_report.specs.declared.ending.LitEnd.{LitEnd}
+use Rattle.lit_tool.specs.Answer.{LacksMemory, TellsNames, TellsStop}
 use Rattle.lit_tool.specs.Kept.{kept_of, names_in}
 use Rattle.lit_tool.specs.declared.stop.Stop.{Stop}
-use Rattle.lit_tool.specs.declared.stop.Stop.TheVariants.{Words, NotBuilt, Discovery}
+use Rattle.lit_tool.specs.declared.stop.Stop.TheVariants.{Words, Discovery}
+
+-- ---- the tree
 
 -- a tree: what it tells, its base, whether no call fails for certain, and its count of faults as a run found and left it
 pub record TreeRun : Type 1 where
@@ -46,23 +55,72 @@ abbrev pub shown_of : Wanted → Result (List Test) DiscoverFault → Result (Li
 shown_of wanted (Ok tests) = kept_of wanted tests
 shown_of wanted (Err fault) = Err (Discovery fault)
 
--- the names of the tests that are kept of those found, or why there are none
-abbrev pub NamesShown : TreeRun → Wanted → Result (List (List ℕ)) Stop → Type 0
-NamesShown t wanted named =
+-- the tree was searched, and these tests are kept, or why there are none
+abbrev pub TestsFrom : TreeRun → Wanted → Result (List Test) Stop → Type 0
+TestsFrom t wanted outcome =
+    (found : Result (List Test) DiscoverFault) × TreeSearched t wanted.paths found × (outcome ≡ shown_of wanted found)
+
+-- the same, of their names
+abbrev pub NamesFrom : TreeRun → Wanted → Result (List (List ℕ)) Stop → Type 0
+NamesFrom t wanted named =
     (found : Result (List Test) DiscoverFault) × TreeSearched t wanted.paths found
     × (named ≡ names_in (shown_of wanted found))
 
--- from what is asked for, and whether tests are to be shown, to the tests: running them isn't built yet
-abbrev pub ShownFrom : TreeRun → Wanted → Bool → Result (List Test) Stop → Type 0
-ShownFrom t wanted false outcome = TreeRests t × (outcome ≡ Err NotBuilt)
-ShownFrom t wanted true outcome =
-    (found : Result (List Test) DiscoverFault) × TreeSearched t wanted.paths found × (outcome ≡ shown_of wanted found)
+-- ---- a call
 
--- from what the words ask for to the tests
-abbrev pub OutcomeFrom : TreeRun → Result Wanted WordsFault → Result (List Test) Stop → Type 0
-OutcomeFrom t (Ok wanted) outcome = ShownFrom t wanted wanted.show outcome
-OutcomeFrom t (Err fault) outcome = TreeRests t × (outcome ≡ Err (Words fault))
+-- what lit is handed: a tree, a crew, and the streams of the report and of messages
+pub record Call : Type 1 where
+  pub searched : TreeRun
+  pub around : Around
 
--- from what the words ask for to the names of the tests
-abbrev pub NamesFrom : TreeRun → Result Wanted WordsFault → Result (List (List ℕ)) Stop → Type 0
-NamesFrom t asked named = (outcome : Result (List Test) Stop) × OutcomeFrom t asked outcome × (named ≡ names_in outcome)
+abbrev pub call : {T C O E : Type 0} → (T → Option (List Node)) → (T → List ℕ) → (T → Type 0) → (T → ℕ)
+    → (C → Gave) → (C → List Left) → (O → Option (List ℕ)) → (O → ℕ) → (O → ℕ) → (E → Option (List ℕ)) → (E → ℕ) → (E → ℕ)
+    → T → T → C → C → O → O → E → E → Call
+call nodes root steady faults gave hands held failed room told missed space t u c d o p e f = record {
+  searched = tree nodes root steady faults t u;
+  around = around (crew gave hands c d) (stream held failed room o p) (stream told missed space e f);
+}
+
+-- no test was run: the status alone is left, and no hand was hired
+abbrev pub NothingRan : Around → LitEnd → Type 0
+NothingRan a end = (end ≡ untried end.status) × NoHand a.hired
+
+-- where nothing is to be run, why is told
+abbrev pub Refuses : Stop → Around → LitEnd → Type 0
+Refuses stop a end = NothingRan a end × Rests a.out × TellsStop stop end.status a.err
+
+-- tests are run, or why there are none is told
+abbrev pub RunsTests : Detail → Result (List Test) Stop → Around → LitEnd → Type 0
+RunsTests detail (Ok tests) a end = RunEnds detail tests a end
+RunsTests detail (Err stop) a end = Refuses stop a end
+
+-- their names are shown where that is asked, and else they are run
+abbrev pub ShowsOrRuns : Bool → Detail → Result (List Test) Stop → Around → LitEnd → Type 0
+ShowsOrRuns true detail outcome a end = NothingRan a end × TellsNames outcome end.status a.out a.err
+ShowsOrRuns false detail outcome a end = RunsTests detail outcome a end
+
+-- what the words ask for is done, or they are refused and the tree is left alone
+abbrev pub AskedEnds : Result Wanted WordsFault → TreeRun → Around → LitEnd → Type 0
+AskedEnds (Ok wanted) t a end =
+    (outcome : Result (List Test) Stop) × TestsFrom t wanted outcome × ShowsOrRuns wanted.show wanted.detail outcome a end
+AskedEnds (Err fault) t a end = TreeRests t × Refuses (Words fault) a end
+
+-- how a call ends, by the texts of its words: memory is wanting before a byte, or what they ask for is done
+abbrev pub LitEnds : List (List ℕ) → Call → LitEnd → Type 0
+LitEnds words c end =
+    (NothingRan c.around end × LacksMemory end.status c.around.out c.around.err)
+    ⊎ AskedEnds (asked_by words) c.searched c.around end
+
+-- ---- its two ways
+
+-- names are shown, or memory is wanting
+abbrev pub ShowsFrom : TreeRun → Wanted → ℕ → Stream → Stream → Type 0
+ShowsFrom t wanted status out err =
+    LacksMemory status out err
+    ⊎ ((outcome : Result (List Test) Stop) × TestsFrom t wanted outcome × TellsNames outcome status out err)
+
+-- tests are run, or memory is wanting before that
+abbrev pub RunsFrom : Wanted → Call → LitEnd → Type 0
+RunsFrom wanted c end =
+    (NothingRan c.around end × LacksMemory end.status c.around.out c.around.err)
+    ⊎ ((outcome : Result (List Test) Stop) × TestsFrom c.searched wanted outcome × RunsTests wanted.detail outcome c.around end)

@@ -1,31 +1,17 @@
-//! What is written of a run, and its status.
+//! What is written where nothing is run.
 ghost use Rattle.std.specs.Prelude.{◌≡◌, ◌≤◌, ◌++◌, IfOk, OnOk};
-ghost use Rattle.lit_tool.specs.Answer.{answer_by, name_line, row_of, shown_names, status_of};
+ghost use Rattle.tt_run.specs.Run.{stream};
+ghost use Rattle.lit_tool.specs.Answer.{TellsStop, WritesNames, name_line, shown_names, status_of};
+ghost use Rattle.lit_tool.specs.Message.{text_of};
 
-use crate::message::{text_of, unplaced};
+use crate::message::message_of;
 use crate::stop::Stop;
 use lit_dirs::DiscoverFault;
+use run_report::tell_memory;
 use std::alloc::Global;
-use tt_base::{Bytes, Items, NoMemory};
-use tt_run::Answer;
-
-/// What is written of a run.
-pub(crate) fn answer_to(
-    alloc: Global,
-    named: &Result<Items<Bytes>, Stop>,
-) -> Result<Answer, NoMemory>
-    ensures value { IfOk result (λ answer. answer ≡ answer_by named.now) }
-    ensures small { IfOk result (λ answer. answer.status ≤ 3) }
-{
-    match named {
-        Ok(names) => Ok(Answer {
-            out: shown_names(alloc, names.as_slice())?,
-            err: Bytes::new(alloc),
-            status: 0,
-        }),
-        Err(stop) => row_of(alloc, stop),
-    }
-}
+use tt_base::{Bytes, NoMemory};
+use tt_outside::Sink;
+use tt_run::{Answer, answer_on, write_answer};
 
 /// Names, each on a line.
 fn shown_names(alloc: Global, names: &[Bytes]) -> Result<Bytes, NoMemory>
@@ -47,16 +33,25 @@ fn add_line(text: &mut Bytes, name: &Bytes) -> Result<(), NoMemory>
     text.append(b"\n")
 }
 
-fn row_of(alloc: Global, stop: &Stop) -> Result<Answer, NoMemory>
-    ensures value { IfOk result (λ answer. answer ≡ row_of stop.now) }
-    ensures small { IfOk result (λ answer. answer.status ≤ 3) }
+/// Writes names, each on a line, and answers 0, 3 at a fault of a stream, or 4 for want of memory.
+pub(crate) fn write_names<O: Sink, E: Sink>(
+    alloc: Global,
+    names: &[Bytes],
+    out: &mut O,
+    err: &mut E,
+) -> u8
+    ensures { WritesNames names.now result
+        (stream O.held O.faults O.room out.old out.new) (stream E.held E.faults E.room err.old err.new) }
 {
-    let text = text_of(alloc, stop)?;
-    Ok(Answer {
-        out: Bytes::new(alloc),
-        err: unplaced(alloc, text.as_slice())?,
-        status: status_of(stop),
-    })
+    let Ok(text) = shown_names(alloc, names) else {
+        return tell_memory(err);
+    };
+    let answer = Answer {
+        out: text,
+        err: Bytes::new(alloc),
+        status: 0,
+    };
+    write_answer(b"lit: error: cannot write\n", &answer, out, err)
 }
 
 /// The status of a stop.
@@ -68,4 +63,14 @@ fn status_of(stop: &Stop) -> u8
         Stop::Discovery(DiscoverFault::TreeFault) => 3,
         _ => 2,
     }
+}
+
+/// Tells a stop, and answers its status, 3 at a fault of the stream, or 4 for want of memory.
+pub(crate) fn refuse<E: Sink>(alloc: Global, stop: &Stop, err: &mut E) -> u8
+    ensures { TellsStop stop.now result (stream E.held E.faults E.room err.old err.new) }
+{
+    let Ok(message) = message_of(alloc, stop) else {
+        return tell_memory(err);
+    };
+    answer_on(message.as_slice(), status_of(stop), err)
 }

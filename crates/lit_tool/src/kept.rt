@@ -20,38 +20,38 @@ fn has_place(part: Shard, place: u64) -> bool
     shard(place, part.shards, part.run)
 }
 
-/// The names of a shard's tests, in their order.
+/// The tests of a shard, or their names, in their order.
 #[tactic(auto, using(crate::proofs::ShardLemmas::kept_more, crate::proofs::ShardLemmas::kept_less))]
-fn in_shard(alloc: Global, part: Shard, names: Items<Bytes>) -> Result<Items<Bytes>, NoMemory>
+fn in_shard<A: Drop>(alloc: Global, part: Shard, items: Items<A>) -> Result<Items<A>, NoMemory>
     requires { IsShard part }
-    ensures { IfOk result (λ kept. kept ≡ shard_from part 0 names) }
+    ensures { IfOk result (λ kept. kept ≡ shard_from part 0 items) }
 {
     let mut kept = Items::new(alloc);
     let mut place = 0;
-    for name in names.into_vec() {
+    for item in items.into_vec() {
         if has_place(part, place) {
-            kept.push(name)?;
+            kept.push(item)?;
         }
         place += 1;
     }
     Ok(kept)
 }
 
-/// The names of the selected tests that a shard keeps.
-pub(crate) fn unless_none(
+/// The selected tests that a shard keeps, or their names.
+pub(crate) fn unless_none<A: Drop>(
     alloc: Global,
     shard: Option<Shard>,
-    names: Items<Bytes>,
-) -> Result<Result<Items<Bytes>, Stop>, NoMemory>
+    items: Items<A>,
+) -> Result<Result<Items<A>, Stop>, NoMemory>
     requires { IfSome shard IsShard }
-    ensures { IfOk result (λ kept. kept ≡ unless_none shard names) }
+    ensures { IfOk result (λ kept. kept ≡ unless_none shard items) }
 {
-    if names.is_empty() {
+    if items.is_empty() {
         return Ok(Err(Stop::NoneSelected));
     }
     match shard {
-        Some(part) => Ok(Ok(in_shard(alloc, part, names)?)),
-        None => Ok(Ok(names)),
+        Some(part) => Ok(Ok(in_shard(alloc, part, items)?)),
+        None => Ok(Ok(items)),
     }
 }
 
@@ -66,17 +66,28 @@ fn names_of(alloc: Global, tests: Items<Test>) -> Result<Items<Bytes>, NoMemory>
     Ok(names)
 }
 
-/// The names of the tests that are kept by what is asked for.
-#[tactic(auto, using(crate::proofs::NameLemmas::names_kept))]
+/// The names of the tests, where there are any.
+pub(crate) fn names_in(
+    alloc: Global,
+    tests: Result<Items<Test>, Stop>,
+) -> Result<Result<Items<Bytes>, Stop>, NoMemory>
+    ensures { IfOk result (λ names. names ≡ names_in tests) }
+{
+    match tests {
+        Ok(tests) => Ok(Ok(names_of(alloc, tests)?)),
+        Err(stop) => Ok(Err(stop)),
+    }
+}
+
+/// The tests that are kept by what is asked for.
 pub(crate) fn kept_of(
     alloc: Global,
     asked: &Asked,
     tests: Items<Test>,
-) -> Result<Result<Items<Bytes>, Stop>, NoMemory>
+) -> Result<Result<Items<Test>, Stop>, NoMemory>
     requires { IfSome asked.now.shard IsShard }
-    ensures { IfOk result (λ kept. kept ≡ names_in (kept_of (wanted asked.now) tests)) }
+    ensures { IfOk result (λ kept. kept ≡ kept_of (wanted asked.now) tests) }
 {
     let tests = select(alloc, tests, &asked.select, &asked.drop)?;
-    let names = names_of(alloc, tests)?;
-    unless_none(alloc, asked.shard, names)
+    unless_none(alloc, asked.shard, tests)
 }

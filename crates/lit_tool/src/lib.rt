@@ -1,5 +1,5 @@
-//! lit as one call over objects that are handed in: words, a tree of directories, and two streams.
-//! After LLVM Command Guide, lit. Until tests run, their names alone are shown. The program `lit` stands above.
+//! lit as one call over objects that are handed in: words, a tree of directories, a crew whose hands run programs, and two
+//! streams. After LLVM Command Guide, lit. The program `lit` stands above; how tests are run and reported is below.
 #![tactic(auto)]
 
 mod answer;
@@ -7,6 +7,8 @@ mod kept;
 mod message;
 mod run;
 mod stop;
+mod tests;
 
 pub use run::lit_run;
+pub use run_report::LitEnd;
 pub use stop::Stop;

@@ -1,6 +1,7 @@
-//! The messages of lit.
+//! Why a run is refused, in words.
 ghost use Rattle.std.specs.Prelude.{◌≡◌, ◌++◌, IfOk};
-ghost use Rattle.lit_tool.specs.Message.{discovery_text, kind_text, text_of, unplaced, words_text};
+ghost use Rattle.run_report.specs.Message.{unplaced};
+ghost use Rattle.lit_tool.specs.Message.{discovery_text, kind_text, text_of, words_text};
 
 use crate::stop::Stop;
 use lit_dirs::DiscoverFault;
@@ -19,23 +20,23 @@ fn named(alloc: Global, before: &[u8], name: &Bytes, behind: &[u8]) -> Result<By
     Ok(text)
 }
 
-/// A message, with the program's name before it.
-pub(crate) fn unplaced(alloc: Global, text: &[u8]) -> Result<Bytes, NoMemory>
-    ensures { IfOk result (λ message. message ≡ unplaced text.now) }
+/// The message that tells a stop, with the program's name before it.
+pub(crate) fn message_of(alloc: Global, stop: &Stop) -> Result<Bytes, NoMemory>
+    ensures { IfOk result (λ message. message ≡ unplaced (text_of stop.now)) }
 {
+    let text = text_of(alloc, stop)?;
     let mut message = Bytes::from_slice(alloc, b"lit: error: ")?;
-    message.append(text)?;
+    message.append(text.as_slice())?;
     message.append(b"\n")?;
     Ok(message)
 }
 
 /// What is told of a stop.
-pub(crate) fn text_of(alloc: Global, stop: &Stop) -> Result<Bytes, NoMemory>
+fn text_of(alloc: Global, stop: &Stop) -> Result<Bytes, NoMemory>
     ensures { IfOk result (λ text. text ≡ text_of stop.now) }
 {
     match stop {
         Stop::Words(fault) => words_text(alloc, fault),
-        Stop::NotBuilt => Bytes::from_slice(alloc, b"form not built yet"),
         Stop::Discovery(fault) => discovery_text(alloc, fault),
         Stop::NoneSelected => Bytes::from_slice(alloc, b"no tests selected"),
     }

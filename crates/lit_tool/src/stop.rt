@@ -8,8 +8,6 @@ use lit_words::WordsFault;
 pub enum Stop {
     /// The words are refused.
     Words(WordsFault),
-    /// `lit demo`: tests don't run yet.
-    NotBuilt,
     /// The tests weren't found.
     Discovery(DiscoverFault),
     /// `--select zz`: no test is kept of those that were found.

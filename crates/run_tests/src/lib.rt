@@ -1,5 +1,5 @@
 //! Tests of how tests run: scripts and features, replacements, the lines of lit's shell and how they are played, tests over planned
-//! replies, reports, and what comes to a desk of a run.
+//! replies, reports, what comes to a desk of a run, and runs of `lit` of which a call fails.
 #![tactic(auto)]
 
 #[cfg(test)]
@@ -18,6 +18,8 @@ mod replacements;
 mod reports;
 #[cfg(test)]
 mod rows;
+#[cfg(test)]
+mod run_faults;
 #[cfg(test)]
 mod runs;
 #[cfg(test)]

@@ -2,7 +2,7 @@
 use crate::demo::{Demo, demo_of};
 use crate::desks::Noted;
 use crate::rows::{add_number, both, three};
-use crate::shown::{add_end, add_left};
+use crate::shown::{add_end, add_left, add_status};
 use lit_desk::{LitDesk, MAX_KEPT};
 use lit_pool::{Desk, run_serial};
 use lit_report::header;
@@ -24,6 +24,9 @@ fn told<D: Desk>(alloc: Global, line: &str, desk: &mut D) -> Result<Bytes, NoMem
     crew.dismiss(hand);
     let mut out = Bytes::new(alloc);
     add_end(&mut out, &end)?;
+    if let Ok(trials) = &end {
+        add_status(alloc, &mut out, trials.as_slice())?;
+    }
     for left in crew.hands() {
         add_left(&mut out, left)?;
     }
@@ -63,15 +66,15 @@ fn is_told_on_desk(alloc: Global, row: &str) -> Result<bool, NoMemory> {
     Ok(told.as_slice() == both(alloc, due, "")?.as_slice())
 }
 
-/// How many bytes the sink takes and the tests may keep; the tests, each with the code of its program; and the trials, the stop,
-/// what the hand did, and the report.
+/// How many bytes the sink takes and the tests may keep; the tests, each with the code of its program; and the trials, the
+/// status or the stop, what the hand did, and the report.
 const ON_DESK: &str =
-    "1000 1000 => 0 a.txt: RUN: true; 1 b.txt: RUN: false; 1 c.txt: RUN: false~XFAIL: *; 0 d.txt: RUN: true~REQUIRES: gpu; 0 e.txt: hello => 0 PASS, 1 FAIL, 2 XFAIL, 3 UNSUPPORTED, 4 UNRESOLVED, begun 01234, asked 11, faults 0~-- Testing: 5 tests --~PASS: demo :: a.txt (1 of 5)~FAIL: demo :: b.txt (2 of 5)~XFAIL: demo :: c.txt (3 of 5)~UNSUPPORTED: demo :: d.txt (4 of 5)~UNRESOLVED: demo :: e.txt (5 of 5)~
-1000 1000 => b a.txt: RUN: true; 0 b.txt: RUN: true => 0 UNRESOLVED, 1 PASS, begun 01, asked 6, faults 1~-- Testing: 2 tests --~UNRESOLVED: demo :: a.txt (1 of 2)~PASS: demo :: b.txt (2 of 2)~
+    "1000 1000 => 0 a.txt: RUN: true; 1 b.txt: RUN: false; 1 c.txt: RUN: false~XFAIL: *; 0 d.txt: RUN: true~REQUIRES: gpu; 0 e.txt: hello => 0 PASS, 1 FAIL, 2 XFAIL, 3 UNSUPPORTED, 4 UNRESOLVED, status 1, begun 01234, asked 11, faults 0~-- Testing: 5 tests --~PASS: demo :: a.txt (1 of 5)~FAIL: demo :: b.txt (2 of 5)~XFAIL: demo :: c.txt (3 of 5)~UNSUPPORTED: demo :: d.txt (4 of 5)~UNRESOLVED: demo :: e.txt (5 of 5)~
+1000 1000 => b a.txt: RUN: true; 0 b.txt: RUN: true => 0 UNRESOLVED, 1 PASS, status 1, begun 01, asked 6, faults 1~-- Testing: 2 tests --~UNRESOLVED: demo :: a.txt (1 of 2)~PASS: demo :: b.txt (2 of 2)~
 40 1000 => 0 a.txt: RUN: true; 1 b.txt: RUN: false; 0 c.txt: a; 0 d.txt: a; 0 e.txt: a => a fault at 0 PASS, begun 0, asked 3, faults 0~-- Testing: 5 tests --~PASS: demo :: a.t
 30 1000 => 0 a.txt: RUN: true => a fault at 0 PASS, begun 0, asked 3, faults 0~-- Testing: 1 tests --~PASS: d
 60 1000 => 0 a.txt: RUN: true; 0 b.txt: RUN: true => 0 PASS, a fault at 1 PASS, begun 01, asked 6, faults 0~-- Testing: 2 tests --~PASS: demo :: a.txt (1 of 2)~PASS: de
-1000 100 => 0 a.txt: RUN: true; 0 b.txt: RUN: true => 0 PASS, 1 PASS, begun 01, asked 6, faults 0~-- Testing: 2 tests --~PASS: demo :: a.txt (1 of 2)~PASS: demo :: b.txt (2 of 2)~
+1000 100 => 0 a.txt: RUN: true; 0 b.txt: RUN: true => 0 PASS, 1 PASS, status 0, begun 01, asked 6, faults 0~-- Testing: 2 tests --~PASS: demo :: a.txt (1 of 2)~PASS: demo :: b.txt (2 of 2)~
 1000 99 => 0 a.txt: RUN: true; 0 b.txt: RUN: true; 0 c.txt: RUN: true => 0 PASS, too much at 1 PASS, begun 01, asked 6, faults 0~-- Testing: 3 tests --~PASS: demo :: a.txt (1 of 3)~
 1000 49 => 0 a.txt: RUN: true => too much at 0 PASS, begun 0, asked 3, faults 0~-- Testing: 1 tests --~";
 
@@ -105,13 +108,13 @@ fn is_told_of_most(alloc: Global, row: &str) -> Result<bool, NoMemory> {
     Ok(told.as_slice() == both(alloc, due, "")?.as_slice())
 }
 
-/// How many trials a desk takes; the tests; and the trials, the stop, what the hand did, and the numbers that were put.
+/// How many trials a desk takes; the tests; and the trials, the status or the stop, what the hand did, and the numbers that were put.
 const ON_NOTES: &str =
-    "9 => 0 a: RUN: p; 1 b: RUN: p; 2 c: RUN: p => 0 PASS, 1 FAIL, 2 FAIL, begun 012, asked 9, faults 0, put 012
+    "9 => 0 a: RUN: p; 1 b: RUN: p; 2 c: RUN: p => 0 PASS, 1 FAIL, 2 FAIL, status 1, begun 012, asked 9, faults 0, put 012
 2 => 0 a: RUN: p; 1 b: RUN: p; 2 c: RUN: p => 0 PASS, 1 FAIL, no memory at 2 FAIL, begun 012, asked 9, faults 0, put 01
 1 => 0 a: RUN: p; 1 b: RUN: p; 2 c: RUN: p => 0 PASS, no memory at 1 FAIL, begun 01, asked 6, faults 0, put 0
 0 => 0 a: RUN: p; 1 b: RUN: p => no memory at 0 PASS, begun 0, asked 3, faults 0, put 
-9 =>  => begun , asked 0, faults 0, put ";
+9 =>  => status 0, begun , asked 0, faults 0, put ";
 
 #[test]
 fn a_desk_that_refuses_ends_the_run_with_the_trial_that_it_was_given(

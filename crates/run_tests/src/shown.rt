@@ -1,7 +1,9 @@
 //! What a run comes to, in few words.
 use crate::rows::{add, add_number};
-use lit_pool::{PoolStop, PoolWhy};
+use lit_pool::{PoolStop, PoolWhy, reported};
+use lit_report::status_of;
 use lit_test::Trial;
+use std::alloc::Global;
 use tt_base::{Bytes, Items, NoMemory};
 use tt_outside::Left;
 
@@ -47,6 +49,14 @@ pub(crate) fn add_end(
             }
         }
     }
+}
+
+/// The status of a run with these trials.
+pub(crate) fn add_status(alloc: Global, out: &mut Bytes, trials: &[Trial]) -> Result<(), NoMemory> {
+    let all = reported(alloc, trials)?;
+    add(out, "status ")?;
+    add_number(out, u64::from(status_of(all.as_slice())))?;
+    out.append(b", ")
 }
 
 /// The tests that a hand began, the number of its requests, and that of its faults.

@@ -1,0 +1,4 @@
+pub mod FaultLemmas
+pub mod PieceLemmas
+pub mod RunLemmas
+pub mod StopLemmas

@@ -1,0 +1,187 @@
+-- A run of tests with its report, by where it stopped.
+-- After LLVM Command Guide, lit, for the report and its status. Own rules: the header goes before a hand is hired, a fault of the
+-- report is told once on the other stream, and the hand is dismissed however the run ends.
+use Rattle.std.specs.Prelude.{◌≡◌, ◌≢◌, ◌⊎◌, ℕ, ◌+◌, ◌<◌, ◌≤◌, true, false, List, [], ◌∷◌, ◌++◌, length, map, Option, None, Some, Result, Ok, Err}
+use Rattle.std.specs.List.{range_with_len, sum_by}
+use Rattle.std.specs.Io.KnownBytes.{Appends}
+use Rattle.tt_outside.specs.Faults.{Rose}
+use Rattle.tt_outside.specs.Gave.{Gave}
+use Rattle.tt_outside.specs.declared.crew.Left.{Left}
+use Rattle.tt_outside.specs.declared.test_data.Test.{Test}
+use Rattle.tt_run.specs.Run.{Answered, Stream, Taken, Told}
+use Rattle.lit_words.specs.declared.asked.Detail.{Detail}
+use Rattle.lit_test.specs.declared.trial.Trial.{Trial}
+use Rattle.lit_report.specs.Ending.{end_of, status_of}
+use Rattle.lit_report.specs.Report.{header, part_of, parts_from, running}
+use Rattle.lit_desk.specs.Desk.{MAX_KEPT}
+use Rattle.lit_pool.specs.Pool.{AreTrials, BeginsSome, any_fault, kept_of, returned, sum_entries, told_of}
+use Rattle.lit_pool.specs.declared.stop.PoolStop.{PoolStop}
+use Rattle.lit_pool.specs.declared.stop.PoolWhy.{PoolWhy}
+use Rattle.lit_pool.specs.declared.stop.PoolWhy.TheVariants.{SinkFault, TooMuch, NoMemory}
+use Rattle.run_report.specs.Message.{cannot_write, out_of_memory, too_much}
+use Rattle.run_report.specs.declared.ending.LitEnd.{LitEnd}
+
+-- ---- what a run is given
+
+-- a crew: the replies that its hands may give, and what dismissed hands left before and after
+pub record CrewRun : Type 1 where
+  pub gave : Gave
+  pub old : List Left
+  pub new : List Left
+
+abbrev pub crew : {C : Type 0} → (C → Gave) → (C → List Left) → C → C → CrewRun
+crew gave hands old new = record { gave = gave old; old = hands old; new = hands new }
+
+-- a crew, the stream of the report and that of messages
+pub record Around : Type 1 where
+  pub hired : CrewRun
+  pub out : Stream
+  pub err : Stream
+
+abbrev pub around : CrewRun → Stream → Stream → Around
+around hired out err = record { hired = hired; out = out; err = err }
+
+-- ---- what it leaves
+
+-- what a hand leaves
+abbrev pub left : {H : Type 0} → (H → List ℕ) → (H → ℕ) → (H → ℕ) → H → Left
+left begun asked faults hand = record { begun = begun hand; asked = asked hand; faults = faults hand }
+
+-- no hand was hired and dismissed
+abbrev pub NoHand : CrewRun → Type 0
+NoHand hired = hired.new ≡ hired.old
+
+-- a stream was left alone
+abbrev pub Rests : Stream → Type 0
+Rests s = (s.new ≡ s.old) × (s.now ≡ s.before)
+
+-- bytes were written, and behind them a proper front of others, up to a fault that was counted, for want of room
+pub record StopsBehind (first second : List ℕ) (s : Stream) : Type 0 where
+  pub front : List ℕ
+  pub rest : List ℕ
+  pub whole : front ++ rest ≡ second
+  pub some : rest ≢ []
+  pub wrote : Appends s.old s.new (first ++ front)
+  pub rose : Rose s.before s.now
+  pub short : s.room < length (first ++ second)
+
+-- a run of which no test was reported
+abbrev pub untried : ℕ → LitEnd
+untried status = record { status = status; trials = []; other = None }
+
+-- how many bytes trials keep
+abbrev pub kept_by : List Trial → ℕ
+kept_by trials = sum_by (λ kept. kept.kept) (map kept_of trials)
+
+-- ---- a run that stops before its first test
+
+-- how a header failed, by the status and the streams: memory was wanting for it, or it was written up to a fault
+abbrev pub HeaderFails : List ℕ → Stream → Stream → ℕ → Type 0
+HeaderFails head out err status =
+    ((status ≡ 4) × Rests out × Told out_of_memory err)
+    ⊎ ((status ≡ 3) × StopsBehind [] head out × Told cannot_write err)
+
+-- there was no header
+abbrev pub LacksHeader : List ℕ → Around → LitEnd → Type 0
+LacksHeader head a end = (end ≡ untried end.status) × HeaderFails head a.out a.err end.status × NoHand a.hired
+
+-- it was written, and memory was wanting for a hand
+abbrev pub LacksHand : List ℕ → Around → LitEnd → Type 0
+LacksHand head a end = (end ≡ untried 4) × Taken head a.out × Told out_of_memory a.err × NoHand a.hired
+
+-- ---- a run that stops in its midst
+
+-- what is written of it behind some bytes: the parts of the trials that were put, and where the stream failed a front of the next
+abbrev pub StopWrites : List ℕ → Detail → ℕ → List Trial → Option Trial → PoolWhy → Stream → Type 0
+StopWrites before detail tests trials other SinkFault out =
+    (next : Trial) × (other ≡ Some next)
+    × StopsBehind (before ++ parts_from detail tests 0 (map told_of trials)) (part_of detail tests (length trials) (told_of next)) out
+StopWrites before detail tests trials other TooMuch out =
+    (next : Trial) × (other ≡ Some next) × (MAX_KEPT < kept_by trials + (kept_of next).kept)
+    × Taken (before ++ parts_from detail tests 0 (map told_of trials)) out
+StopWrites before detail tests trials other NoMemory out =
+    Taken (before ++ parts_from detail tests 0 (map told_of trials)) out
+
+-- tests were run up to a stop: the trials are those of the first ones, in order, and the other one is that of the next
+pub record StopsTests (before : List ℕ) (detail : Detail) (tests : List Test) (gave : Gave) (out : Stream) (stop : PoolStop)
+    : Type 0 where
+  pub done : List Test
+  pub rest : List Test
+  pub all : tests ≡ done ++ rest
+  pub trials : AreTrials gave 0 done (returned stop)
+  pub within : kept_by stop.trials ≤ MAX_KEPT
+  pub wrote : StopWrites before detail (length tests) stop.trials stop.other stop.why out
+
+-- what is told of it, and its status
+abbrev pub StopTells : PoolWhy → ℕ → Stream → Type 0
+StopTells SinkFault status err = (status ≡ 3) × Told cannot_write err
+StopTells TooMuch status err = Answered too_much 2 status err
+StopTells NoMemory status err = (status ≡ 4) × Told out_of_memory err
+
+-- the hand was dismissed: it began the first tests and no others, and counted a fault where a reply is one
+pub record LeftAtStop (tests : ℕ) (stop : PoolStop) (left : Left) : Type 0 where
+  pub begun : BeginsSome tests [] left.begun stop
+  pub broken : any_fault (returned stop) ≡ true → Rose 0 left.faults
+
+-- a run stopped in its midst
+pub record StopsRun (detail : Detail) (tests : List Test) (a : Around) (end : LitEnd) : Type 0 where
+  pub stop : PoolStop
+  pub same : (end.trials ≡ stop.trials) × (end.other ≡ stop.other)
+  pub stopped : StopsTests (header detail (length tests)) detail tests a.hired.gave a.out stop
+  pub told : StopTells stop.why end.status a.err
+  pub left : Left
+  pub hand : LeftAtStop (length tests) stop left
+  pub hands : a.hired.new ≡ a.hired.old ++ left ∷ []
+
+-- ---- a run of which every test is reported
+
+-- the end of a report was written behind the rest, and the status is its own; or it was written up to a fault; or memory was
+-- wanting for it
+abbrev pub EndWrites : List ℕ → List ℕ → ℕ → ℕ → Stream → Stream → Type 0
+EndWrites before text own status out err =
+    ((status ≡ own) × Taken (before ++ text) out × Rests err)
+    ⊎ ((status ≡ 3) × StopsBehind before text out × Told cannot_write err)
+    ⊎ ((status ≡ 4) × Taken before out × Told out_of_memory err)
+
+-- the same, of a report whose trials were put: what is written of its end
+abbrev pub ReportEnds : Detail → ℕ → List Trial → ℕ → Stream → Stream → Type 0
+ReportEnds detail tests trials status out err =
+    EndWrites [] (end_of detail tests (map told_of trials)) (status_of (map told_of trials)) status out err
+
+-- the parts of trials were written, which keep no more than they may; so much room is left
+abbrev pub PartsWrite : Detail → ℕ → Stream → ℕ → List Trial → Type 0
+PartsWrite detail tests out room trials =
+    Taken (parts_from detail tests 0 (map told_of trials)) out × (kept_by trials ≤ MAX_KEPT)
+    × (out.room ≤ room + length (parts_from detail tests 0 (map told_of trials)))
+
+-- the hand was dismissed: it began each test once, was asked what the trials' entries say, and counted a fault where a reply is
+-- one, and else none
+pub record LeftAtEnd (tests : ℕ) (trials : List Trial) (left : Left) : Type 0 where
+  pub begun : left.begun ≡ range_with_len 0 tests
+  pub asked : left.asked ≡ sum_entries trials
+  pub broken : any_fault trials ≡ true → Rose 0 left.faults
+  pub calm : any_fault trials ≡ false → left.faults ≡ 0
+
+-- what the hand left, however the tests ended
+abbrev pub HandLeft : ℕ → Result (List Trial) PoolStop → Left → Type 0
+HandLeft tests (Ok trials) left = LeftAtEnd tests trials left
+HandLeft tests (Err stop) left = LeftAtStop tests stop left
+
+-- every test was run: there is a trial of each, in order, and the report is of these
+pub record RunsAll (detail : Detail) (tests : List Test) (a : Around) (end : LitEnd) : Type 0 where
+  pub trials : AreTrials a.hired.gave 0 tests end.trials
+  pub other : end.other ≡ None
+  pub within : kept_by end.trials ≤ MAX_KEPT
+  pub wrote : EndWrites (running detail (length tests) (map told_of end.trials))
+      (end_of detail (length tests) (map told_of end.trials)) (status_of (map told_of end.trials)) end.status a.out a.err
+  pub left : Left
+  pub hand : LeftAtEnd (length tests) end.trials left
+  pub hands : a.hired.new ≡ a.hired.old ++ left ∷ []
+
+-- ---- a run
+
+-- how tests were run and reported
+abbrev pub RunEnds : Detail → List Test → Around → LitEnd → Type 0
+RunEnds detail tests a end =
+    LacksHeader (header detail (length tests)) a end ⊎ LacksHand (header detail (length tests)) a end
+    ⊎ StopsRun detail tests a end ⊎ RunsAll detail tests a end

@@ -1,0 +1,13 @@
+//! A run of tests with its report: the header, each test by a hand that is hired for the run, and the end. It stops where the
+//! report can't be written, the tests keep too many bytes, or memory is wanting. After LLVM Command Guide, lit. Which tests are run
+//! is decided above.
+#![tactic(auto)]
+
+mod ending;
+mod message;
+mod parts;
+mod running;
+
+pub use ending::LitEnd;
+pub use message::{tell_fault, tell_memory};
+pub use running::run_and_report;
