@@ -62,35 +62,32 @@ fn reply_of(alloc: Global, word: &str) -> Reply {
     }
 }
 
-/// A test's file, which is read behind no entries, and its program, which is run behind two.
-fn planned(
-    alloc: Global,
-    test: u64,
-    text: &str,
-    word: &str,
-) -> Result<(Planned, Planned), NoMemory> {
-    let file = Planned {
+/// A test's file, which is read behind no entries.
+fn file_of(alloc: Global, test: u64, text: &str) -> Result<Planned, NoMemory> {
+    let bytes = both(alloc, text, "")?;
+    Ok(Planned {
         test,
         earlier: 0,
-        reply: Reply::Bytes(both(alloc, text, "")?),
-    };
-    let program = Planned {
+        reply: Reply::Bytes(bytes),
+    })
+}
+
+/// A test's program, which is run behind two entries.
+fn program_of(alloc: Global, test: u64, word: &str) -> Planned {
+    Planned {
         test,
         earlier: 2,
         reply: reply_of(alloc, word),
-    };
-    Ok((file, program))
+    }
 }
 
 /// Adds the test of a field, as `0 a.txt: RUN: true`, whose program ends with code 0.
 fn add_test(alloc: Global, demo: &mut Demo, number: u64, field: &str) -> Result<(), NoMemory> {
     let (word, rest) = field.split_once(" ").unwrap_or(("", field));
     let (file, text) = rest.split_once(": ").unwrap_or((rest, ""));
-    let test = test_of(alloc, file)?;
-    demo.tests.push(test)?;
-    let (file, program) = planned(alloc, number, text, word)?;
-    demo.plan.push(file)?;
-    demo.plan.push(program)
+    demo.tests.push(test_of(alloc, file)?)?;
+    demo.plan.push(file_of(alloc, number, text)?)?;
+    demo.plan.push(program_of(alloc, number, word))
 }
 
 /// The tests of a line, with semicolons between them.

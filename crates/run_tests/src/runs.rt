@@ -4,33 +4,65 @@ use crate::desks::Noted;
 use crate::rows::{add_number, both, three};
 use crate::shown::{add_end, add_left, add_status};
 use lit_desk::{LitDesk, MAX_KEPT};
-use lit_pool::{Desk, run_serial};
+use lit_pool::{Desk, PoolStop, run_serial};
 use lit_report::header;
+use lit_test::Trial;
 use lit_words::Detail;
 use std::alloc::Global;
 use tt_base::{Bytes, Items, NoMemory};
-use tt_outside::{Crew, MemCrew, MemSink, write_all};
+use tt_outside::{Crew, MemCrew, MemSink, Test, write_all};
 
-/// Runs the tests of a line, and tells what came of it and what the hand did.
-fn told<D: Desk>(alloc: Global, line: &str, desk: &mut D) -> Result<Bytes, NoMemory> {
-    let Demo { tests, plan } = demo_of(alloc, line)?;
+/// The trials that were put, and the status of a run that wasn't stopped.
+fn end_text(alloc: Global, end: &Result<Items<Trial>, PoolStop>) -> Result<Bytes, NoMemory> {
+    let mut out = Bytes::new(alloc);
+    add_end(&mut out, end)?;
+    if let Ok(trials) = end {
+        add_status(alloc, &mut out, trials.as_slice())?;
+    }
+    Ok(out)
+}
+
+/// Runs tests by a hand of a crew, and tells what came of it.
+fn ran<D: Desk>(
+    alloc: Global,
+    tests: &Items<Test>,
+    crew: &mut MemCrew,
+    desk: &mut D,
+) -> Result<Bytes, NoMemory> {
     let room = tests.len() as u64;
     if room > 99 {
         return Err(NoMemory);
     }
-    let mut crew = MemCrew::new(alloc, plan);
     let mut hand = crew.hire(alloc, room)?;
-    let end = run_serial(alloc, &tests, &mut hand, desk);
+    let end = run_serial(alloc, tests, &mut hand, desk);
     crew.dismiss(hand);
-    let mut out = Bytes::new(alloc);
-    add_end(&mut out, &end)?;
-    if let Ok(trials) = &end {
-        add_status(alloc, &mut out, trials.as_slice())?;
-    }
+    let text = end_text(alloc, &end);
+    drop(end);
+    text
+}
+
+/// The same, and what the hand did.
+fn told_by<D: Desk>(
+    alloc: Global,
+    tests: &Items<Test>,
+    crew: &mut MemCrew,
+    desk: &mut D,
+) -> Result<Bytes, NoMemory> {
+    let mut out = ran(alloc, tests, crew, desk)?;
     for left in crew.hands() {
         add_left(&mut out, left)?;
     }
     Ok(out)
+}
+
+/// The same of the tests of a line.
+fn told<D: Desk>(alloc: Global, line: &str, desk: &mut D) -> Result<Bytes, NoMemory> {
+    let Demo { tests, plan } = demo_of(alloc, line)?;
+    let mut crew = MemCrew::new(alloc, plan);
+    let told = told_by(alloc, &tests, &mut crew, desk);
+    drop(crew);
+    drop(tests);
+    told
 }
 
 /// The same on lit's desk behind the header, whose sink takes so many bytes and whose tests may keep so many; and what the sink
