@@ -32,7 +32,8 @@ loop-found-smaller g c =
     let s = c.split_at.result.1.now in
     let t = view c.args.ere.now in
     let lies = subst (MayLie s t) c.in-Some.is c.loop-found.invariant.lies in
-    fewer (length s) c.in-Some.span c.loop-found.found c.behind-found.result c.in-Some.is lies.1
+    fewer (length s) c.in-Some.span c.loop-found.found c.behind-found.result c.in-Some.is
+    (omega (arith, lies.1.0, lies.1.1))
     (c.behind-found.ensures.behind t c.loop-found.invariant.built)
 
 pub loop-found-preserved : goal.loop-found-preserved
