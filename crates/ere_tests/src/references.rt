@@ -59,9 +59,9 @@ fn tries_end_at_their_limit(rt: HostRuntime) -> Result<(), AllocError> {
 
 #[test]
 fn listings_end_at_their_limit(rt: HostRuntime) -> Result<(), AllocError> {
-    let below = told_among(rt.alloc(), r"(a*)*\1b", 10)?;
-    assert!(rt; below.as_str() == "0-11 8-9", "{below}");
-    let above = told_among(rt.alloc(), r"(a*)*\1b", 40)?;
+    let below = told_among(rt.alloc(), r"((a*))\2b", 3_160)?;
+    assert!(rt; below.as_str() == "0-3161 0-1580 0-1580", "{below}");
+    let above = told_among(rt.alloc(), r"((a*))\2b", 3_162)?;
     assert!(rt; above.as_str() == "no memory", "{above}");
     Ok(())
 }
