@@ -96,6 +96,7 @@ fn over_parts(
         }
         return Ok(Some(Vec::from_slice(tries.alloc, caps)?));
     };
+    tries.take(part.to - part.from + 1)?;
     let ends = ends_of(tries.alloc, first, text, part, caps)?;
     for back in 0..part.to - part.from + 1 {
         let to = part.to - back;
@@ -132,7 +133,7 @@ fn over_first(
     if !ends.may_be(part.to) {
         return Ok(None);
     }
-    tries.take()?;
+    tries.take(1)?;
     match ends {
         Ends::Held(_) => Ok(Some(held_behind(tries.alloc, ere, text, part, caps)?)),
         Ends::Only(_) | Ends::Any => over(ere, text, part, caps, tries),

@@ -1,14 +1,14 @@
 //! How often something may be tried.
 use std::alloc::{AllocError, Global};
 
-/// How many ends of parts one search may try. One that wants more is given up as for want of memory.
-pub const MAX_TRIES: u32 = 5_000_000;
+/// How many ends of parts one search may look at. One that wants more is given up as for want of memory.
+pub const MAX_TRIES: usize = 50_000_000;
 
-/// The tries that are left to a search.
+/// How many ends a search may still look at.
 #[derive(Drop, Debug)]
 pub struct Tries {
     pub(crate) alloc: Global,
-    left: u32,
+    left: usize,
 }
 
 impl Tries {
@@ -25,12 +25,12 @@ impl Tries {
         self.alloc
     }
 
-    /// One try.
-    pub(crate) fn take(&mut self) -> Result<(), AllocError> {
-        if self.left == 0 {
+    /// So many ends are looked at.
+    pub(crate) fn take(&mut self, count: usize) -> Result<(), AllocError> {
+        if self.left < count {
             return Err(AllocError);
         }
-        self.left -= 1;
+        self.left -= count;
         Ok(())
     }
 }

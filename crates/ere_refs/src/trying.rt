@@ -43,7 +43,7 @@ pub fn try_from(
     for back in 0..span.to - span.from + 1 {
         let to = span.to - back;
         if ends.has(to) {
-            tries.take()?;
+            tries.take(1)?;
             let part = Part {
                 start,
                 from: span.from,

@@ -264,7 +264,7 @@ over_parts-loop-back-preserved t c =
       ends = c.loop-back.invariant.ends;
       tried = tried_more s first others part.start part.from part.to count old back
           (omega (arith, c.requires.order, c.loop-back-test.true)) c.loop-back.invariant.tried
-          (elim c.match-branch-4.branch [
+          (elim c.match-branch-5.branch [
             | over_parts-in-Some-2+in_ok-found+in_default-3 w ↦
                 let held = w.in-Some-2.held in
                 let long : length held.items ≡ count =
