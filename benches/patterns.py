@@ -104,6 +104,8 @@ def cases(mib):
         ("4,000 text variables, each defined and used once", 0, lambda c, t: write_variables(c, t, 4000)),
         ("2,000 plain NOTs on 10 MiB", 0,
          lambda c, t: write_nots(c, t, [f"call of function_{k};" for k in range(2000)], 10 * MIB, "\tcallq\thelper@PLT")),
+        ("20 NOTs with `{{ }}` whose plain text is nowhere in 10 MiB", 0,
+         lambda c, t: write_nots(c, t, [f"{{{{[a-z]+}}}} needle{k} {{{{[0-9]+}}}}" for k in range(20)], 10 * MIB, "\tcallq\thelper@PLT")),
         ("5 NOTs with `{{ }}` whose plain text is on every line of 10 MiB", 0,
          lambda c, t: write_nots(c, t, [f"callq {{{{[0-9]+}}}}{k}" for k in range(5)], 10 * MIB, "\tcallq\thelper@PLT")),
     ]

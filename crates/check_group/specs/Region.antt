@@ -1,10 +1,15 @@
 -- Regions of NOTs.
 -- After LLVM Command Guide, FileCheck, CHECK-NOT and --implicit-check-not. Own rule: all faults of a region are told.
-use Rattle.std.specs.Prelude.{ℕ, Bool, List, [], ◌∷◌, IfSome, Option, Some, None}
+use Rattle.std.specs.Prelude.{◌≡◌, ℕ, ◌+◌, Bool, false, ◌⊎◌, List, [], ◌∷◌, length, IfSome, Option, Some, None}
+use Rattle.pattern_parse.specs.Item.{Item, plain, regex, define, recall, number}
+use Rattle.pattern_parse.specs.PieceView.{items_view}
+use Rattle.pattern_parse.specs.declared.pattern.Frame.TheVariants.{Open}
+use Rattle.pattern_parse.specs.declared.pattern.Pattern.{Pattern}
 use Rattle.pattern_scan.specs.Seek.{sought}
 use Rattle.pattern_scan.specs.declared.sought.Sought.{Sought}
 use Rattle.pattern_scan.specs.declared.sought.Sought.TheVariants.{Found, Absent, UndefinedNames, Range, ZeroDivisor, Unreadable}
 use Rattle.text_windows.specs.Windows.{Covers}
+use Rattle.tt_base.specs.Occurrence.{StandsNowhere}
 use Rattle.check_group.specs.Changes.{Variables}
 use Rattle.check_group.specs.declared.directive.Check.{Check}
 use Rattle.check_group.specs.declared.fault.Fault.{Fault}
@@ -33,3 +38,29 @@ region text from vars (check ∷ nots) =
 -- windows that are known are those of the text
 abbrev pub AreOf : List ℕ → Option (List Bool) → Type 0
 AreOf text known = IfSome known (λ windows. Covers windows text)
+
+-- pieces that are the same whatever variables hold: none of them uses one
+abbrev pub AreFixed : List Item → Type 0
+AreFixed [] = Unit {0}
+AreFixed (plain bytes ∷ items) = AreFixed items
+AreFixed (regex t ∷ items) = AreFixed items
+AreFixed (define name t ∷ items) = AreFixed items
+AreFixed (recall name ∷ items) = ⊥
+AreFixed (number num format ∷ items) = ⊥
+
+-- a pattern of such pieces, with nothing around them, and with letters as they stand
+pub record IsFixed (pattern : Pattern) : Type 0 where
+  pub fold : pattern.fold ≡ false
+  pub frame : pattern.frame ≡ Open
+  pub pieces : AreFixed (items_view pattern.pieces)
+
+-- one of the pieces is this plain text
+abbrev pub HasPlain : List Item → List ℕ → Type 0
+HasPlain [] bytes = ⊥
+HasPlain (one ∷ items) bytes = (one ≡ plain bytes) ⊎ HasPlain items bytes
+
+-- one of the pieces is a plain text that stands in no text of these windows
+pub record LackPlain (windows : List Bool) (items : List Item) : Type 0 where
+  pub bytes : List ℕ
+  pub has : HasPlain items bytes
+  pub lack : (text : List ℕ) → Covers windows text → StandsNowhere text bytes (length text) 0 (length text + 1)

@@ -1,15 +1,16 @@
 //! Regions of NOTs.
 ghost use Rattle.std.specs.Prelude.{◌≡◌, ◌≤◌, ◌++◌, ℕ, true, All, IfOk, List, OnOk, drop, length};
 ghost use Rattle.check_group.specs.Changes.{IsReady, Variables};
-ghost use Rattle.check_group.specs.Region.{AreOf, excluded_by, region};
+ghost use Rattle.check_group.specs.Region.{AreFixed, AreOf, IsFixed, LackPlain, excluded_by, region};
+ghost use Rattle.pattern_parse.specs.PieceView.{items_view};
 ghost use Rattle.pattern_scan.specs.Seek.{sought};
 ghost use Rattle.pattern_scan.specs.declared.sought.Sought.TheVariants.{Absent};
 
 use crate::directive::Check;
 use crate::fault::{Fault, FaultKind};
 use ere_auto::Steps;
-use pattern_parse::Pattern;
-use pattern_scan::{Sought, plain_text, seek};
+use pattern_parse::{Frame, Pattern, Piece};
+use pattern_scan::{Sought, seek};
 use pattern_vars::Vars;
 use std::alloc::Global;
 use std::sync::ledger::Ledger;
@@ -45,15 +46,65 @@ fn windows_of(alloc: Global, nots: &[Check], slice: &[u8]) -> Result<Option<Wind
     Ok(Some(Windows::of(alloc, slice)?))
 }
 
+/// Whether pieces are the same whatever variables hold.
+fn are_fixed(pieces: &[Piece]) -> bool
+    ensures { result ≡ true → AreFixed (items_view pieces.now) }
+{
+    for piece in pieces {
+        match piece {
+            Piece::Plain(_) => {}
+            Piece::Regex(_) => {}
+            Piece::Define { .. } => {}
+            Piece::Recall { .. } => return false,
+            Piece::Num { .. } => return false,
+        }
+    }
+    true
+}
+
+/// Whether a pattern is the same whatever variables hold, and its plain pieces are sought as they stand.
+fn is_fixed(pattern: &Pattern) -> bool
+    ensures { result ≡ true → IsFixed pattern.now }
+{
+    if pattern.fold {
+        return false;
+    }
+    match pattern.frame {
+        Frame::Open => are_fixed(pattern.pieces.as_slice()),
+        Frame::Spaced | Frame::Tight => false,
+    }
+}
+
+/// Whether windows tell that a plain piece doesn't stand in their text.
+fn lack_a_piece(windows: &Windows, pieces: &[Piece]) -> bool
+    ensures { result ≡ true → LackPlain windows.now (items_view pieces.now) }
+{
+    for piece in pieces {
+        if let Piece::Plain(run) = piece {
+            if windows.lack(run.as_slice()) {
+                return true;
+            }
+        }
+    }
+    false
+}
+
+/// Whether windows tell that no match of a pattern is in their text, since a plain piece of it isn't.
+fn lack_pattern(windows: &Windows, pattern: &Pattern) -> bool
+    ensures fixed { result ≡ true → IsFixed pattern.now }
+    ensures lack { result ≡ true → LackPlain windows.now (items_view pattern.now.pieces) }
+{
+    is_fixed(pattern) && lack_a_piece(windows, pattern.pieces.as_slice())
+}
+
 /// Whether the windows of the slice that begins at an offset tell that a pattern isn't there.
-#[tactic(auto, using(crate::proofs::RegionLemmas::lacks))]
 fn is_told_absent(known: &Option<Windows>, pattern: &Pattern) -> bool
     ensures { result ≡ true → (text : List ℕ) (from : ℕ) → AreOf (drop from text) known.now →
         (vars : Variables) (line : ℕ) → sought pattern.now vars text from line ≡ Absent }
 {
-    match (known, plain_text(pattern)) {
-        (Some(windows), Some(needle)) => windows.lack(needle),
-        _ => false,
+    match known {
+        Some(windows) => lack_pattern(windows, pattern),
+        None => false,
     }
 }
 

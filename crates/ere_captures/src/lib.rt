@@ -10,4 +10,4 @@ mod rest;
 mod walk;
 
 pub use rest::spans;
-pub use walk::captures;
+pub use walk::{captures, set_captures};

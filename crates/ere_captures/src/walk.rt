@@ -173,6 +173,27 @@ fn walk(
     }
 }
 
+/// Sets what the groups of the expression hold in a span of a slice: by the most preferred of its derivations there, with
+/// offsets of a text in which the slice begins at `start`. Other groups hold what they did.
+pub fn set_captures(
+    alloc: Global,
+    ere: &Ere,
+    slice: &[u8],
+    start: usize,
+    span: Cap,
+    caps: &mut [Option<Cap>],
+) -> Result<(), AllocError>
+    requires no_refs { has_refs (view ere.now) ≡ false }
+    requires span { Spans slice.now (view ere.now) span.from span.to }
+    requires room { greatest_group (view ere.now) ≤ length caps.old }
+    requires fits { start + length slice.now < 2 ^ 64 }
+    ensures { OnOk result (SetsBest slice.now (view ere.now) start span.from span.to
+        (length caps.old) caps.old caps.new) }
+{
+    let Cap { from, to } = span;
+    walk(alloc, ere, slice, Part { start, from, to }, caps)
+}
+
 /// The captures of the expression inside [from, to) of a slice, which it spans: those of the most preferred of its
 /// derivations there, with offsets of a text in which the slice begins at `start`.
 pub fn captures(

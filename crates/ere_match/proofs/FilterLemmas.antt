@@ -1,7 +1,7 @@
 -- Where a hit may lie, as the span of an expression without references tells that spans whatever this one spans.
 -- Where that one spans nothing from a place on, this one has no hit there; each try leaves fewer places.
 -- `may_lie` is the hard one: the hit begins at the span's start or behind it.
-use Rattle.std.proofs.Common.{◌≡◌, ℕ, ◌+◌, ◌-◌, ◌≤◌, ◌<◌, Option, Some, None, IfSome, List, length, sym, subst, inl, inr, arith}
+use Rattle.std.proofs.Common.{◌≡◌, ℕ, ◌+◌, ◌-◌, ◌≤◌, ◌<◌, Option, Some, None, IfSome, List, drop, length, sym, subst, inl, inr, arith}
 use Rattle.std.proofs.lemmas.Bool.{cases_lt}
 use Rattle.std.specs.FinMap.{empty}
 use Rattle.ere_auto.specs.Span.{IsSpan}
@@ -9,10 +9,13 @@ use Rattle.ere_match.specs.Begins.{NoneBefore}
 use Rattle.ere_match.specs.Filter.{MayLie}
 use Rattle.ere_match.specs.Shown.{ShownFor}
 use Rattle.ere_match.proofs.ShownLemmas.{spans_within}
+use Rattle.ere_refs.specs.Over.{IsBestTo, TellsBest}
+use Rattle.ere_refs.specs.declared.trying.Found.{Found}
 use Rattle.ere_relaxed.specs.Relaxed.{AreBytes, SpansAll}
 use Rattle.ere_slow.specs.Slow.{HasNoHitBefore}
 use Rattle.ere_tree.proofs.DerivationLemmas.{is_part}
-use Rattle.ere_tree.specs.Hit.{HasNoHit}
+use Rattle.ere_tree.specs.Derivation.{Derives}
+use Rattle.ere_tree.specs.Hit.{HasNoHit, IsHit, TellsHit}
 use Rattle.ere_tree.specs.Tree.{Tree}
 use Rattle.ere_tree.specs.declared.hit.Cap.{Cap}
 
@@ -37,7 +40,7 @@ may_lie s t u place (Some cap) bytes spans before span =
         | inl early ↦ before h k v e early other
         | inr late ↦ span.0.leftmost h k late low (spans s v h k e bytes other)
       ],
-      omega (arith, lies.0, lies.1),
+      lies,
       λ k v e other. span.0.longest k (spans s v cap.from k e bytes other),
     )
 
@@ -62,3 +65,36 @@ pub starts_behind : (s : List ℕ) (u : Tree) (place : ℕ) (found : Option Cap)
     → IfSome found (λ span. place < span.from)
 starts_behind s u place None span = tt
 starts_behind s u place (Some cap) span = omega (arith, span.0.begins)
+
+-- A TRY FROM ONE PLACE
+
+pub no_hit_at : (s : List ℕ) (t : Tree) (start : ℕ) (span : Cap) → MayLie s t (Some span)
+    → TellsBest s t start span.from span.to None → HasNoHitBefore s t (span.from + 1)
+no_hit_at s t start span lies none h k v d low shows = elim (cases_lt h span.from) [
+  | inl before ↦ lies.0 h k v d before shows
+  | inr past ↦
+      let here = subst (λ n. Derives s t v n k empty d) (let same : h ≡ span.from = omega (arith, low, past) in same) shows in
+      none k v d (lies.2 k v d here) here
+]
+
+pub hit_is : (text : List ℕ) (t : Tree) (from : ℕ) (span : Cap) (found : Found) → MayLie (drop from text) t (Some span)
+    → IsBestTo (drop from text) t from span.from span.to found
+    → TellsHit text t from (record { from = from + span.from; to = from + found.to; groups = found.groups })
+hit_is text t from span found lies best =
+    let s = drop from text in
+    let low : span.from ≡ from + span.from - from = omega arith in
+    let high : found.to ≡ from + found.to - from = omega arith in
+    record {
+      captures = best.captures;
+      behind = omega arith;
+      ordered = omega (arith, (is_part s t best.way span.from found.to empty best.captures best.shows).0);
+      is_hit = subst (λ m. IsHit s t m (from + found.to - from) best.captures) low
+          (subst (λ n. IsHit s t span.from n best.captures) high
+          (record {
+            way = best.way;
+            shows = best.shows;
+            leftmost = lies.0;
+            preferred = λ k v d shows. best.preferred k v d (lies.2 k v d shows) shows;
+          }));
+      groups = best.are;
+    }

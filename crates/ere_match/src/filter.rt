@@ -1,21 +1,27 @@
 //! Expressions with references, behind an automaton that tells where a hit may lie.
-ghost use Rattle.std.specs.Prelude.{◌≡◌, ℕ, ◌+◌, ◌-◌, ◌<◌, ◌≤◌, length, drop, IfOk, IfSome};
+ghost use Rattle.std.specs.Prelude.{◌≡◌, ℕ, ◌+◌, ◌-◌, ◌<◌, ◌≤◌, false, Some, length, drop, IfOk, IfSome, MatchOption};
 ghost use Rattle.ere_auto.specs.State.{state_of};
 ghost use Rattle.ere_match.specs.Filter.{IsFilter, MayLie};
 ghost use Rattle.ere_slow.specs.Slow.{HasNoHitBefore};
-ghost use Rattle.ere_tree.specs.Hit.{FindsHit};
+ghost use Rattle.ere_relaxed.specs.Relaxed.{SpansAll};
+ghost use Rattle.ere_tree.specs.Hit.{FindsHit, TellsHit};
+ghost use Rattle.ere_tree.specs.Shape.{has_refs};
 ghost use Rattle.ere_tree.specs.Tree.{Tree};
 ghost use Rattle.ere_tree.specs.View.{view};
 
 use crate::literal::earliest;
 use crate::span::find_span;
 use ere_auto::{Auto, Steps};
+use ere_refs::{Tries, settled, try_from};
 use ere_relaxed::relaxed;
 use ere_slow::slow_hit_from;
 use ere_tree::{Cap, Ere, Hit};
-use std::alloc::Global;
+use std::alloc::{AllocError, Global};
 use std::sync::ledger::Ledger;
 use tt_base::NoMemory;
+
+/// How large an expression is at most of which parts are tried, as they are by calls inside calls.
+const MAX_TRIED: u64 = 5_000;
 
 /// The automaton of an expression in which references gave way to the expressions of their groups.
 #[derive(Drop)]
@@ -24,13 +30,12 @@ struct Filter {
 }
 
 impl Filter {
-    fn new(alloc: Global, ere: &Ere) -> Result<Filter, NoMemory>
-        ensures { IfOk result (λ made. IsFilter (state_of made.automaton) (view ere.now)) }
+    /// The filter by an expression without references that spans whatever the other one spans.
+    fn new(alloc: Global, free: &Ere) -> Result<Filter, NoMemory>
+        requires { has_refs (view free.now) ≡ false }
+        ensures { IfOk result (λ made. (t : Tree) → SpansAll t (view free.now) → IsFilter (state_of made.automaton) t) }
     {
-        let Ok(free) = relaxed(alloc, ere) else {
-            return Err(NoMemory);
-        };
-        match Auto::build(alloc, &free) {
+        match Auto::build(alloc, free) {
             Ok(automaton) => Ok(Filter { automaton }),
             Err(NoMemory) => Err(NoMemory),
         }
@@ -64,8 +69,39 @@ impl Filter {
     }
 }
 
-/// The hit of an expression in the slice from `from` to the text's end, with offsets of the text. Derivations are listed
-/// from those places alone at which the filter lets one begin.
+/// The hit that begins where a span does, in the slice from `from` to the text's end, with offsets of the text. Where spans
+/// of parts don't tell what later parts refer to, or there are very many parts, derivations are listed.
+fn hit_at(
+    ere: &Ere,
+    free: &Ere,
+    text: &[u8],
+    from: usize,
+    span: Cap,
+    tries: &mut Tries,
+) -> Result<Option<Hit>, AllocError>
+    requires no_refs { has_refs (view free.now) ≡ false }
+    requires spans { SpansAll (view ere.now) (view free.now) }
+    requires inside { from ≤ length text.now }
+    requires lies { MayLie (drop from text.now) (view ere.now) (Some span) }
+    ensures { IfOk result (λ found. MatchOption found (HasNoHitBefore (drop from text.now) (view ere.now) (span.from + 1))
+        (TellsHit text.now (view ere.now) from)) }
+{
+    if ere.size() > MAX_TRIED || !settled(ere, ere.groups()) {
+        return slow_hit_from(tries.memory(), ere, text, from, span.from);
+    }
+    let slice = text.split_at(from).1;
+    match try_from(ere, free, slice, from, span, tries)? {
+        None => Ok(None),
+        Some(found) => Ok(Some(Hit {
+            from: from + span.from,
+            to: from + found.to,
+            groups: found.groups,
+        })),
+    }
+}
+
+/// The hit of an expression in the slice from `from` to the text's end, with offsets of the text. It is sought from those
+/// places alone at which the filter lets one begin.
 pub(crate) fn find_filtered<L: Ledger>(
     alloc: Global,
     ere: &Ere,
@@ -83,10 +119,14 @@ pub(crate) fn find_filtered<L: Ledger>(
     if begin > slice.len() {
         return Ok(None);
     }
-    let mut filter = Filter::new(alloc, ere)?;
+    let Ok(free) = relaxed(alloc, ere) else {
+        return Err(NoMemory);
+    };
+    let mut filter = Filter::new(alloc, &free)?;
+    let mut tries = Tries::new(alloc);
     let mut found = filter.first(slice, begin, steps);
     while let Some(span) = found {
-        match slow_hit_from(alloc, ere, text, from, span.from) {
+        match hit_at(ere, &free, text, from, span, &mut tries) {
             Ok(None) => found = filter.behind(slice, span.from),
             Ok(Some(hit)) => return Ok(Some(hit)),
             Err(_) => return Err(NoMemory),

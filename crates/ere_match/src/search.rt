@@ -98,8 +98,8 @@ impl Search {
     }
 }
 
-/// The hit of the expression in the slice from `from` to the text's end, with offsets of the text. Of one with references
-/// derivations are listed where a filter lets them begin. Whoever looks for one expression in many slices keeps a `Search`.
+/// The hit of the expression in the slice from `from` to the text's end, with offsets of the text. One with references
+/// is tried where a filter lets it begin. Whoever looks for one expression in many slices keeps a `Search`.
 pub fn find<L: Ledger>(
     alloc: Global,
     ere: &Ere,

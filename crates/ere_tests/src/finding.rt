@@ -43,7 +43,7 @@ pub(crate) fn found(
 }
 
 /// What is found in the text from a place on, in words.
-fn told(alloc: Global, pattern: &str, text: &[u8], from: usize) -> Result<String, AllocError> {
+pub(crate) fn told(alloc: Global, pattern: &str, text: &[u8], from: usize) -> Result<String, AllocError> {
     let Ok(ere) = parse(alloc, pattern.as_bytes(), false) else {
         return String::from_str(alloc, "refused");
     };
@@ -114,25 +114,6 @@ fn is_nowhere(alloc: Global, row: &str, count: usize) -> Result<bool, AllocError
 fn what_the_filter_shuts_out_is_told_at_once(rt: HostRuntime) -> Result<(), AllocError> {
     assert!(rt; is_nowhere(rt.alloc(), r"(x)(aa?)+\1b => x => b", 42)?);
     assert!(rt; is_nowhere(rt.alloc(), r"(a+)\1b => x =>  b", 2_000)?);
-    Ok(())
-}
-
-/// What is found of an expression in so many `a` and a `b`, in words. Want of memory is told as such.
-fn told_among(alloc: Global, pattern: &str, count: usize) -> Result<String, AllocError> {
-    let mut text = vec![in alloc; b'a'; count]?;
-    text.push(b'b')?;
-    match told(alloc, pattern, text.as_slice(), 0) {
-        Ok(words) => Ok(words),
-        Err(_) => String::from_str(alloc, "no memory"),
-    }
-}
-
-#[test]
-fn listings_end_at_their_limit(rt: HostRuntime) -> Result<(), AllocError> {
-    let below = told_among(rt.alloc(), r"(a*)\1b", 3_160)?;
-    assert!(rt; below.as_str() == "0-3161 0-1580", "{below}");
-    let above = told_among(rt.alloc(), r"(a*)\1b", 3_162)?;
-    assert!(rt; above.as_str() == "no memory", "{above}");
     Ok(())
 }
 

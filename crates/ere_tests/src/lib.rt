@@ -15,6 +15,8 @@ mod parsing;
 #[cfg(test)]
 mod places;
 #[cfg(test)]
+mod references;
+#[cfg(test)]
 mod relaxed;
 #[cfg(test)]
 mod rows;

@@ -21,9 +21,12 @@ pub loop-found-init : goal.loop-found-init
 loop-found-init g c =
     let s = c.split_at.result.1.now in
     let t = view c.args.ere.now in
+    let is = c.in_ok-filter.ensures t c.in-Ok.ensures.spans in
     record {
-      built = c.first-found.ensures.kept t c.in_ok-filter.ensures;
-      lies = c.first-found.ensures.lies t c.in_ok-filter.ensures
+      no_refs = c.in-Ok.ensures.no_refs;
+      spans = c.in-Ok.ensures.spans;
+      built = c.first-found.ensures.kept t is;
+      lies = c.first-found.ensures.lies t is
           (no_hit_begins s t c.earliest-begin.result c.earliest-begin.ensures);
     }
 
@@ -32,7 +35,8 @@ loop-found-smaller g c =
     let s = c.split_at.result.1.now in
     let t = view c.args.ere.now in
     let lies = subst (MayLie s t) c.in-Some.is c.loop-found.invariant.lies in
-    fewer (length s) c.in-Some.span c.loop-found.found c.behind-found.result c.in-Some.is lies.1
+    fewer (length s) c.in-Some.span c.loop-found.found c.behind-found.result c.in-Some.is
+    (omega (arith, lies.1.0, lies.1.1))
     (c.behind-found.ensures.behind t c.loop-found.invariant.built)
 
 pub loop-found-preserved : goal.loop-found-preserved
@@ -42,9 +46,38 @@ loop-found-preserved g c =
     let t = view c.args.ere.now in
     let next = c.in-Some.span.from + 1 in
     let none = subst (λ o. MatchOption o (HasNoHitBefore rest t next) (TellsHit c.args.text.now t c.args.from))
-    c.in-Ok-None.field-0-is c.in-Ok-None.ensures.hit in
+    c.in-Ok-None.field-0-is c.in-Ok-None.ensures in
     record {
+      no_refs = c.loop-found.invariant.no_refs;
+      spans = c.loop-found.invariant.spans;
       built = c.behind-found.ensures.kept t c.loop-found.invariant.built;
       lies = c.behind-found.ensures.lies t c.loop-found.invariant.built
           (subst (λ x. HasNoHitBefore x t next) (sym c.split_at.ensures.back) none);
     }
+
+pub returns-in-Ok-Some-clause-most : goal.returns-in-Ok-Some-clause-most
+returns-in-Ok-Some-clause-most g c =
+    let t = view c.args.ere.now in
+    omega (
+      arith,
+      c.first-found.ensures.most t (c.in_ok-filter.ensures t c.in-Ok.ensures.spans),
+      c.split_at.ensures.back_len,
+    )
+
+pub returns-in-Err-clause-most : goal.returns-in-Err-clause-most
+returns-in-Err-clause-most g c =
+    let t = view c.args.ere.now in
+    omega (
+      arith,
+      c.first-found.ensures.most t (c.in_ok-filter.ensures t c.in-Ok.ensures.spans),
+      c.split_at.ensures.back_len,
+    )
+
+pub returns-clause-most : goal.returns-clause-most
+returns-clause-most g c =
+    let t = view c.args.ere.now in
+    omega (
+      arith,
+      c.first-found.ensures.most t (c.in_ok-filter.ensures t c.in-Ok.ensures.spans),
+      c.split_at.ensures.back_len,
+    )

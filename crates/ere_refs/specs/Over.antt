@@ -1,0 +1,89 @@
+-- What groups hold behind a part, and what an expression matches from one place.
+-- Own rule: POSIX.1 XBD 9.4 fixes the span, and preference among the derivations of that span, from what groups hold
+-- before, tells what they hold behind it.
+use Rattle.std.specs.Prelude.{◌≡◌, ◌↔◌, ℕ, ◌≤◌, ◌==◌, Bool, true, false, length, IsTrue, MatchOption, Option, Some, None, List, Vec}
+use Rattle.std.specs.declared.alloc.Global.{Global}
+use Rattle.std.specs.FinMap.{empty, get}
+use Rattle.std.specs.declared.cmp.Ordering.TheVariants.{Less}
+use Rattle.ere_places.specs.Seen.{is_held}
+use Rattle.ere_tree.specs.Captures.{Captures, caps_of}
+use Rattle.ere_tree.specs.Derivation.{Way, Ways, Derives, DerivesAll, IsSameText, Spans, part}
+use Rattle.ere_tree.specs.Preference.{IsPreferred, within, in_order}
+use Rattle.ere_tree.specs.Shape.{greatest_group, has_refs}
+use Rattle.ere_tree.specs.Tree.{Tree, Trees}
+use Rattle.ere_tree.specs.declared.hit.Cap.{Cap}
+use Rattle.ere_refs.specs.declared.ends.Ends.{Ends}
+use Rattle.ere_refs.specs.declared.ends.Ends.TheVariants.{Any, Held, Only}
+use Rattle.ere_refs.specs.declared.trying.Found.{Found}
+
+-- from these captures no way over [i, j) is preferred to this one
+abbrev pub IsBestFrom : List ℕ → Tree → Way → ℕ → ℕ → Captures → Type 0
+IsBestFrom s t w i j c = (v : Way) (d : Captures) → Derives s t v i j c d → within v w ≡ Less → ⊥
+
+-- from these captures the tree derives nothing over [i, j)
+abbrev pub DerivesNone : List ℕ → Tree → ℕ → ℕ → Captures → Type 0
+DerivesNone s t i j c = (v : Way) (d : Captures) → Derives s t v i j c d → ⊥
+
+-- the same of trees one behind the other
+abbrev pub AreBestFrom : List ℕ → Trees → Ways → ℕ → ℕ → Captures → Type 0
+AreBestFrom s ts ws i j c = (vs : Ways) (d : Captures) → DerivesAll s ts vs i j c d → in_order vs ws ≡ Less → ⊥
+
+abbrev pub DeriveNone : List ℕ → Trees → ℕ → ℕ → Captures → Type 0
+DeriveNone s ts i j c = (vs : Ways) (d : Captures) → DerivesAll s ts vs i j c d → ⊥
+
+-- a list of what groups hold, or None
+abbrev pub Holding : Type 0
+Holding = Option (Vec (Option Cap) Global)
+
+-- From captures that a list holds: the list of those behind a best way over [i, j), or None where nothing derives there.
+abbrev pub GoesOver : List ℕ → Tree → ℕ → ℕ → ℕ → ℕ → List (Option Cap) → Holding → Type 0
+GoesOver s t start i j count old found =
+    (c : Captures) → old ≡ caps_of start c count
+    → MatchOption found (DerivesNone s t i j c) (λ new. (w : Way) × (d : Captures) × Derives s t w i j c d
+    × IsBestFrom s t w i j c × (new.items ≡ caps_of start d count))
+
+-- The same of trees one behind the other.
+abbrev pub GoOver : List ℕ → Trees → ℕ → ℕ → ℕ → ℕ → List (Option Cap) → Holding → Type 0
+GoOver s ts start i j count old found =
+    (c : Captures) → old ≡ caps_of start c count
+    → MatchOption found (DeriveNone s ts i j c) (λ new. (ws : Ways) × (d : Captures) × DerivesAll s ts ws i j c d
+    × AreBestFrom s ts ws i j c × (new.items ≡ caps_of start d count))
+
+-- whether [i, j) is what the group of this number holds, by a list of what groups hold
+abbrev pub RefersTo : List ℕ → ℕ → ℕ → ℕ → ℕ → Bool → List (Option Cap) → Bool → Type 0
+RefersTo s start i j number fold caps answer =
+    (c : Captures) → caps ≡ caps_of start c (length caps)
+    → IsTrue answer ↔ ((p : ℕ × ℕ) × (get c number ≡ Some p) × IsSameText fold (part s i j) (part s p.0 p.1))
+
+-- whether a part can end at a place
+abbrev pub may_be : Ends → ℕ → Bool
+may_be (Held seen) end = is_held seen end
+may_be (Only only) end = only == end
+may_be Any end = true
+
+-- the tree's ends from i, up to j, are among these
+abbrev pub AreEnds : List ℕ → Tree → ℕ → ℕ → ℕ → ℕ → List (Option Cap) → Ends → Type 0
+AreEnds s t start i j count old (Held seen) =
+    (has_refs t ≡ false) × ((q : ℕ) → IsTrue (is_held seen q) ↔ (Spans s t i q × (q ≤ j)))
+AreEnds s t start i j count old (Only end) =
+    (c : Captures) → old ≡ caps_of start c count → (w : Way) (k : ℕ) (d : Captures) → Derives s t w i k c d → k ≡ end
+AreEnds s t start i j count old Any = Unit {0}
+
+-- the same where the ends are known up to a place from j on
+abbrev pub HasEnds : List ℕ → Tree → ℕ → ℕ → ℕ → ℕ → List (Option Cap) → Ends → Type 0
+HasEnds s t start i j count old ends = (k : ℕ) × (j ≤ k) × AreEnds s t start i k count old ends
+
+-- This end and these captures are those of a derivation from i with no group set before, and of those up to m none is
+-- preferred.
+pub record IsBestTo (s : List ℕ) (t : Tree) (start i m : ℕ) (found : Found) : Type 0 where
+  pub way : Way
+  pub captures : Captures
+  pub shows : Derives s t way i found.to empty captures
+  pub preferred : (k : ℕ) (v : Way) (d : Captures) → k ≤ m → Derives s t v i k empty d
+      → IsPreferred v k way found.to → ⊥
+  pub are : found.groups ≡ caps_of start captures (greatest_group t)
+
+-- From i the tree derives nothing up to m, or this.
+abbrev pub TellsBest : List ℕ → Tree → ℕ → ℕ → ℕ → Option Found → Type 0
+TellsBest s t start i m None = (k : ℕ) (v : Way) (d : Captures) → k ≤ m → Derives s t v i k empty d → ⊥
+TellsBest s t start i m (Some found) = IsBestTo s t start i m found
