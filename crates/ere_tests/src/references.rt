@@ -50,9 +50,9 @@ fn told_among(alloc: Global, pattern: &str, count: usize) -> Result<String, Allo
 
 #[test]
 fn tries_end_at_their_limit(rt: HostRuntime) -> Result<(), AllocError> {
-    let below = told_among(rt.alloc(), r"(a*)(a*)(a*)\1\2\3b", 100)?;
-    assert!(rt; below.as_str() == "0-101 0-50 50-50 50-50", "{below}");
-    let above = told_among(rt.alloc(), r"(a*)(a*)(a*)\1\2\3b", 1_200)?;
+    let below = told_among(rt.alloc(), r"(a*)\1b", 8_000)?;
+    assert!(rt; below.as_str() == "0-8001 0-4000", "{below}");
+    let above = told_among(rt.alloc(), r"(a*)\1b", 10_000)?;
     assert!(rt; above.as_str() == "no memory", "{above}");
     Ok(())
 }
