@@ -43,7 +43,12 @@ pub(crate) fn found(
 }
 
 /// What is found in the text from a place on, in words.
-pub(crate) fn told(alloc: Global, pattern: &str, text: &[u8], from: usize) -> Result<String, AllocError> {
+pub(crate) fn told(
+    alloc: Global,
+    pattern: &str,
+    text: &[u8],
+    from: usize,
+) -> Result<String, AllocError> {
     let Ok(ere) = parse(alloc, pattern.as_bytes(), false) else {
         return String::from_str(alloc, "refused");
     };
