@@ -68,6 +68,11 @@ continues_end whole rest old now outcome on none is = record {
   vars = on.vars ∙ ap (changed old) (sym (append-nil on.done) ∙ ap (λ c. on.done ++ c) (sym none) ∙ on.changes);
 }
 
+-- a fault that is made in a call
+pub comes_told : (whole : Came) (old new : Variables) (told fault : Fault) → told ≡ fault → Comes whole old (Err fault) new
+    → Comes whole old (Err told) new
+comes_told whole old new told fault is comes = record { outcome = ap Err is ∙ comes.outcome; vars = comes.vars }
+
 -- memory runs out
 pub continues_part_way : (whole rest : Came) (old now : Variables) → Continues whole rest old now → IsPartWay whole.changes old now
 continues_part_way whole rest old now on = (on.done, rest.changes, on.changes, on.vars)

@@ -1,4 +1,3 @@
-pub mod AloneLemmas
 pub mod ContinuesLemmas
 pub mod CountLemmas
 pub mod EmptyLemmas

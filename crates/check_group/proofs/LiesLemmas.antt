@@ -6,8 +6,6 @@ use Rattle.std.specs.List.{AllByRecursion}
 use Rattle.std.specs.Prelude.{nat_lt, slice_index}
 use Rattle.std.proofs.lemmas.Bool.Decides.{nat_tests}
 use Rattle.std.proofs.lemmas.List.{length-drop, length-take}
-use Rattle.pattern_parse.specs.declared.pattern.Kind.{Kind}
-use Rattle.pattern_parse.specs.declared.pattern.Kind.TheVariants.{Plain, Next, Same, Empty, Count, Not, Dag, Label}
 use Rattle.pattern_scan.proofs.SeekLemmas.{sought_within}
 use Rattle.pattern_scan.specs.Seek.{IsWithin, sought}
 use Rattle.pattern_scan.specs.declared.sought.Sought.{Sought}
@@ -15,7 +13,7 @@ use Rattle.pattern_scan.specs.declared.sought.Sought.TheVariants.{Found, Absent,
 use Rattle.pattern_vars.specs.Vars.{bound_all}
 use Rattle.tt_base.specs.Occurrence.{begins_with, first_from, first_in}
 use Rattle.tt_base.specs.declared.place.Span.{Span}
-use Rattle.check_group.specs.Alone.{began_at, came, counted, matched}
+use Rattle.check_group.specs.Alone.{began_at, came, counted, met}
 use Rattle.check_group.specs.Changes.{Variables}
 use Rattle.check_group.specs.Group.{EndsBy, group, group_at, lowest, moved_on, overlaps, placed, placed_among, reach, settled, tried}
 use Rattle.check_group.specs.Lies.{FaultLies, OffsetsLie}
@@ -25,6 +23,8 @@ use Rattle.check_group.specs.Region.{excluded_by, fault_before, region}
 use Rattle.check_group.specs.declared.answer.Matched.{Matched}
 use Rattle.check_group.specs.declared.answer.Met.{Met}
 use Rattle.check_group.specs.declared.directive.Check.{Check}
+use Rattle.check_group.specs.declared.directive.LineRule.{LineRule}
+use Rattle.check_group.specs.declared.directive.LineRule.TheVariants.{Any, Next, Same, Empty}
 use Rattle.check_group.specs.declared.fault.Fault.{Fault}
 use Rattle.check_group.specs.declared.fault.FaultKind.{FaultKind}
 use Rattle.check_group.specs.declared.fault.FaultKind.TheVariants as fault
@@ -130,6 +130,15 @@ empty-lies text place inside =
     newline None lies = inside
     newline (Some at) lies = (omega (arith, lies.0), omega (arith, lies.1))
 
+met-lies : (text : List ℕ) (vars : Variables) (check : Check) (done at : ℕ) (rule : LineRule) → at ≤ length text
+    → MetLies at (length text) (met text vars check done at rule)
+met-lies text vars check done at Any inside = looked_lies text vars check done at inside
+met-lies text vars check done at Next inside =
+    next-line-lies text at (length text) _ inside (looked_lies text vars check done at inside)
+met-lies text vars check done at Same inside =
+    same-line-lies text at (length text) _ inside (looked_lies text vars check done at inside)
+met-lies text vars check done at Empty inside = next-line-lies text at (length text) _ inside (empty-lies text at inside)
+
 -- ---- a directive
 
 -- a part lies between two offsets, or a fault lies in the text
@@ -145,11 +154,6 @@ module _ (IsNumber : ℕ → Type 0) where
   if-met-lies check place from to (Ok m) on is lies rest = rest m lies.0 lies.1
   if-met-lies check place from to (Err kind) on is lies rest = (is, lies)
 
-  matched-lies : (check : Check) (from to : ℕ) (r : Result Met FaultKind) → IsNumber check.number → MetLies from to r
-      → OutcomeLies IsNumber from to (matched check r).outcome
-  matched-lies check from to (Ok m) is lies = lies
-  matched-lies check from to (Err kind) is lies = (is, lies)
-
   began-behind : (place done at first : ℕ) → place ≤ at → place ≤ first → place ≤ began_at done at first
   began-behind place done at first low before = each (done == 0)
     where
@@ -163,35 +167,17 @@ module _ (IsNumber : ℕ → Type 0) where
   unfolding counted
   counted-lies text check place zero done vars first at is begun low inside = (begun, inside)
   counted-lies text check place (suc left) done vars first at is begun low inside =
-      if-met-lies check place at (length text) (looked text vars check done at) _ is
-      (looked_lies text vars check done at inside)
+      if-met-lies check place at (length text) _ _ is (met-lies text vars check done at check.demand.rule inside)
       (λ m from to. counted-lies text check place left (done + 1) (bound_all vars m.fresh)
       (began_at done m.span.from first) m.span.to is
       (began-behind place done m.span.from first (omega (arith, low, from)) begun)
       (omega (arith, low, from, m.span.ordered)) to)
 
   -- a directive at a place
-  pub came_lies : (text : List ℕ) (vars : Variables) (place : ℕ) (check : Check) (kind : Kind) → place ≤ length text
-      → IsNumber check.number → OutcomeLies IsNumber place (length text) (came text vars place check kind).outcome
-  came_lies text vars place check Plain inside is =
-      matched-lies check place (length text) _ is (looked_lies text vars check 0 place inside)
-  came_lies text vars place check Next inside is =
-      matched-lies check place (length text) _ is
-      (next-line-lies text place (length text) _ inside (looked_lies text vars check 0 place inside))
-  came_lies text vars place check Same inside is =
-      matched-lies check place (length text) _ is
-      (same-line-lies text place (length text) _ inside (looked_lies text vars check 0 place inside))
-  came_lies text vars place check Empty inside is =
-      matched-lies check place (length text) _ is
-      (next-line-lies text place (length text) _ inside (empty-lies text place inside))
-  came_lies text vars place check Not inside is =
-      matched-lies check place (length text) _ is (looked_lies text vars check 0 place inside)
-  came_lies text vars place check Dag inside is =
-      matched-lies check place (length text) _ is (looked_lies text vars check 0 place inside)
-  came_lies text vars place check Label inside is =
-      matched-lies check place (length text) _ is (looked_lies text vars check 0 place inside)
-  came_lies text vars place check (Count n) inside is =
-      counted-lies text check place n 0 vars place place is (omega arith) (omega arith) inside
+  pub came_lies : (text : List ℕ) (vars : Variables) (place : ℕ) (check : Check) → place ≤ length text
+      → IsNumber check.number → OutcomeLies IsNumber place (length text) (came text vars place check).outcome
+  came_lies text vars place check inside is =
+      counted-lies text check place check.demand.times 0 vars place place is (omega arith) (omega arith) inside
 
 -- ---- a group
 

@@ -6,9 +6,8 @@ ghost use Rattle.check_group.specs.Matches.{Fits, answered, looked};
 use crate::directive::Check;
 use crate::fault::FaultKind;
 use ere_auto::Steps;
-use pattern_scan::{Sought, seek};
-use pattern_vars::{Bindings, Vars};
-use std::alloc::Global;
+use pattern_scan::{Context, Sought, seek};
+use pattern_vars::Bindings;
 use std::sync::ledger::Ledger;
 use tt_base::{NoMemory, Span};
 
@@ -44,19 +43,17 @@ pub(crate) fn answered(answer: Sought, absent: FaultKind) -> Result<Met, FaultKi
 /// A directive sought in the slice from an offset to the text's end, behind `done` matches of the same directive.
 #[inline(always)]
 pub fn look<L: Ledger>(
-    alloc: Global,
+    context: &Context<'_>,
     check: &Check,
-    vars: &Vars,
-    text: &[u8],
     done: u32,
     from: usize,
     steps: &mut Steps<L>,
 ) -> Result<Result<Met, FaultKind>, NoMemory>
-    requires inside { from ≤ length text.now }
-    requires ready { IsReady vars.now check.now }
-    ensures value { IfOk result (λ met. met ≡ looked text.now vars.now check.now done from) }
-    ensures fits { IfOk result (λ met. IfOk met (Fits vars.now from (length text.now))) }
+    requires inside { from ≤ length context.now.text.now }
+    requires ready { IsReady context.now.vars.now check.now }
+    ensures value { IfOk result (λ met. met ≡ looked context.now.text.now context.now.vars.now check.now done from) }
+    ensures fits { IfOk result (λ met. IfOk met (Fits context.now.vars.now from (length context.now.text.now))) }
 {
-    let answer = seek(alloc, &check.pattern, vars, text, from, check.line, steps)?;
+    let answer = seek(context, &check.pattern, check.line, from, steps)?;
     Ok(answered(answer, FaultKind::NotFound { from, done }))
 }

@@ -14,44 +14,47 @@ use crate::near::{earliest, firsts_of, look_near};
 use crate::ranges::{lowest_overlapped, passed, place_among};
 use crate::tries::Tries;
 use ere_auto::Steps;
-use pattern_scan::plain_text;
+use pattern_scan::{Context, plain_text};
 use pattern_vars::Vars;
 use std::alloc::Global;
 use std::collections::VecDeque;
 use std::sync::ledger::Ledger;
 use tt_base::{NoMemory, Span};
 
-#[tactic(auto, using(crate::proofs::TriedLemmas::tried_failed, crate::proofs::TriedLemmas::ends_later))]
-/// A member of a group, placed against the ranges before it, which stand in order. Its tries begin at `from`, and it begins
-/// nowhere before `earliest`.
-fn place_member<L: Ledger>(
-    alloc: Global,
-    check: &Check,
-    vars: &Vars,
-    text: &[u8],
-    ranges: &VecDeque<Span>,
-    place: usize,
+/// Where the tries of a member begin, and a place before which it doesn't begin.
+#[derive(Clone, Copy, Debug, PartialEq, Eq)]
+struct FirstTry {
     from: usize,
     earliest: usize,
+}
+
+#[tactic(auto, using(crate::proofs::TriedLemmas::tried_failed, crate::proofs::TriedLemmas::ends_later))]
+/// A member of a group, placed against the ranges before it, which stand in order.
+fn place_member<L: Ledger>(
+    context: &Context<'_>,
+    check: &Check,
+    ranges: &VecDeque<Span>,
+    place: usize,
+    first: FirstTry,
     steps: &mut Steps<L>,
 ) -> Result<Result<Met, FaultKind>, NoMemory>
-    requires later { place ≤ from }
-    requires here { from ≤ length text.now }
-    requires within { earliest ≤ length text.now }
-    requires nowhere { BeginsNowhere text.now check.now place earliest }
-    requires ready { IsReady vars.now check.now }
-    requires ranges { All (EndsBy (length text.now)) ranges.now.items }
+    requires later { place ≤ first.from }
+    requires here { first.from ≤ length context.now.text.now }
+    requires within { first.earliest ≤ length context.now.text.now }
+    requires nowhere { BeginsNowhere context.now.text.now check.now place first.earliest }
+    requires ready { IsReady context.now.vars.now check.now }
+    requires ranges { All (EndsBy (length context.now.text.now)) ranges.now.items }
     requires in_order { AreInOrder ranges.now.items }
-    requires tried { IsTriedFrom text.now vars.now ranges.now.items check.now place from }
-    ensures value { IfOk result (λ met. met ≡ placed text.now vars.now ranges.now.items check.now place) }
-    ensures fits { IfOk result (λ met. IfOk met (Fits vars.now place (length text.now))) }
+    requires tried { IsTriedFrom context.now.text.now context.now.vars.now ranges.now.items check.now place first.from }
+    ensures value { IfOk result (λ met. met ≡ placed context.now.text.now context.now.vars.now ranges.now.items check.now place) }
+    ensures fits { IfOk result (λ met. IfOk met (Fits context.now.vars.now place (length context.now.text.now))) }
     ensures free { IfOk result (λ met. IfOk met (λ m. lowest m.span ranges.now.items ≡ None)) }
 {
     let mut tries = Tries::Fresh;
-    let mut from = from;
+    let mut from = first.from;
     let mut at = 0;
     loop {
-        match look_near(alloc, &mut tries, check, vars, text, from, earliest, steps)? {
+        match look_near(context, &mut tries, check, from, first.earliest, steps)? {
             Err(kind) => return Ok(Err(kind)),
             Ok(m) => {
                 // The tries' starts rise, so no later try overlaps what ends at or before this match's start.
@@ -117,11 +120,9 @@ pub fn place_group<L: Ledger>(
 ) -> Result<Result<Matched, Fault>, NoMemory>
     requires here { place ≤ length text.now }
     requires ready { All (IsReady vars.old) checks.now }
-    ensures value { IfOk result (λ outcome.
-        Comes (group_at text.now place vars.old checks.now) vars.old outcome vars.new) }
+    ensures value { IfOk result (λ outcome. Comes (group_at text.now place vars.old checks.now) vars.old outcome vars.new) }
     ensures lies { IfOk result (λ outcome. IfOk outcome (LiesIn place (length text.now))) }
-    ensures part_way { OnErr result
-        (IsPartWay (group_at text.now place vars.old checks.now).changes vars.old vars.new) }
+    ensures part_way { OnErr result (IsPartWay (group_at text.now place vars.old checks.now).changes vars.old vars.new) }
 {
     let known = firsts_of(alloc, checks, text.split_at(place).1)?;
     let mut ranges = VecDeque::new(alloc);
@@ -132,17 +133,10 @@ pub fn place_group<L: Ledger>(
     let mut behind = place;
     for (index, check) in checks.iter().enumerate() {
         let from = first_try(checks, index, place, behind);
-        match place_member(
-            alloc,
-            check,
-            vars,
-            text,
-            &ranges,
-            place,
-            from,
-            earliest(&known, check, text, place),
-            steps,
-        )? {
+        let earliest = earliest(&known, check, text, place);
+        let first = FirstTry { from, earliest };
+        let context = Context { alloc, text, vars };
+        match place_member(&context, check, &ranges, place, first, steps)? {
             Ok(m) => {
                 // The room for the range is taken before anything is bound.
                 place_among(&mut ranges, m.span)?;
@@ -150,12 +144,7 @@ pub fn place_group<L: Ledger>(
                 behind = next_try(m.span, place);
                 vars.bind(m.fresh);
             }
-            Err(kind) => {
-                return Ok(Err(Fault {
-                    directive: check.number,
-                    kind,
-                }));
-            }
+            Err(kind) => return Ok(Err(check.fault(kind))),
         }
     }
     Ok(Ok(reached))

@@ -12,8 +12,7 @@ use crate::directive::Check;
 use crate::fault::FaultKind;
 use crate::tries::Tries;
 use ere_auto::Steps;
-use pattern_scan::plain_text;
-use pattern_vars::Vars;
+use pattern_scan::{Context, plain_text};
 use std::alloc::Global;
 use std::sync::ledger::Ledger;
 use text_windows::Firsts;
@@ -91,28 +90,27 @@ fn look_later(
 /// A directive sought in the slice from an offset to the text's end, which begins nowhere before `earliest`.
 #[inline(always)]
 pub(crate) fn look_near<L: Ledger>(
-    alloc: Global,
+    context: &Context<'_>,
     tries: &mut Tries,
     check: &Check,
-    vars: &Vars,
-    text: &[u8],
     from: usize,
     earliest: usize,
     steps: &mut Steps<L>,
 ) -> Result<Result<Met, FaultKind>, NoMemory>
-    requires inside { from ≤ length text.now }
-    requires within { earliest ≤ length text.now }
-    requires ready { IsReady vars.now check.now }
-    requires same { AreFor tries.old check.now vars.now }
-    requires nowhere { BeginsNowhere text.now check.now from earliest }
-    ensures value { IfOk result (λ met. met ≡ looked text.now vars.now check.now 0 from) }
-    ensures fits { IfOk result (λ met. IfOk met (Fits vars.now from (length text.now))) }
-    ensures same { AreFor tries.new check.now vars.now }
+    requires inside { from ≤ length context.now.text.now }
+    requires within { earliest ≤ length context.now.text.now }
+    requires ready { IsReady context.now.vars.now check.now }
+    requires same { AreFor tries.old check.now context.now.vars.now }
+    requires nowhere { BeginsNowhere context.now.text.now check.now from earliest }
+    ensures value { IfOk result (λ met. met ≡ looked context.now.text.now context.now.vars.now check.now 0 from) }
+    ensures fits { IfOk result (λ met. IfOk met (Fits context.now.vars.now from (length context.now.text.now))) }
+    ensures same { AreFor tries.new check.now context.now.vars.now }
 {
+    let text = context.text;
     if from < earliest {
         if let Some(needle) = plain_text(&check.pattern) {
-            return Ok(look_later(alloc, check, needle, text, from, earliest));
+            return Ok(look_later(context.alloc, check, needle, text, from, earliest));
         }
     }
-    tries.look(alloc, check, vars, text, 0, from, steps)
+    tries.look(context, check, 0, from, steps)
 }

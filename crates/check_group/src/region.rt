@@ -10,8 +10,7 @@ use crate::directive::Check;
 use crate::fault::{Fault, FaultKind};
 use ere_auto::Steps;
 use pattern_parse::{Frame, Pattern, Piece};
-use pattern_scan::{Sought, seek};
-use pattern_vars::Vars;
+use pattern_scan::{Context, Sought, seek};
 use std::alloc::Global;
 use std::sync::ledger::Ledger;
 use text_windows::Windows;
@@ -110,48 +109,42 @@ fn is_told_absent(known: &Option<Windows>, pattern: &Pattern) -> bool
 
 /// The fault of a NOT in the slice from an offset to the text's end, if it has one.
 fn tested<L: Ledger>(
-    alloc: Global,
+    context: &Context<'_>,
     check: &Check,
     known: &Option<Windows>,
-    vars: &Vars,
-    text: &[u8],
     from: usize,
     steps: &mut Steps<L>,
 ) -> Result<Option<FaultKind>, NoMemory>
-    requires inside { from ≤ length text.now }
-    requires ready { IsReady vars.now check.now }
-    requires known { AreOf (drop from text.now) known.now }
-    ensures { IfOk result (λ kind. kind ≡ excluded_by (sought check.now.pattern vars.now text.now from check.now.line)) }
+    requires inside { from ≤ length context.now.text.now }
+    requires ready { IsReady context.now.vars.now check.now }
+    requires known { AreOf (drop from context.now.text.now) known.now }
+    ensures { IfOk result (λ kind. kind
+        ≡ excluded_by (sought check.now.pattern context.now.vars.now context.now.text.now from check.now.line)) }
 {
     if is_told_absent(known, &check.pattern) {
         return Ok(None);
     }
-    let answer = seek(alloc, &check.pattern, vars, text, from, check.line, steps)?;
+    let answer = seek(context, &check.pattern, check.line, from, steps)?;
     Ok(excluded_by(answer))
 }
 
 /// Tests NOTs in the slice from an offset to the text's end, and adds their faults. A NOT binds nothing.
 #[tactic(auto, unfolding(crate::specs::Region::region))]
 pub fn test_region<L: Ledger>(
-    alloc: Global,
+    context: &Context<'_>,
     nots: &[Check],
-    vars: &Vars,
-    text: &[u8],
     from: usize,
     faults: &mut Items<Fault>,
     steps: &mut Steps<L>,
 ) -> Result<(), NoMemory>
-    requires inside { from ≤ length text.now }
-    requires ready { All (IsReady vars.now) nots.now }
-    ensures { OnOk result (faults.new ≡ faults.old ++ region text.now from vars.now nots.now) }
+    requires inside { from ≤ length context.now.text.now }
+    requires ready { All (IsReady context.now.vars.now) nots.now }
+    ensures { OnOk result (faults.new ≡ faults.old ++ region context.now.text.now from context.now.vars.now nots.now) }
 {
-    let known = windows_of(alloc, nots, text.split_at(from).1)?;
+    let known = windows_of(context.alloc, nots, context.text.split_at(from).1)?;
     for check in nots {
-        if let Some(kind) = tested(alloc, check, &known, vars, text, from, steps)? {
-            faults.push(Fault {
-                directive: check.number,
-                kind,
-            })?;
+        if let Some(kind) = tested(context, check, &known, from, steps)? {
+            faults.push(check.fault(kind))?;
         }
     }
     Ok(())

@@ -13,9 +13,8 @@ use crate::directive::Check;
 use crate::fault::FaultKind;
 use ere_auto::Steps;
 use pattern_parse::{Frame, Pattern, Piece};
-use pattern_scan::{Ready, Sought, prepare};
-use pattern_vars::{Bindings, Vars};
-use std::alloc::Global;
+use pattern_scan::{Context, Ready, Sought, prepare};
+use pattern_vars::Bindings;
 use std::sync::ledger::Ledger;
 use tt_base::NoMemory;
 
@@ -32,25 +31,24 @@ pub(crate) enum Tries {
 /// Seeks the pattern of a directive that was made ready.
 #[inline(never)]
 fn sought_again<L: Ledger>(
-    alloc: Global,
+    context: &Context<'_>,
     ready: &mut Ready,
     check: &Check,
-    vars: &Vars,
-    text: &[u8],
     from: usize,
     steps: &mut Steps<L>,
 ) -> Result<Sought, NoMemory>
-    requires inside { from ≤ length text.now }
-    requires ready { IsReady vars.now check.now }
-    requires prepared { IsPrepared ready.old check.now.pattern vars.now check.now.line }
+    requires inside { from ≤ length context.now.text.now }
+    requires ready { IsReady context.now.vars.now check.now }
+    requires prepared { IsPrepared ready.old check.now.pattern context.now.vars.now check.now.line }
     requires built { IsBuilt ready.old }
-    ensures value { IfOk result (λ answer. answer ≡ sought check.now.pattern vars.now text.now from check.now.line) }
-    ensures within { IfOk result (IsWithin from (length text.now)) }
-    ensures named { IfOk result (ArePlaced vars.now) }
-    ensures prepared { IsPrepared ready.new check.now.pattern vars.now check.now.line }
+    ensures value { IfOk result (λ answer.
+        answer ≡ sought check.now.pattern context.now.vars.now context.now.text.now from check.now.line) }
+    ensures within { IfOk result (IsWithin from (length context.now.text.now)) }
+    ensures named { IfOk result (ArePlaced context.now.vars.now) }
+    ensures prepared { IsPrepared ready.new check.now.pattern context.now.vars.now check.now.line }
     ensures built { IsBuilt ready.new }
 {
-    ready.seek(alloc, text, from, steps)
+    ready.seek(context.alloc, context.text, from, steps)
 }
 
 /// Whether a pattern has no piece but plain text and recalls, and so is sought as bytes at each try.
@@ -63,49 +61,58 @@ fn is_text(pattern: &Pattern) -> bool {
 }
 
 /// What is made for the tries of a directive.
-fn made(alloc: Global, check: &Check, vars: &Vars) -> Result<Tries, NoMemory>
-    requires { IsReady vars.now check.now }
-    ensures { IfOk result (λ tries. AreFor tries check.now vars.now) }
+fn made(context: &Context<'_>, check: &Check) -> Result<Tries, NoMemory>
+    requires { IsReady context.now.vars.now check.now }
+    ensures { IfOk result (λ tries. AreFor tries check.now context.now.vars.now) }
 {
     if is_text(&check.pattern) {
         return Ok(Tries::Plain);
     }
-    let ready = prepare(alloc, &check.pattern, vars, check.line)?;
-    match Box::new(alloc, ready) {
+    let ready = prepare(context.alloc, &check.pattern, context.vars, check.line)?;
+    match Box::new(context.alloc, ready) {
         Ok(ready) => Ok(Tries::Built(ready)),
         Err(_) => Err(NoMemory),
     }
 }
 
 impl Tries {
+    /// Those of a directive: nothing is kept of one that is sought once.
+    pub(crate) fn of(check: &Check) -> Tries
+        ensures { (vars : Variables) → AreFor result check.now vars }
+    {
+        if check.demand.times > 1 {
+            Tries::Fresh
+        } else {
+            Tries::Plain
+        }
+    }
+
     /// The directive sought in the slice from an offset to the text's end, behind `done` matches of the same directive.
     #[inline(always)]
     pub(crate) fn look<L: Ledger>(
         &mut self,
-        alloc: Global,
+        context: &Context<'_>,
         check: &Check,
-        vars: &Vars,
-        text: &[u8],
         done: u32,
         from: usize,
         steps: &mut Steps<L>,
     ) -> Result<Result<Met, FaultKind>, NoMemory>
-        requires inside { from ≤ length text.now }
-        requires ready { IsReady vars.now check.now }
-        requires same { AreFor self.old check.now vars.now }
-        ensures value { IfOk result (λ met. met ≡ looked text.now vars.now check.now done from) }
-        ensures fits { IfOk result (λ met. IfOk met (Fits vars.now from (length text.now))) }
-        ensures same { AreFor self.new check.now vars.now }
+        requires inside { from ≤ length context.now.text.now }
+        requires ready { IsReady context.now.vars.now check.now }
+        requires same { AreFor self.old check.now context.now.vars.now }
+        ensures value { IfOk result (λ met. met ≡ looked context.now.text.now context.now.vars.now check.now done from) }
+        ensures fits { IfOk result (λ met. IfOk met (Fits context.now.vars.now from (length context.now.text.now))) }
+        ensures same { AreFor self.new check.now context.now.vars.now }
     {
         if let Tries::Fresh = self {
-            *self = made(alloc, check, vars)?;
+            *self = made(context, check)?;
         }
         match self {
             Tries::Built(ready) => {
-                let answer = sought_again(alloc, ready, check, vars, text, from, steps)?;
+                let answer = sought_again(context, ready, check, from, steps)?;
                 Ok(answered(answer, FaultKind::NotFound { from, done }))
             }
-            Tries::Plain | Tries::Fresh => look(alloc, check, vars, text, done, from, steps),
+            Tries::Plain | Tries::Fresh => look(context, check, done, from, steps),
         }
     }
 

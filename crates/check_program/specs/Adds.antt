@@ -2,10 +2,15 @@
 use Rattle.std.specs.Prelude.{◌≡◌, ◌⊎◌, ℕ, List, [], ◌∷◌, ◌++◌, Result, Ok, Err}
 use Rattle.check_group.specs.declared.directive.Check.{Check}
 use Rattle.check_program.specs.Compiled.{Body, Formats, IsCheck, IsRead, formats_behind}
+use Rattle.check_program.specs.declared.compiling.RawBody.{RawBody}
 use Rattle.check_program.specs.declared.program.CompileFail.{CompileFail}
 use Rattle.check_program.specs.declared.program.CompileFail.TheVariants.{Bad, NoMemory}
 use Rattle.check_program.specs.declared.program.CompileOpts.{CompileOpts}
 use Rattle.pattern_parse.specs.declared.fault.PatFault.{PatFault}
+
+-- a body that stands in a text
+abbrev pub body_seen : RawBody → Body
+body_seen body = record { bytes = body.bytes.now; kind = body.kind; literal = body.literal; line = body.line }
 
 -- a body is refused under a number, and the formats stay
 pub record IsRefusal (opts : CompileOpts) (number : ℕ) (old : Formats) (body : Body) (told : ℕ) (fault : PatFault)

@@ -6,6 +6,7 @@ use Rattle.std.specs.Prelude.{◌≡◌, ◌≤◌, ℕ, ◌+◌, ◌-◌, Bool,
 use Rattle.std.specs.FinMap.{FinMap, get}
 use Rattle.check_group.specs.declared.directive.Check.{Check}
 use Rattle.check_lines.specs.declared.directive.Directive.{Directive}
+use Rattle.check_program.specs.Demands.{demand_of}
 use Rattle.check_program.specs.Names.{names_once}
 use Rattle.check_program.specs.declared.program.CompileFail.{CompileFail}
 use Rattle.check_program.specs.declared.program.CompileFail.TheVariants.{Bad, NoMemory}
@@ -69,7 +70,7 @@ IsRead opts known body read = IsPieces body.bytes body.kind body.literal opts.fo
 -- the directive of a number that a body is, where these formats are known
 pub record IsCheck (opts : CompileOpts) (index : ℕ) (known : Formats) (body : Body) (check : Check) : Type 0 where
   pub number : check.number ≡ index
-  pub kind : check.kind ≡ body.kind
+  pub demand : check.demand ≡ demand_of body.kind
   pub line : check.line ≡ body.line
   pub read : IsRead opts known body (Ok (items_view check.pattern.pieces))
   pub frame : check.pattern.frame ≡ frame_of body.kind opts.frame

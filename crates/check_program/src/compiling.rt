@@ -1,9 +1,10 @@
 //! Compiling directives.
 ghost use Rattle.std.specs.Prelude.{◌≡◌, ◌+◌, ◌++◌, [], ◌∷◌, All, IfOk, IfSome, length, map, min};
-ghost use Rattle.check_program.specs.Adds.{Adds, IsOne};
+ghost use Rattle.check_program.specs.Adds.{Adds, IsOne, body_seen};
 ghost use Rattle.check_program.specs.Compiled.{Comes, Compiles, EndsBy, bodies_of, body_of, implicit_bodies};
 ghost use Rattle.check_program.specs.Ready.{IsScannable};
 
+use crate::demand::demand_of;
 use crate::names::names_of;
 use crate::program::{CompileFail, CompileOpts, Program};
 use check_group::Check;
@@ -12,25 +13,33 @@ use pattern_parse::{Formats, Kind, PatFail, parse_pattern};
 use std::alloc::Global;
 use tt_base::{Bytes, Items, NoMemory};
 
-/// The directive of a body, where these formats are known; from then on those of the numbers that it defines are, too.
-fn check_of(
-    alloc: Global,
-    body: &[u8],
+/// A body as it stands in a text, with what decides how it is read, and its line.
+#[derive(Drop)]
+struct RawBody<'a> {
+    bytes: &'a [u8],
     kind: Kind,
     literal: bool,
     line: u32,
+}
+
+/// The directive of a body, where these formats are known; from then on those of the numbers that it defines are, too.
+fn check_of(
+    alloc: Global,
+    body: &RawBody<'_>,
     number: usize,
     opts: &CompileOpts,
     known: &mut Formats,
 ) -> Result<Check, CompileFail>
-    ensures { IsOne opts.now number known.old
-        (record { bytes = body.now; kind = kind; literal = literal; line = line }) result known.new }
+    ensures { IsOne opts.now number known.old (body_seen body.now) result known.new }
 {
-    match parse_pattern(alloc, body, kind, literal, opts.fold, opts.frame, known) {
+    let bytes = body.bytes;
+    let kind = body.kind;
+    let literal = body.literal;
+    match parse_pattern(alloc, bytes, kind, literal, opts.fold, opts.frame, known) {
         Ok(pattern) => Ok(Check {
             number,
-            kind,
-            line,
+            demand: demand_of(kind),
+            line: body.line,
             pattern,
         }),
         Err(PatFail::Bad(fault)) => Err(CompileFail::Bad {
@@ -45,18 +54,14 @@ fn check_of(
 fn add_check(
     alloc: Global,
     checks: &mut Items<Check>,
-    body: &[u8],
-    kind: Kind,
-    literal: bool,
-    line: u32,
+    body: &RawBody<'_>,
     number: usize,
     opts: &CompileOpts,
     known: &mut Formats,
 ) -> Result<(), CompileFail>
-    ensures { Adds opts.now number checks.old known.old
-        (record { bytes = body.now; kind = kind; literal = literal; line = line }) result checks.new known.new }
+    ensures { Adds opts.now number checks.old known.old (body_seen body.now) result checks.new known.new }
 {
-    match check_of(alloc, body, kind, literal, line, number, opts, known) {
+    match check_of(alloc, body, number, opts, known) {
         Ok(check) => match checks.push(check) {
             Ok(()) => Ok(()),
             Err(NoMemory) => Err(CompileFail::NoMemory),
@@ -78,17 +83,13 @@ fn of_lines(
 {
     let mut checks = Items::new(alloc);
     for (number, directive) in directives.iter().enumerate() {
-        match add_check(
-            alloc,
-            &mut checks,
-            &text[directive.body.from..directive.body.to],
-            directive.kind,
-            directive.literal,
-            directive.line,
-            number,
-            opts,
-            known,
-        ) {
+        let body = RawBody {
+            bytes: &text[directive.body.from..directive.body.to],
+            kind: directive.kind,
+            literal: directive.literal,
+            line: directive.line,
+        };
+        match add_check(alloc, &mut checks, &body, number, opts, known) {
             Ok(()) => {}
             Err(fail) => return Err(fail),
         }
@@ -121,17 +122,13 @@ fn of_regions(
         let Some(number) = lines.checked_add(index) else {
             return Err(CompileFail::NoMemory);
         };
-        match add_check(
-            alloc,
-            &mut checks,
-            body.as_slice(),
-            Kind::Not,
-            false,
-            line_of(index),
-            number,
-            opts,
-            known,
-        ) {
+        let body = RawBody {
+            bytes: body.as_slice(),
+            kind: Kind::Not,
+            literal: false,
+            line: line_of(index),
+        };
+        match add_check(alloc, &mut checks, &body, number, opts, known) {
             Ok(()) => {}
             Err(fail) => return Err(fail),
         }

@@ -4,6 +4,7 @@
 #![tactic(auto)]
 
 mod compiling;
+mod demand;
 mod names;
 mod program;
 

@@ -2,19 +2,15 @@
 -- Shown: up to its label, or nowhere. Idea: induction on the directives before it. The hard one is `first-label`.
 use Rattle.std.proofs.Common.{◌≡◌, ℕ, zero, suc, ◌<◌, ◌≤◌, List, [], ◌∷◌, Some, None, length, get_or, take, take_all, drop, refl, sym, ◌∙◌, ap, add-one, subst, arith}
 use Rattle.std.specs.List.{AllByRecursion}
-use Rattle.pattern_parse.specs.declared.pattern.Kind.{Kind}
-use Rattle.pattern_parse.specs.declared.pattern.Kind.TheVariants.{Plain, Next, Same, Empty, Count, Not, Dag, Label}
 use Rattle.check_group.specs.declared.directive.Check.{Check}
+use Rattle.check_group.specs.declared.directive.Role.{Role}
+use Rattle.check_group.specs.declared.directive.Role.TheVariants.{Sought, Excluded, Unordered, Label}
 use Rattle.check_scan.specs.Blocks.{Blocks, FirstLabel, IsLabel, block_before, blocks_of, in_first, labelled, last}
 
-before-other : (check : Check) (kind : Kind) (blocks : Blocks) → (kind ≡ Label → ⊥) → block_before check kind blocks ≡ in_first check blocks
-before-other check Plain blocks other = refl
-before-other check Next blocks other = refl
-before-other check Same blocks other = refl
-before-other check Empty blocks other = refl
-before-other check (Count n) blocks other = refl
-before-other check Not blocks other = refl
-before-other check Dag blocks other = refl
+before-other : (check : Check) (role : Role) (blocks : Blocks) → (role ≡ Label → ⊥) → block_before check role blocks ≡ in_first check blocks
+before-other check Sought blocks other = refl
+before-other check Excluded blocks other = refl
+before-other check Unordered blocks other = refl
 before-other check Label blocks other = absurd (other refl)
 
 first-label : (at : ℕ) (checks : List Check) (label : Check) → at < length checks → AllByRecursion (λ c. IsLabel c → ⊥) (take at checks)
@@ -23,11 +19,11 @@ first-label : (at : ℕ) (checks : List Check) (label : Check) → at < length c
 unfolding blocks_of
 first-label zero [] label within each here is = absurd (omega (arith, within))
 first-label zero (check ∷ checks) label within each here is =
-    ap (λ k. block_before check k (blocks_of checks)) (ap (λ c. c.kind) (sym here) ∙ is)
+    ap (λ k. block_before check k (blocks_of checks)) (ap (λ c. c.demand.role) (sym here) ∙ is)
     ∙ ap (λ c. labelled (check ∷ []) c (blocks_of checks)) (sym here)
 first-label (suc at) [] label within each here is = absurd (omega (arith, within))
 first-label (suc at) (check ∷ checks) label within each here is =
-    before-other check check.kind (blocks_of checks) each.0
+    before-other check check.demand.role (blocks_of checks) each.0
     ∙ ap (in_first check) (first-label at checks label (omega (arith, within)) each.1 here is)
 
 same-item : (at : ℕ) (checks : List Check) (one other : Check) → at < length checks → one ≡ get_or checks at one
@@ -42,14 +38,14 @@ pub label_found : (checks : List Check) (at : ℕ) (label : Check) → at < leng
 label_found checks at label within here each is = (
   within,
   λ other there. subst (λ n. blocks_of checks ≡ labelled (take n checks) other (blocks_of (drop n checks))) (sym (add-one at))
-      (first-label at checks other within each there (ap (λ c. c.kind) (same-item at checks label other within here there) ∙ is)),
+      (first-label at checks other within each there (ap (λ c. c.demand.role) (same-item at checks label other within here there) ∙ is)),
 )
 
 none-labelled : (checks : List Check) → AllByRecursion (λ c. IsLabel c → ⊥) checks → blocks_of checks ≡ last checks
 unfolding blocks_of
 none-labelled [] each = refl
 none-labelled (check ∷ checks) each =
-    before-other check check.kind (blocks_of checks) each.0 ∙ ap (in_first check) (none-labelled checks each.1)
+    before-other check check.demand.role (blocks_of checks) each.0 ∙ ap (in_first check) (none-labelled checks each.1)
 
 pub label_none : (checks : List Check) (at : ℕ) → length checks ≤ at → AllByRecursion (λ c. IsLabel c → ⊥) (take at checks)
     → FirstLabel checks None

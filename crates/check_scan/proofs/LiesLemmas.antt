@@ -1,12 +1,10 @@
 -- Each fault of a verdict is that of a directive, and lies in the text.
 -- Shown for what closes a region, for blocks and for the whole. Idea: a block's text is a front of the whole text, and
 -- each match ends in it. The hard one is `verdict-lie`.
-use Rattle.std.proofs.Common.{ℕ, ◌≤◌, Bool, true, false, List, [], ◌∷◌, ◌++◌, All, Result, Ok, Err, length, take, map, sym, subst, arith}
+use Rattle.std.proofs.Common.{◌≡◌, ℕ, ◌≤◌, Bool, true, false, List, [], ◌∷◌, ◌++◌, All, Result, Ok, Err, length, take, map, sym, subst, arith}
 use Rattle.std.specs.List.{AllByRecursion, Contains, flat_map}
 use Rattle.std.proofs.lemmas.List.{length-take}
 use Rattle.std.proofs.lemmas.List.Elements.{All-contains_itself, All-from_recursion, recursion_from_All}
-use Rattle.pattern_parse.specs.declared.pattern.Kind.{Kind}
-use Rattle.pattern_parse.specs.declared.pattern.Kind.TheVariants.{Plain, Next, Same, Empty, Count, Not, Dag, Label}
 use Rattle.check_group.specs.Changes.{Variables}
 use Rattle.check_group.specs.Lies.{FaultLies, OffsetsLie, numbers_of}
 use Rattle.check_group.specs.Matches.{looked}
@@ -14,6 +12,8 @@ use Rattle.check_group.specs.Region.{region}
 use Rattle.check_group.specs.declared.answer.Matched.{Matched}
 use Rattle.check_group.specs.declared.answer.Met.{Met}
 use Rattle.check_group.specs.declared.directive.Check.{Check}
+use Rattle.check_group.specs.declared.directive.Role.{Role}
+use Rattle.check_group.specs.declared.directive.Role.TheVariants.{Sought, Excluded, Unordered, Label}
 use Rattle.check_group.specs.declared.fault.Fault.{Fault}
 use Rattle.check_group.specs.declared.fault.FaultKind.{FaultKind}
 use Rattle.check_group.specs.declared.fault.FaultKind.TheVariants as fault
@@ -22,7 +22,6 @@ use Rattle.check_scan.specs.Block.{End, block, closed_by, unless}
 use Rattle.check_scan.specs.Blocks.{Blocks, block_before, blocks_of, in_first, labelled, last}
 use Rattle.check_scan.specs.Laws.{directives_of}
 use Rattle.check_scan.specs.Parts.{Part, Positive, alone, came_of, dags, finish, negative, parts_of, positive}
-use Rattle.check_scan.specs.Runs.{Ends}
 use Rattle.check_scan.specs.Verdict.{labelled_by, run, scan, verdict}
 use Rattle.check_scan.proofs.LawLemmas.{once}
 
@@ -98,7 +97,7 @@ module _ (IsNumber : ℕ → Type 0) where
       → AllByRecursion Is (directives_of (positive part))
       → OutcomeLies IsNumber place (length text) (came_of text vars place part).outcome
   positive-lies text vars place (alone check) inside are =
-      came_lies IsNumber text vars place check check.kind inside are.0
+      came_lies IsNumber text vars place check inside are.0
   positive-lies text vars place (dags checks) inside are = group_lies IsNumber text place vars checks inside are
 
   block-lie : (text : List ℕ) (always : List Check) (parts : List Part) (place : ℕ) (pending : List Check)
@@ -139,22 +138,18 @@ module _ (IsNumber : ℕ → Type 0) where
   first-are check (last checks) is are = (is, are)
   first-are check (labelled checks label rest) is are = ((is, are.0), are.1, are.2)
 
-  before-are : (check : Check) (kind : Kind) (blocks : Blocks) → Is check → AreBlocks blocks
-      → AreBlocks (block_before check kind blocks)
+  before-are : (check : Check) (role : Role) (blocks : Blocks) → Is check → AreBlocks blocks
+      → AreBlocks (block_before check role blocks)
   unfolding AreBlocks
   before-are check Label blocks is are = ((is, tt), is, are)
-  before-are check Plain blocks is are = first-are check blocks is are
-  before-are check Next blocks is are = first-are check blocks is are
-  before-are check Same blocks is are = first-are check blocks is are
-  before-are check Empty blocks is are = first-are check blocks is are
-  before-are check (Count n) blocks is are = first-are check blocks is are
-  before-are check Not blocks is are = first-are check blocks is are
-  before-are check Dag blocks is are = first-are check blocks is are
+  before-are check Sought blocks is are = first-are check blocks is are
+  before-are check Excluded blocks is are = first-are check blocks is are
+  before-are check Unordered blocks is are = first-are check blocks is are
 
   blocks-are : (checks : List Check) → AllByRecursion Is checks → AreBlocks (blocks_of checks)
   unfolding blocks_of AreBlocks
   blocks-are [] are = tt
-  blocks-are (check ∷ checks) are = before-are check check.kind (blocks_of checks) are.0 (blocks-are checks are.1)
+  blocks-are (check ∷ checks) are = before-are check check.demand.role (blocks_of checks) are.0 (blocks-are checks are.1)
 
   label-lie : (text : List ℕ) (label : Check) (place : ℕ) (r : Result Met FaultKind) (found : ℕ → End) → Is label
       → place ≤ length text → MetLies place (length text) r
@@ -190,9 +185,9 @@ scan-lie checks always scope text vars =
     (verdict-lie IsOne text always scope false (blocks_of checks) 0 vars (omega arith) each.1
     (blocks-are IsOne checks each.0))
 
-pub ends_lie : (checks always : List Check) (scope : Bool) (text : List ℕ) (old new : Variables) (faults : List Fault)
-    → Ends (scan checks always scope text old) old new [] faults
+pub faults_lie : (checks always : List Check) (scope : Bool) (text : List ℕ) (vars : Variables) (faults : List Fault)
+    → faults ≡ (scan checks always scope text vars).faults
     → All (FaultLies (Contains (numbers_of (checks ++ always))) (length text)) faults
-ends_lie checks always scope text old new faults ends =
-    subst (All (FaultLies (Contains (numbers_of (checks ++ always))) (length text))) (sym ends.faults)
-    (scan-lie checks always scope text old)
+faults_lie checks always scope text vars faults told =
+    subst (All (FaultLies (Contains (numbers_of (checks ++ always))) (length text))) (sym told)
+    (scan-lie checks always scope text vars)

@@ -4,9 +4,9 @@
 use Rattle.std.proofs.Common.{◌≡◌, ℕ, suc, ◌<◌, ◌≤◌, Bool, true, false, List, [], ◌∷◌, ◌++◌, length, get_or, take, drop, refl, sym, ◌∙◌, ap, drop-cons, subst, arith}
 use Rattle.std.proofs.lemmas.List.{drop_all}
 use Rattle.std.specs.List.{AllByRecursion}
-use Rattle.pattern_parse.specs.declared.pattern.Kind.{Kind}
-use Rattle.pattern_parse.specs.declared.pattern.Kind.TheVariants.{Plain, Next, Same, Empty, Count, Not, Dag, Label}
 use Rattle.check_group.specs.declared.directive.Check.{Check}
+use Rattle.check_group.specs.declared.directive.Role.{Role}
+use Rattle.check_group.specs.declared.directive.Role.TheVariants.{Sought, Excluded, Unordered, Label}
 use Rattle.check_scan.specs.Parts.{BeginsOtherwise, BeginsPositive, IsDag, IsNot, Part, alone, dags, finish, joined, negative, part_before, part_by, part_of, parts_before, parts_of, positive}
 
 -- ---- runs of DAGs
@@ -18,7 +18,7 @@ joined_other check (positive (alone c) ∷ parts) other = refl
 joined_other check (positive (dags cs) ∷ parts) other = absurd other
 joined_other check (finish ∷ parts) other = refl
 
-parts_run : (end : Bool) (check : Check) (run rest : List Check) → check.kind ≡ Dag → AllByRecursion IsDag run
+parts_run : (end : Bool) (check : Check) (run rest : List Check) → check.demand.role ≡ Unordered → AllByRecursion IsDag run
     → BeginsOtherwise (parts_of end rest)
     → parts_of end (check ∷ run ++ rest) ≡ positive (dags (check ∷ run)) ∷ parts_of end rest
 unfolding parts_before
@@ -28,19 +28,15 @@ parts_run end check (next ∷ run) rest is each other =
     ap (λ k. part_before check k (parts_of end (next ∷ run ++ rest))) is
     ∙ ap (joined check) (parts_run end next run rest each.0 each.1 other)
 
-begins-kind : (check : Check) (kind : Kind) (parts : List Part) → (kind ≡ Dag → ⊥) → BeginsOtherwise (part_before check kind parts)
-begins-kind check Plain parts other = tt
-begins-kind check Next parts other = tt
-begins-kind check Same parts other = tt
-begins-kind check Empty parts other = tt
-begins-kind check (Count n) parts other = tt
-begins-kind check Not parts other = tt
-begins-kind check Dag parts other = absurd (other refl)
-begins-kind check Label parts other = tt
+begins-role : (check : Check) (role : Role) (parts : List Part) → (role ≡ Unordered → ⊥) → BeginsOtherwise (part_before check role parts)
+begins-role check Sought parts other = tt
+begins-role check Excluded parts other = tt
+begins-role check Unordered parts other = absurd (other refl)
+begins-role check Label parts other = tt
 
-begins_other : (end : Bool) (check : Check) (rest : List Check) → (check.kind ≡ Dag → ⊥) → BeginsOtherwise (parts_of end (check ∷ rest))
+begins_other : (end : Bool) (check : Check) (rest : List Check) → (check.demand.role ≡ Unordered → ⊥) → BeginsOtherwise (parts_of end (check ∷ rest))
 unfolding parts_before
-begins_other end check rest other = begins-kind check check.kind (parts_of end rest) other
+begins_other end check rest other = begins-role check check.demand.role (parts_of end rest) other
 
 begins_none : (end : Bool) → BeginsOtherwise (parts_of end [])
 unfolding parts_before
@@ -65,7 +61,7 @@ dag-begins check (positive (alone c) ∷ parts) other = other
 dag-begins check (positive (dags cs) ∷ parts) other = other
 dag-begins check (finish ∷ parts) other = other
 
-no-dag : (end : Bool) (check : Check) (behind : List Check) → check.kind ≡ Dag → BeginsOtherwise (parts_of end (check ∷ behind)) → ⊥
+no-dag : (end : Bool) (check : Check) (behind : List Check) → check.demand.role ≡ Unordered → BeginsOtherwise (parts_of end (check ∷ behind)) → ⊥
 unfolding parts_before
 no-dag end check behind is other =
     dag-begins check (parts_of end behind) (subst (λ k. BeginsOtherwise (part_before check k (parts_of end behind))) is other)
@@ -84,16 +80,12 @@ part_dags checks (first ∷ run) others behind check split is dag each other = (
       ∙ ap (λ k. positive (part_by k first run) ∷ parts_of end others) (sym each.0),
 )
 
-alone-kind : (check : Check) (kind : Kind) (parts : List Part) → (kind ≡ Dag → ⊥) → (kind ≡ Not → ⊥)
-    → part_before check kind parts ≡ positive (part_by kind check []) ∷ parts
-alone-kind check Plain parts no_dag no_not = refl
-alone-kind check Next parts no_dag no_not = refl
-alone-kind check Same parts no_dag no_not = refl
-alone-kind check Empty parts no_dag no_not = refl
-alone-kind check (Count n) parts no_dag no_not = refl
-alone-kind check Not parts no_dag no_not = absurd (no_not refl)
-alone-kind check Dag parts no_dag no_not = absurd (no_dag refl)
-alone-kind check Label parts no_dag no_not = refl
+alone-role : (check : Check) (role : Role) (parts : List Part) → (role ≡ Unordered → ⊥) → (role ≡ Excluded → ⊥)
+    → part_before check role parts ≡ positive (part_by role check []) ∷ parts
+alone-role check Sought parts no_dag no_not = refl
+alone-role check Excluded parts no_dag no_not = absurd (no_not refl)
+alone-role check Unordered parts no_dag no_not = absurd (no_dag refl)
+alone-role check Label parts no_dag no_not = refl
 
 -- another directive
 pub part_alone : (checks behind : List Check) (check : Check) → checks ≡ check ∷ behind → (IsDag check → ⊥) → BeginsPositive checks
@@ -101,7 +93,7 @@ pub part_alone : (checks behind : List Check) (check : Check) → checks ≡ che
 unfolding parts_before
 part_alone checks behind check is no_dag begins end =
     subst (λ cs. parts_of end cs ≡ positive (part_of (take 1 cs)) ∷ parts_of end (drop 1 cs)) (sym is)
-    (alone-kind check check.kind (parts_of end behind) no_dag (subst BeginsPositive is begins))
+    (alone-role check check.demand.role (parts_of end behind) no_dag (subst BeginsPositive is begins))
 
 pub positive_first : (checks behind : List Check) (check : Check) → checks ≡ check ∷ behind → (IsNot check → ⊥) → BeginsPositive checks
 positive_first checks behind check is other = subst BeginsPositive (sym is) other
@@ -115,20 +107,16 @@ positive_some (check ∷ checks) begins = omega arith
 pub part_is_dags : (part : List Check) (check : Check) → 0 < length part → check ≡ get_or part 0 check → IsDag check
     → part_of part ≡ dags part
 part_is_dags [] check some is dag = absurd (omega (arith, some))
-part_is_dags (first ∷ rest) check some is dag = ap (λ k. part_by k first rest) (ap (λ c. c.kind) (sym is) ∙ dag)
+part_is_dags (first ∷ rest) check some is dag = ap (λ k. part_by k first rest) (ap (λ c. c.demand.role) (sym is) ∙ dag)
 
-by-kind : (kind : Kind) (check : Check) (rest : List Check) → (kind ≡ Dag → ⊥) → part_by kind check rest ≡ alone check
-by-kind Plain check rest other = refl
-by-kind Next check rest other = refl
-by-kind Same check rest other = refl
-by-kind Empty check rest other = refl
-by-kind (Count n) check rest other = refl
-by-kind Not check rest other = refl
-by-kind Dag check rest other = absurd (other refl)
-by-kind Label check rest other = refl
+by-role : (role : Role) (check : Check) (rest : List Check) → (role ≡ Unordered → ⊥) → part_by role check rest ≡ alone check
+by-role Sought check rest other = refl
+by-role Excluded check rest other = refl
+by-role Unordered check rest other = absurd (other refl)
+by-role Label check rest other = refl
 
 pub part_is_alone : (part : List Check) (check : Check) → 0 < length part → check ≡ get_or part 0 check → (IsDag check → ⊥)
     → part_of part ≡ alone check
 part_is_alone [] check some is other = absurd (omega (arith, some))
 part_is_alone (first ∷ rest) check some is other =
-    by-kind first.kind first rest (λ dag. other (ap (λ c. c.kind) is ∙ dag)) ∙ ap alone (sym is)
+    by-role first.demand.role first rest (λ dag. other (ap (λ c. c.demand.role) is ∙ dag)) ∙ ap alone (sym is)

@@ -1,22 +1,27 @@
 -- Blocks one behind the other.
 -- Shown: a block's start and its end, a label that ends it or isn't found, and what follows. Idea: each is a step or an end,
--- whatever follows it.
-use Rattle.std.proofs.Common.{All, IfOk, OnErr, ◌≡◌, ℕ, ◌+◌, Bool, true, false, List, [], ◌∷◌, ◌++◌, Result, Ok, Err, Some, None, take, drop, get_or, sym, ◌∙◌, ap, append_assoc, subst}
+-- whatever follows it. The hard one is `label_turns`.
+use Rattle.std.proofs.Common.{All, IfOk, IsErr, OnOk, Result, ◌≡◌, ℕ, ◌+◌, Bool, true, false, List, [], ◌∷◌, ◌++◌, Ok, Err, Some, None, refl, take, drop, get_or, sym, ◌∙◌, ap, append_assoc, subst}
+use Rattle.std.proofs.lemmas.Bool.{false≢true}
 use Rattle.pattern_vars.specs.Vars.{forgotten}
+use Rattle.tt_base.specs.declared.memory.NoMemory.{NoMemory}
 use Rattle.check_group.specs.Changes.{IsPartWay, IsReady, Variables, changed}
 use Rattle.check_group.specs.Matches.{looked}
 use Rattle.check_group.specs.declared.answer.Met.{Met}
 use Rattle.check_group.specs.declared.directive.Check.{Check}
-use Rattle.check_group.specs.declared.fault.Fault.{Fault}
 use Rattle.check_group.specs.declared.fault.FaultKind.{FaultKind}
 use Rattle.check_group.specs.declared.fault.FaultKind.TheVariants.{NotFound}
 use Rattle.check_group.proofs.ContinuesLemmas.{changed_none, none_changed}
-use Rattle.check_scan.specs.Block.{End, block}
+use Rattle.check_scan.specs.Block.{End}
 use Rattle.check_scan.specs.Blocks.{FirstLabel, blocks_of}
 use Rattle.check_scan.specs.Parts.{Part, parts_of}
-use Rattle.check_scan.specs.Runs.{Ends, Runs, Turns, TurnsPartWay}
-use Rattle.check_scan.specs.Verdict.{beginning, followed, labelled_by, run, up_to_label, verdict}
-use Rattle.check_scan.proofs.RunsLemmas.{part_way_front, runs_after, runs_ends, runs_part_way, runs_ready, runs_trans}
+use Rattle.check_scan.specs.Runs.{Ends, Finishes, Runs, Turns, block_at, label_at, run_at, verdict_at}
+use Rattle.check_scan.specs.Verdict.{beginning, followed, labelled_by, run, verdict}
+use Rattle.check_scan.specs.declared.progress.Progress.{Progress}
+use Rattle.check_scan.specs.declared.progress.Going.{Going}
+use Rattle.check_scan.specs.declared.progress.Going.TheVariants.{On, Over}
+use Rattle.check_scan.specs.declared.subject.Subject.{Subject}
+use Rattle.check_scan.proofs.RunsLemmas.{finishes, part_way_front, runs_after, runs_ends, runs_part_way, runs_ready, runs_trans}
 
 -- ---- a block's start
 
@@ -27,125 +32,111 @@ start_forgets vars new forget is forgot = forgot ∙ ap (λ f. changed vars (beg
 pub start_keeps : (vars : Variables) (forget : Bool) → forget ≡ false → vars ≡ changed vars (beginning forget)
 start_keeps vars forget is = changed_none vars ∙ ap (λ f. changed vars (beginning f)) (sym is)
 
-module _ (text : List ℕ) (always : List Check) (forget : Bool) (parts : List Part) (place : ℕ) (old begun new : Variables)
-    (start : begun ≡ changed old (beginning forget)) where
-  begins : (told : List Fault) → Runs (run text always forget parts place old) (block text always parts place [] begun) old begun told told
-  begins told =
-      subst (λ v. Runs (run text always forget parts place old) (block text always parts place [] v) old begun told told) (sym start)
-      (runs_after (beginning forget) _ old begun told start)
-
-  pub run_ends : (told behind : List Fault) → Ends (block text always parts place [] begun) begun new told behind
-      → Ends (run text always forget parts place old) old new told behind
-  run_ends told behind ends = runs_ends _ _ old begun told told (begins told) new behind ends
-
-  pub run_part_way : IsPartWay (block text always parts place [] begun).changes begun new
-      → IsPartWay (run text always forget parts place old).changes old new
-  run_part_way left = runs_part_way _ _ old begun [] [] (begins []) new left
+pub run_finishes : (subject : Subject) (forget : Bool) (parts : List Part) (old : Progress) (vars : Variables)
+    (new : Progress) (result : Result (Unit {0}) NoMemory) → vars ≡ changed old.vars (beginning forget)
+    → Finishes (block_at subject parts [] (record old { vars = vars })) (record old { vars = vars }) new result
+    → Finishes (run_at subject forget parts old) old new result
+run_finishes subject forget parts old vars new result start ends =
+    finishes _ _ old (record old { vars = vars }) new result
+    (subst (λ v. Runs (run_at subject forget parts old) (block_at subject parts [] (record old { vars = v })) old
+    (record old { vars = vars })) (sym start)
+    (runs_after (beginning forget) _ old (record old { vars = vars }) start refl))
+    ends
 
 -- ---- what follows a block
 
-runs-followed : (end : End) (rest : Variables → End) (old new : Variables) (told behind : List Fault) → Ends end old new told behind
-    → Runs (followed end old rest) (rest new) old new told behind
-runs-followed end rest old new told behind ends = record {
+runs-followed : (end : End) (rest : Variables → End) (place : ℕ) (old new : Progress) → Ends end old new
+    → Runs (followed end old.vars rest) (rest new.vars) old (record new { place = place })
+runs-followed end rest place old new ends = record {
   done = end.changes;
   vars = ends.vars;
-  faults = ap (λ fs. fs ++ (rest new).faults) ends.faults ∙ append_assoc told end.faults (rest new).faults
-      ∙ ap (λ v. told ++ (end.faults ++ (rest v).faults)) ends.vars;
+  faults = ap (λ fs. fs ++ (rest new.vars).faults) ends.faults ∙ append_assoc old.faults end.faults (rest new.vars).faults
+      ∙ ap (λ v. old.faults ++ (end.faults ++ (rest v).faults)) ends.vars;
   changes = ap (λ v. end.changes ++ (rest v).changes) ends.vars;
 }
 
 -- ---- a label
 
--- what follows from what holds where a call succeeds, and what holds anyway
-pub if_ok : {T E : Type 0} {P Q : T → Type 0} (r : Result T E) → ((x : T) → P x → Q x) → IfOk r P → IfOk r Q
-if_ok (Ok x) follows holds = follows x holds
-if_ok (Err e) follows holds = tt
-
-pub on_err : {T E : Type 0} {P : Type 0} (r : Result T E) → P → OnErr r P
-on_err (Ok x) holds = tt
-on_err (Err e) holds = holds
-
-module _ (text : List ℕ) (always : List Check) (forget : Bool) (checks : List Check) (label : Check) (place : ℕ) (old new : Variables) where
+module _ (subject : Subject) (forget : Bool) (checks : List Check) (label : Check) (old : Progress) where
   -- one that isn't found
-  pub label_missing : (kind : FaultKind) (told behind : List Fault) → Err kind ≡ looked text old label 0 place
-      → behind ≡ told ++ record { directive = label.number; kind = NotFound place 0 } ∷ []
-      → Turns (up_to_label text always forget checks label place old) old old told behind None
-  label_missing kind told behind is one = λ rest.
-      subst (λ r. Ends (labelled_by label place r
-      (λ to. followed (run (take to text) always forget (parts_of false checks) place old) old (rest to))) old old told behind) is
-      (record { faults = one; vars = changed_none old })
-
-  pub label_stays : (rest : ℕ → Variables → End) → IsPartWay (up_to_label text always forget checks label place old rest).changes old old
-  label_stays rest = none_changed _ old
+  pub label_missed : (kind : FaultKind) (new : Progress) (result : Result Going NoMemory)
+      → Err kind ≡ looked subject.text.now old.vars label 0 old.place → IfOk result (λ turn. turn ≡ Over)
+      → OnOk result (new.faults ≡ old.faults ++ record { directive = label.number; kind = NotFound old.place 0 } ∷ [])
+      → new.vars ≡ old.vars → Turns (label_at subject forget checks label old) old new result
+  label_missed kind new (Ok turn) is over one same =
+      subst (λ t. Turns (label_at subject forget checks label old) old new (Ok t)) (sym over) (λ rest.
+      subst (λ r. Ends (labelled_by label old.place r
+      (λ to. followed (run (take to subject.text.now) subject.always.now forget (parts_of false checks) old.place old.vars) old.vars
+      (rest to))) old new) is
+      (record { faults = one; vars = same ∙ changed_none old.vars }))
+  label_missed kind new (Err want) is over one same = λ rest.
+      subst (λ v. IsPartWay (label_at subject forget checks label old rest).changes old.vars v) (sym same) (none_changed _ old.vars)
 
   -- one that is found
-  module _ (m : Met) (front : List ℕ) (met : Ok m ≡ looked text old label 0 place) (cut : front ≡ take m.span.to text) where
-    label-is : (rest : ℕ → Variables → End) → up_to_label text always forget checks label place old rest
-        ≡ followed (run front always forget (parts_of false checks) place old) old (rest m.span.to)
+  module _ (m : Met) (front : List ℕ) (new : Progress) (met : Ok m ≡ looked subject.text.now old.vars label 0 old.place)
+      (cut : front ≡ take m.span.to subject.text.now) where
+    abbrev end : End
+    end = run front subject.always.now forget (parts_of false checks) old.place old.vars
+
+    label-is : (rest : ℕ → Variables → End) → label_at subject forget checks label old rest ≡ followed end old.vars (rest m.span.to)
     label-is rest =
-        ap (λ r. labelled_by label place r
-        (λ to. followed (run (take to text) always forget (parts_of false checks) place old) old (rest to))) (sym met)
-        ∙ ap (λ t. followed (run t always forget (parts_of false checks) place old) old (rest m.span.to)) (sym cut)
+        ap (λ r. labelled_by label old.place r
+        (λ to. followed (run (take to subject.text.now) subject.always.now forget (parts_of false checks) old.place old.vars) old.vars
+        (rest to))) (sym met)
+        ∙ ap (λ t. followed (run t subject.always.now forget (parts_of false checks) old.place old.vars) old.vars (rest m.span.to))
+        (sym cut)
 
-    pub label_turns : (told behind : List Fault) → Ends (run front always forget (parts_of false checks) place old) old new told behind
-        → Turns (up_to_label text always forget checks label place old) old new told behind (Some m.span.to)
-    label_turns told behind ends = λ rest.
-        subst (λ w. Runs w (rest m.span.to new) old new told behind) (sym (label-is rest))
-        (runs-followed _ (rest m.span.to) old new told behind ends)
+    pub label_turns : Ends end old new
+        → Turns (label_at subject forget checks label old) old (record new { place = m.span.to }) (Ok On)
+    label_turns ends = λ rest.
+        subst (λ w. Runs w (rest m.span.to new.vars) old (record new { place = m.span.to })) (sym (label-is rest))
+        (runs-followed _ (rest m.span.to) m.span.to old new ends)
 
-    pub label_part_way : IsPartWay (run front always forget (parts_of false checks) place old).changes old new
-        → TurnsPartWay (up_to_label text always forget checks label place old) old new
-    label_part_way left = λ rest.
-        subst (λ w. IsPartWay w.changes old new) (sym (label-is rest)) (part_way_front _ _ old new left)
+    pub label_part_way : (result : Result Going NoMemory) → IsErr result → IsPartWay end.changes old.vars new.vars
+        → Turns (label_at subject forget checks label old) old new result
+    label_part_way (Ok turn) none left = absurd (false≢true none)
+    label_part_way (Err want) some left = λ rest.
+        subst (λ w. IsPartWay w.changes old.vars new.vars) (sym (label-is rest)) (part_way_front _ _ old.vars new.vars left)
 
 -- ---- one turn of the loop over labels
 
-module _ (text : List ℕ) (always : List Check) (scope forget : Bool) (rest : List Check) (place : ℕ) (vars : Variables) where
-  pub verdict_label : (at : ℕ) (label : Check) (front behind : List Check) → FirstLabel rest (Some at) → label ≡ get_or rest at label
-      → front ≡ take (at + 1) rest → behind ≡ drop (at + 1) rest
-      → verdict text always scope forget (blocks_of rest) place vars
-      ≡ up_to_label text always forget front label place vars (verdict text always scope scope (blocks_of behind))
+module _ (subject : Subject) (scope forget : Bool) (whole : End) (old at : Progress) (rest : List Check)
+    (on : Runs whole (verdict_at subject scope forget (blocks_of rest) at) old at) where
+  -- the last block
+  pub last_finishes : (new : Progress) (result : Result (Unit {0}) NoMemory) → FirstLabel rest None
+      → Finishes (run_at subject forget (parts_of true rest) at) at new result → Finishes whole old new result
   unfolding verdict
-  verdict_label at label front behind first here cut left =
-      ap (λ bs. verdict text always scope forget bs place vars) (first.1 label here)
-      ∙ ap (λ f. up_to_label text always forget f label place vars (verdict text always scope scope (blocks_of (drop (at + 1) rest)))) (sym cut)
-      ∙ ap (λ b. up_to_label text always forget front label place vars (verdict text always scope scope (blocks_of b))) (sym left)
+  last_finishes new result none ends =
+      finishes whole (run_at subject forget (parts_of true rest) at) old at new result
+      (subst (λ bs. Runs whole (verdict_at subject scope forget bs at) old at) none on) ends
 
-  pub verdict_last : FirstLabel rest None
-      → verdict text always scope forget (blocks_of rest) place vars ≡ run text always forget (parts_of true rest) place vars
-  unfolding verdict
-  verdict_last none = ap (λ bs. verdict text always scope forget bs place vars) none
+  -- one that a label ends
+  module _ (n : ℕ) (label : Check) (front behind : List Check) (new : Progress) (first : FirstLabel rest (Some n))
+      (here : label ≡ get_or rest n label) (cut : front ≡ take (n + 1) rest) (back : behind ≡ drop (n + 1) rest) where
+    left : ℕ → Variables → End
+    left = verdict subject.text.now subject.always.now scope scope (blocks_of behind)
 
--- the loop goes on behind a label, ends at one that is missing, or runs out of memory
-module _ (whole rest : End) (old vars new : Variables) (told faults : List Fault) (on : Runs whole rest old vars [] told)
-    (step : (ℕ → Variables → End) → End) (left : ℕ → Variables → End) (is : rest ≡ step left) where
-  on-step : Runs whole (step left) old vars [] told
-  on-step = subst (λ e. Runs whole e old vars [] told) is on
+    on-label : Runs whole (label_at subject forget front label at left) old at
+    unfolding verdict left
+    on-label =
+        subst (λ b. Runs whole (label_at subject forget front label at
+        (verdict subject.text.now subject.always.now scope scope (blocks_of b))) old at) (sym back)
+        (subst (λ f. Runs whole (label_at subject forget f label at
+        (verdict subject.text.now subject.always.now scope scope (blocks_of (drop (n + 1) rest)))) old at) (sym cut)
+        (subst (λ bs. Runs whole (verdict_at subject scope forget bs at) old at) (first.1 label here) on))
 
-  pub label_on : (to : ℕ) → Turns step vars new told faults (Some to) → Runs whole (left to new) old new [] faults
-  label_on to turns = runs_trans whole _ old vars [] told on-step (left to new) new faults (turns left)
+    pub label_on : Turns (label_at subject forget front label at) at new (Ok On)
+        → Runs whole (verdict_at subject scope scope (blocks_of behind) new) old new
+    unfolding left
+    label_on turns = runs_trans whole _ old at on-label (left new.place new.vars) new (turns left)
 
-  pub label_ready : (to : ℕ) (checks : List Check) → Turns step vars new told faults (Some to) → All (IsReady vars) checks
-      → All (IsReady new) checks
-  label_ready to checks turns each = runs_ready _ _ vars new told faults (turns left) checks each
+    pub label_ready : (checks : List Check) → Turns (label_at subject forget front label at) at new (Ok On)
+        → All (IsReady at.vars) checks → All (IsReady new.vars) checks
+    label_ready checks turns each = runs_ready _ _ at new (turns left) checks each
 
-  pub label_ends : Turns step vars new told faults None → Ends whole old new [] faults
-  label_ends turns = runs_ends whole _ old vars [] told on-step new faults (turns left)
+    pub label_over : Turns (label_at subject forget front label at) at new (Ok Over) → Ends whole old new
+    label_over turns = runs_ends whole _ old at on-label new (turns left)
 
-  pub label_left : TurnsPartWay step vars new → IsPartWay whole.changes old new
-  label_left turns = runs_part_way whole _ old vars [] told on-step new (turns left)
-
--- the last block
-module _ (text : List ℕ) (always : List Check) (scope forget : Bool) (rest : List Check) (place : ℕ) (vars : Variables)
-    (none : FirstLabel rest None) (whole : End) (old new : Variables) (told : List Fault) where
-  on-last : Runs whole (verdict text always scope forget (blocks_of rest) place vars) old vars [] told
-      → Runs whole (run text always forget (parts_of true rest) place vars) old vars [] told
-  on-last on = subst (λ e. Runs whole e old vars [] told) (verdict_last text always scope forget rest place vars none) on
-
-  pub last_ends : (faults : List Fault) → Runs whole (verdict text always scope forget (blocks_of rest) place vars) old vars [] told
-      → Ends (run text always forget (parts_of true rest) place vars) vars new told faults → Ends whole old new [] faults
-  last_ends faults on ends = runs_ends whole _ old vars [] told (on-last on) new faults ends
-
-  pub last_left : Runs whole (verdict text always scope forget (blocks_of rest) place vars) old vars [] told
-      → IsPartWay (run text always forget (parts_of true rest) place vars).changes vars new → IsPartWay whole.changes old new
-  last_left on left = runs_part_way whole _ old vars [] told (on-last on) new left
+    pub label_left : (want : NoMemory) → Turns (label_at subject forget front label at) at new (Err want)
+        → IsPartWay whole.changes old.vars new.vars
+    label_left want turns = runs_part_way whole _ old at on-label new.vars (turns left)

@@ -2,13 +2,13 @@
 -- After LLVM Command Guide, FileCheck: directives match in order, and a run of CHECK-DAG without a CHECK-NOT between is a
 -- group. Own rule: NOTs that are pending at the end of the check file are tested up to the end of the input.
 use Rattle.std.specs.Prelude.{◌≡◌, ℕ, Bool, if◌then◌else◌, List, [], ◌∷◌}
-use Rattle.pattern_parse.specs.declared.pattern.Kind.{Kind}
-use Rattle.pattern_parse.specs.declared.pattern.Kind.TheVariants.{Not, Dag}
 use Rattle.check_group.specs.Alone.{came}
 use Rattle.check_group.specs.Changes.{Variables}
 use Rattle.check_group.specs.Group.{group_at}
 use Rattle.check_group.specs.Matches.{Came}
 use Rattle.check_group.specs.declared.directive.Check.{Check}
+use Rattle.check_group.specs.declared.directive.Role.{Role}
+use Rattle.check_group.specs.declared.directive.Role.TheVariants.{Excluded, Unordered}
 
 -- what is to be found: a directive by itself, or a maximal run of DAGs
 pub data Positive : Type 0 where
@@ -26,15 +26,15 @@ abbrev pub joined : Check → List Part → List Part
 joined check (positive (dags checks) ∷ parts) = positive (dags (check ∷ checks)) ∷ parts
 joined check parts = positive (dags (check ∷ [])) ∷ parts
 
-abbrev pub part_before : Check → Kind → List Part → List Part
-part_before check Not parts = negative check ∷ parts
-part_before check Dag parts = joined check parts
-part_before check kind parts = positive (alone check) ∷ parts
+abbrev pub part_before : Check → Role → List Part → List Part
+part_before check Excluded parts = negative check ∷ parts
+part_before check Unordered parts = joined check parts
+part_before check role parts = positive (alone check) ∷ parts
 
 -- the parts of directives, before others
 unfoldable pub parts_before : List Check → List Part → List Part
 parts_before [] parts = parts
-parts_before (check ∷ checks) parts = part_before check check.kind (parts_before checks parts)
+parts_before (check ∷ checks) parts = part_before check check.demand.role (parts_before checks parts)
 
 -- the last block ends where the check file does
 abbrev pub ending : Bool → List Part
@@ -46,24 +46,24 @@ parts_of last checks = parts_before checks (ending last)
 
 -- what a positive part comes to at a place
 abbrev pub came_of : List ℕ → Variables → ℕ → Positive → Came
-came_of text vars place (alone check) = came text vars place check check.kind
+came_of text vars place (alone check) = came text vars place check
 came_of text vars place (dags checks) = group_at text place vars checks
 
 -- the positive part that directives are
-abbrev pub part_by : Kind → Check → List Check → Positive
-part_by Dag check checks = dags (check ∷ checks)
-part_by kind check checks = alone check
+abbrev pub part_by : Role → Check → List Check → Positive
+part_by Unordered check checks = dags (check ∷ checks)
+part_by role check checks = alone check
 
 abbrev pub part_of : List Check → Positive
 part_of [] = dags []
-part_of (check ∷ checks) = part_by check.kind check checks
+part_of (check ∷ checks) = part_by check.demand.role check checks
 
 -- a directive is a NOT, or a DAG
 abbrev pub IsNot : Check → Type 0
-IsNot check = check.kind ≡ Not
+IsNot check = check.demand.role ≡ Excluded
 
 abbrev pub IsDag : Check → Type 0
-IsDag check = check.kind ≡ Dag
+IsDag check = check.demand.role ≡ Unordered
 
 -- directives begin with one that isn't a NOT
 abbrev pub BeginsPositive : List Check → Type 0

@@ -1,59 +1,45 @@
 //! One block.
-ghost use Rattle.std.specs.Prelude.{◌≡◌, ◌≤◌, [], All, IfOk, OnErr, OnOk, length};
-ghost use Rattle.check_group.specs.Changes.{IsPartWay, IsReady};
-ghost use Rattle.check_scan.specs.Block.{block};
+ghost use Rattle.std.specs.Prelude.{◌≤◌, [], All, length};
+ghost use Rattle.check_group.specs.Changes.{IsReady};
 ghost use Rattle.check_scan.specs.Parts.{parts_of};
-ghost use Rattle.check_scan.specs.Runs.{Ends};
+ghost use Rattle.check_scan.specs.Runs.{Finishes, block_at};
 
 use crate::closing::{end_block, turn};
 use crate::parts::{is_not, part_length};
-use check_group::{Check, Fault};
+use crate::progress::{Going, Progress};
+use crate::subject::Subject;
+use check_group::Check;
 use ere_auto::Steps;
-use pattern_vars::Vars;
-use std::alloc::Global;
 use std::sync::ledger::Ledger;
-use tt_base::{Items, NoMemory};
+use tt_base::NoMemory;
 
-/// A block from a place on; the text ends where the block does. `always` are the implicit NOTs, and `last` says that the
-/// block ends where the check file does. Its faults are added.
+/// A block; the text ends where it does. `last` says that the block ends where the check file does.
 pub(crate) fn run_block<L: Ledger>(
-    alloc: Global,
+    subject: &Subject<'_>,
     last: bool,
-    always: &[Check],
     checks: &[Check],
-    text: &[u8],
-    place: usize,
-    vars: &mut Vars,
-    faults: &mut Items<Fault>,
+    progress: &mut Progress,
     steps: &mut Steps<L>,
 ) -> Result<(), NoMemory>
-    requires here { place ≤ length text.now }
-    requires always_ready { All (IsReady vars.old) always.now }
-    requires ready { All (IsReady vars.old) checks.now }
-    ensures ok { OnOk result (Ends (block text.now always.now (parts_of last checks.now) place [] vars.old)
-        vars.old vars.new faults.old faults.new) }
-    ensures part_way { OnErr result
-        (IsPartWay (block text.now always.now (parts_of last checks.now) place [] vars.old).changes vars.old vars.new) }
+    requires here { progress.old.place ≤ length subject.now.text.now }
+    requires always_ready { All (IsReady progress.old.vars) subject.now.always.now }
+    requires ready { All (IsReady progress.old.vars) checks.now }
+    ensures { Finishes (block_at subject.now (parts_of last checks.now) [] progress.old) progress.old progress.new result }
 {
     let mut since = checks;
     let mut nots = 0;
-    let mut from = place;
     loop {
         let (pending, rest) = since.split_at(nots);
         let Some((check, _)) = rest.split_first() else {
-            return end_block(
-                alloc, last, always, pending, text, from, vars, faults, steps,
-            );
+            return end_block(subject, last, pending, progress, steps);
         };
         if is_not(check) {
             nots += 1;
         } else {
             let (part, behind) = rest.split_at(part_length(rest));
-            match turn(
-                alloc, always, pending, part, text, from, vars, faults, steps,
-            ) {
-                Ok(Some(to)) => from = to,
-                Ok(None) => return Ok(()),
+            match turn(subject, pending, part, progress, steps) {
+                Ok(Going::On) => {}
+                Ok(Going::Over) => return Ok(()),
                 Err(NoMemory) => return Err(NoMemory),
             }
             since = behind;

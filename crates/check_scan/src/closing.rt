@@ -1,112 +1,124 @@
 //! What a match closes, and what the end of the check file does.
-ghost use Rattle.std.specs.Prelude.{◌≡◌, ◌≤◌, ◌<◌, ◌++◌, [], All, IfOk, IfSome, OnErr, OnOk, length};
+ghost use Rattle.std.specs.Prelude.{◌≡◌, ◌≤◌, ◌<◌, ◌++◌, All, IfOk, OnOk, length};
 ghost use Rattle.check_group.specs.Changes.{IsReady};
 ghost use Rattle.check_group.specs.Continues.{LiesIn};
-ghost use Rattle.check_scan.specs.Block.{block, closed, closed_by};
-ghost use Rattle.check_scan.specs.Parts.{came_of, ending, part_of};
-ghost use Rattle.check_scan.specs.Runs.{Turns, TurnsPartWay};
+ghost use Rattle.check_group.specs.Region.{region};
+ghost use Rattle.check_scan.specs.Block.{closed_by};
+ghost use Rattle.check_scan.specs.Parts.{ending, part_of};
+ghost use Rattle.check_scan.specs.Runs.{Finishes, Turns, block_at, part_at};
 
 use crate::parts::match_part;
+use crate::progress::{Going, Progress};
+use crate::subject::Subject;
 use check_group::{Check, Fault, Matched, test_region};
 use ere_auto::Steps;
-use pattern_vars::Vars;
-use std::alloc::Global;
+use pattern_scan::Context;
 use std::sync::ledger::Ledger;
-use tt_base::{Items, NoMemory};
+use tt_base::NoMemory;
 
-/// Closes the region before a match, or adds the fault of what didn't match. The block goes on from the end that is given.
+#[tactic(auto, using(crate::proofs::ClosingLemmas::stays))]
+/// Closes the region before a match, or adds the fault of what didn't match. The block goes on from the match's end.
 fn close<L: Ledger>(
-    alloc: Global,
-    always: &[Check],
+    subject: &Subject<'_>,
     pending: &[Check],
-    text: &[u8],
-    place: usize,
     outcome: Result<Matched, Fault>,
-    vars: &Vars,
-    faults: &mut Items<Fault>,
+    progress: &mut Progress,
     steps: &mut Steps<L>,
-) -> Result<Option<usize>, NoMemory>
-    requires here { IfOk outcome (LiesIn place (length text.now)) }
-    requires always_ready { All (IsReady vars.now) always.now }
-    requires ready { All (IsReady vars.now) pending.now }
-    ensures within { IfOk result (λ to. IfSome to (λ to. to ≤ length text.now)) }
-    ensures turns { IfOk result (Turns (closed_by text.now place vars.now (always.now ++ pending.now) outcome)
-        vars.now vars.now faults.old faults.new) }
+) -> Result<Going, NoMemory>
+    requires here { progress.old.place ≤ length subject.now.text.now }
+    requires lies { IfOk outcome (LiesIn progress.old.place (length subject.now.text.now)) }
+    requires always_ready { All (IsReady progress.old.vars) subject.now.always.now }
+    requires ready { All (IsReady progress.old.vars) pending.now }
+    ensures within { progress.new.place ≤ length subject.now.text.now }
+    ensures turns { Turns
+        (closed_by subject.now.text.now progress.old.place progress.old.vars (subject.now.always.now ++ pending.now) outcome)
+        progress.old progress.new result }
 {
     let m = match outcome {
         Ok(m) => m,
         Err(fault) => {
-            faults.push(fault)?;
-            return Ok(None);
+            progress.faults.push(fault)?;
+            return Ok(Going::Over);
         }
     };
-    let region = text.split_at(m.from).0;
-    let before = faults.len();
-    test_region(alloc, always, vars, region, place, faults, steps)?;
-    test_region(alloc, pending, vars, region, place, faults, steps)?;
-    if faults.len() == before {
-        Ok(Some(m.to))
+    let before = progress.faults.len();
+    let region = subject.text.split_at(m.from).0;
+    test_nots(subject, pending, region, progress, steps)?;
+    if progress.faults.len() == before {
+        progress.place = m.to;
+        Ok(Going::On)
     } else {
-        Ok(None)
+        Ok(Going::Over)
     }
 }
 
-/// A positive part at a place, with the NOTs that are pending before it. The block goes on from the end that is given.
+/// A positive part, with the NOTs that are pending before it.
 pub(crate) fn turn<L: Ledger>(
-    alloc: Global,
-    always: &[Check],
+    subject: &Subject<'_>,
     pending: &[Check],
     part: &[Check],
-    text: &[u8],
-    place: usize,
-    vars: &mut Vars,
-    faults: &mut Items<Fault>,
+    progress: &mut Progress,
     steps: &mut Steps<L>,
-) -> Result<Option<usize>, NoMemory>
-    requires here { place ≤ length text.now }
-    requires always_ready { All (IsReady vars.old) always.now }
-    requires pending_ready { All (IsReady vars.old) pending.now }
+) -> Result<Going, NoMemory>
+    requires here { progress.old.place ≤ length subject.now.text.now }
+    requires always_ready { All (IsReady progress.old.vars) subject.now.always.now }
+    requires pending_ready { All (IsReady progress.old.vars) pending.now }
     requires some { 0 < length part.now }
-    requires ready { All (IsReady vars.old) part.now }
-    ensures within { IfOk result (λ to. IfSome to (λ to. to ≤ length text.now)) }
-    ensures turns { IfOk result (Turns (closed text.now place vars.old (always.now ++ pending.now)
-        (came_of text.now vars.old place (part_of part.now))) vars.old vars.new faults.old faults.new) }
-    ensures part_way { OnErr result (TurnsPartWay (closed text.now place vars.old (always.now ++ pending.now)
-        (came_of text.now vars.old place (part_of part.now))) vars.old vars.new) }
+    requires ready { All (IsReady progress.old.vars) part.now }
+    ensures within { progress.new.place ≤ length subject.now.text.now }
+    ensures turns { Turns (part_at subject.now (subject.now.always.now ++ pending.now) (part_of part.now) progress.old)
+        progress.old progress.new result }
 {
-    let outcome = match match_part(alloc, part, text, place, vars, steps) {
-        Ok(outcome) => outcome,
-        Err(NoMemory) => return Err(NoMemory),
-    };
-    match close(
-        alloc, always, pending, text, place, outcome, vars, faults, steps,
-    ) {
-        Ok(to) => Ok(to),
+    let text = subject.text;
+    let place = progress.place;
+    match match_part(subject.alloc, part, text, place, &mut progress.vars, steps) {
+        Ok(outcome) => close(subject, pending, outcome, progress, steps),
         Err(NoMemory) => Err(NoMemory),
     }
 }
 
-/// Ends a block: at the end of the check file the NOTs that are pending are tested up to the end of the text.
-pub(crate) fn end_block<L: Ledger>(
-    alloc: Global,
-    last: bool,
-    always: &[Check],
+/// Tests the implicit NOTs and those that are pending in a slice from the place to its end.
+fn test_nots<L: Ledger>(
+    subject: &Subject<'_>,
     pending: &[Check],
-    text: &[u8],
-    place: usize,
-    vars: &Vars,
-    faults: &mut Items<Fault>,
+    slice: &[u8],
+    progress: &mut Progress,
     steps: &mut Steps<L>,
 ) -> Result<(), NoMemory>
-    requires here { place ≤ length text.now }
-    requires always_ready { All (IsReady vars.now) always.now }
-    requires ready { All (IsReady vars.now) pending.now }
-    ensures { OnOk result (faults.new
-        ≡ faults.old ++ (block text.now always.now (ending last) place pending.now vars.now).faults) }
+    requires here { progress.old.place ≤ length slice.now }
+    requires always_ready { All (IsReady progress.old.vars) subject.now.always.now }
+    requires ready { All (IsReady progress.old.vars) pending.now }
+    ensures told { OnOk result (progress.new.faults ≡ progress.old.faults
+        ++ region slice.now progress.old.place progress.old.vars (subject.now.always.now ++ pending.now)) }
+    ensures vars { progress.new.vars ≡ progress.old.vars }
+    ensures place { progress.new.place ≡ progress.old.place }
+{
+    let context = Context {
+        alloc: subject.alloc,
+        text: slice,
+        vars: &progress.vars,
+    };
+    let place = progress.place;
+    test_region(&context, subject.always, place, &mut progress.faults, steps)?;
+    test_region(&context, pending, place, &mut progress.faults, steps)
+}
+
+#[tactic(auto, using(crate::proofs::ClosingLemmas::ends_early))]
+/// Ends a block: at the end of the check file the NOTs that are pending are tested up to the end of the text.
+pub(crate) fn end_block<L: Ledger>(
+    subject: &Subject<'_>,
+    last: bool,
+    pending: &[Check],
+    progress: &mut Progress,
+    steps: &mut Steps<L>,
+) -> Result<(), NoMemory>
+    requires here { progress.old.place ≤ length subject.now.text.now }
+    requires always_ready { All (IsReady progress.old.vars) subject.now.always.now }
+    requires ready { All (IsReady progress.old.vars) pending.now }
+    ensures { Finishes (block_at subject.now (ending last) pending.now progress.old) progress.old progress.new result }
 {
     if last {
-        test_region(alloc, always, vars, text, place, faults, steps)?;
-        test_region(alloc, pending, vars, text, place, faults, steps)?;
+        test_nots(subject, pending, subject.text, progress, steps)?;
     }
     Ok(())
 }

@@ -1,26 +1,28 @@
 //! Blocks by labels.
-ghost use Rattle.std.specs.Prelude.{◌≡◌, ◌≤◌, ◌<◌, ◌+◌, ◌^◌, ◌++◌, ◌∷◌, ◌↔◌, [], All, None, IfOk, IfSome, IsTrue, OnErr, OnOk, length, get_or};
-ghost use Rattle.check_group.specs.Changes.{IsPartWay, IsReady, changed};
+ghost use Rattle.std.specs.Prelude.{◌≡◌, ◌≤◌, ◌<◌, ◌+◌, ◌^◌, ◌++◌, ◌∷◌, ◌↔◌, [], IfOk, IfSome, IsTrue, OnOk, All, length};
+ghost use Rattle.check_group.specs.Changes.{IsReady, changed};
 ghost use Rattle.check_group.specs.declared.fault.FaultKind.TheVariants.{NotFound};
 ghost use Rattle.check_scan.specs.Blocks.{FirstLabel, IsLabel};
 ghost use Rattle.check_scan.specs.Parts.{parts_of};
-ghost use Rattle.check_scan.specs.Runs.{Ends, Turns, TurnsPartWay};
-ghost use Rattle.check_scan.specs.Verdict.{beginning, run, up_to_label};
+ghost use Rattle.check_scan.specs.Runs.{Finishes, Turns, label_at, run_at};
+ghost use Rattle.check_scan.specs.Verdict.{beginning};
+ghost use Rattle.check_scan.specs.declared.progress.Going.TheVariants.{Over};
 
 use crate::block::run_block;
-use check_group::{Check, Fault, FaultKind, look};
+use crate::progress::{Going, Progress};
+use crate::subject::Subject;
+use check_group::{Check, FaultKind, Role, look};
 use ere_auto::Steps;
-use pattern_parse::Kind;
+use pattern_scan::Context;
 use pattern_vars::Vars;
-use std::alloc::Global;
 use std::sync::ledger::Ledger;
-use tt_base::{Items, NoMemory};
+use tt_base::NoMemory;
 
 /// Whether a directive is a label.
 fn is_label(check: &Check) -> bool
     ensures { IsTrue result ↔ IsLabel check.now }
 {
-    matches!(check.kind, Kind::Label)
+    matches!(check.demand.role, Role::Label)
 }
 
 /// Where the first block's label stands, if the first block isn't the last one.
@@ -51,89 +53,71 @@ fn begin_block(forget: bool, vars: &mut Vars)
 
 /// A block from its start on.
 pub(crate) fn run<L: Ledger>(
-    alloc: Global,
+    subject: &Subject<'_>,
     last: bool,
     forget: bool,
-    always: &[Check],
     checks: &[Check],
-    text: &[u8],
-    place: usize,
-    vars: &mut Vars,
-    faults: &mut Items<Fault>,
+    progress: &mut Progress,
     steps: &mut Steps<L>,
 ) -> Result<(), NoMemory>
-    requires here { place ≤ length text.now }
-    requires always_ready { All (IsReady vars.old) always.now }
-    requires ready { All (IsReady vars.old) checks.now }
-    ensures ok { OnOk result (Ends (run text.now always.now forget (parts_of last checks.now) place vars.old)
-        vars.old vars.new faults.old faults.new) }
-    ensures part_way { OnErr result
-        (IsPartWay (run text.now always.now forget (parts_of last checks.now) place vars.old).changes vars.old vars.new) }
+    requires here { progress.old.place ≤ length subject.now.text.now }
+    requires always_ready { All (IsReady progress.old.vars) subject.now.always.now }
+    requires ready { All (IsReady progress.old.vars) checks.now }
+    ensures { Finishes (run_at subject.now forget (parts_of last checks.now) progress.old) progress.old progress.new result }
 {
-    begin_block(forget, vars);
-    match run_block(
-        alloc, last, always, checks, text, place, vars, faults, steps,
-    ) {
-        Ok(()) => Ok(()),
-        Err(NoMemory) => Err(NoMemory),
-    }
+    begin_block(forget, &mut progress.vars);
+    run_block(subject, last, checks, progress, steps)
 }
 
 /// Tells that a label isn't found, whatever its search said.
-fn missing(
-    label: &Check,
-    place: usize,
-    _said: FaultKind,
-    faults: &mut Items<Fault>,
-) -> Result<Option<usize>, NoMemory>
-    ensures { IfOk result (λ to. (to ≡ None)
-        × (faults.new ≡ faults.old ++ record { directive = label.now.number; kind = NotFound place 0 } ∷ [])) }
+fn missing(label: &Check, _said: FaultKind, progress: &mut Progress) -> Result<Going, NoMemory>
+    ensures over { IfOk result (λ turn. turn ≡ Over) }
+    ensures told { OnOk result (progress.new.faults ≡ progress.old.faults
+        ++ record { directive = label.now.number; kind = NotFound progress.old.place 0 } ∷ []) }
+    ensures vars { progress.new.vars ≡ progress.old.vars }
+    ensures place { progress.new.place ≡ progress.old.place }
 {
     let kind = FaultKind::NotFound {
-        from: place,
+        from: progress.place,
         done: 0,
     };
-    faults.push(Fault {
-        directive: label.number,
-        kind,
-    })?;
-    Ok(None)
+    progress.faults.push(label.fault(kind))?;
+    Ok(Going::Over)
 }
 
+#[tactic(auto, using(crate::proofs::ClosingLemmas::stays))]
 /// A block that a label ends: the label is sought first, and the block's text ends where it does. What follows goes on from
 /// there. A label that isn't found is a fault, and the block doesn't run.
 pub(crate) fn run_labelled<L: Ledger>(
-    alloc: Global,
+    subject: &Subject<'_>,
     forget: bool,
-    always: &[Check],
     checks: &[Check],
     label: &Check,
-    text: &[u8],
-    place: usize,
-    vars: &mut Vars,
-    faults: &mut Items<Fault>,
+    progress: &mut Progress,
     steps: &mut Steps<L>,
-) -> Result<Option<usize>, NoMemory>
-    requires here { place ≤ length text.now }
-    requires label_ready { IsReady vars.old label.now }
-    requires always_ready { All (IsReady vars.old) always.now }
-    requires ready { All (IsReady vars.old) checks.now }
-    ensures within { IfOk result (λ to. IfSome to (λ to. to ≤ length text.now)) }
-    ensures turns { IfOk result (Turns (up_to_label text.now always.now forget checks.now label.now place vars.old)
-        vars.old vars.new faults.old faults.new) }
-    ensures part_way { OnErr result
-        (TurnsPartWay (up_to_label text.now always.now forget checks.now label.now place vars.old) vars.old vars.new) }
+) -> Result<Going, NoMemory>
+    requires here { progress.old.place ≤ length subject.now.text.now }
+    requires label_ready { IsReady progress.old.vars label.now }
+    requires always_ready { All (IsReady progress.old.vars) subject.now.always.now }
+    requires ready { All (IsReady progress.old.vars) checks.now }
+    ensures within { IfOk result (λ turn. progress.new.place ≤ length subject.now.text.now) }
+    ensures turns { Turns (label_at subject.now forget checks.now label.now progress.old) progress.old progress.new result }
 {
-    let to = match look(alloc, label, vars, text, 0, place, steps) {
-        Ok(Ok(m)) => m.span.to,
-        Ok(Err(kind)) => return missing(label, place, kind, faults),
-        Err(NoMemory) => return Err(NoMemory),
+    let context = Context {
+        alloc: subject.alloc,
+        text: subject.text,
+        vars: &progress.vars,
     };
-    let block = text.split_at(to).0;
-    match run(
-        alloc, false, forget, always, checks, block, place, vars, faults, steps,
-    ) {
-        Ok(()) => Ok(Some(to)),
-        Err(NoMemory) => Err(NoMemory),
-    }
+    let to = match look(&context, label, 0, progress.place, steps)? {
+        Ok(m) => m.span.to,
+        Err(kind) => return missing(label, kind, progress),
+    };
+    let block = Subject {
+        alloc: subject.alloc,
+        text: subject.text.split_at(to).0,
+        always: subject.always,
+    };
+    run(&block, false, forget, checks, progress, steps)?;
+    progress.place = to;
+    Ok(Going::On)
 }

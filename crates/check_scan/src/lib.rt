@@ -8,7 +8,10 @@ mod closing;
 mod labels;
 mod laws;
 mod parts;
+mod progress;
+mod subject;
 mod verdict;
 
 pub use laws::{each_directive_in_one_block, each_directive_once};
+pub use subject::Subject;
 pub use verdict::{Verdict, scan};

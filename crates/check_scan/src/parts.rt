@@ -5,9 +5,8 @@ ghost use Rattle.check_group.specs.Changes.{IsPartWay, IsReady};
 ghost use Rattle.check_group.specs.Continues.{Comes, LiesIn};
 ghost use Rattle.check_scan.specs.Parts.{BeginsOtherwise, BeginsPositive, IsDag, IsNot, came_of, part_of, parts_of, positive};
 
-use check_group::{Check, Fault, Matched, match_alone, place_group};
+use check_group::{Check, Fault, Matched, Role, match_alone, place_group};
 use ere_auto::Steps;
-use pattern_parse::Kind;
 use pattern_vars::Vars;
 use std::alloc::Global;
 use std::sync::ledger::Ledger;
@@ -17,14 +16,14 @@ use tt_base::NoMemory;
 pub(crate) fn is_not(check: &Check) -> bool
     ensures { IsTrue result ↔ IsNot check.now }
 {
-    matches!(check.kind, Kind::Not)
+    matches!(check.demand.role, Role::Excluded)
 }
 
 /// Whether a directive is a DAG.
 fn is_dag(check: &Check) -> bool
     ensures { IsTrue result ↔ IsDag check.now }
 {
-    matches!(check.kind, Kind::Dag)
+    matches!(check.demand.role, Role::Unordered)
 }
 
 /// How many DAGs stand in front.

@@ -1,15 +1,18 @@
 //! The verdict of directives on an input.
-ghost use Rattle.std.specs.Prelude.{◌≡◌, ◌≤◌, ◌++◌, [], All, Contains, IfOk, OnErr, length};
-ghost use Rattle.check_group.specs.Changes.{IsPartWay, IsReady};
+ghost use Rattle.std.specs.Prelude.{◌≡◌, ◌≤◌, ◌++◌, All, Contains, IfOk, OnErr, OnOk, false, length};
+ghost use Rattle.check_group.specs.Changes.{IsPartWay, IsReady, changed};
 ghost use Rattle.check_group.specs.Lies.{FaultLies, numbers_of};
-ghost use Rattle.check_scan.specs.Runs.{Ends};
+ghost use Rattle.check_scan.specs.Blocks.{blocks_of};
+ghost use Rattle.check_scan.specs.Runs.{Finishes, verdict_at};
 ghost use Rattle.check_scan.specs.Verdict.{scan};
 
 use crate::labels::{next_label, run, run_labelled};
+use crate::progress::{Going, Progress};
+use crate::subject::Subject;
 use check_group::{Check, Fault};
 use ere_auto::Steps;
 use pattern_vars::Vars;
-use std::alloc::Global;
+use std::mem::replace;
 use std::sync::ledger::Ledger;
 use tt_base::{Items, NoMemory};
 
@@ -19,85 +22,69 @@ pub struct Verdict {
     pub faults: Items<Fault>,
 }
 
-/// The blocks of a check file, one behind the other.
+/// The blocks of directives, one behind the other.
 fn run_blocks<L: Ledger>(
-    alloc: Global,
+    subject: &Subject<'_>,
     checks: &[Check],
-    always: &[Check],
     var_scope: bool,
-    text: &[u8],
-    vars: &mut Vars,
+    progress: &mut Progress,
     steps: &mut Steps<L>,
-) -> Result<Verdict, NoMemory>
-    requires always_ready { All (IsReady vars.old) always.now }
-    requires ready { All (IsReady vars.old) checks.now }
-    ensures verdict { IfOk result (λ verdict.
-        Ends (scan checks.now always.now var_scope text.now vars.old) vars.old vars.new [] verdict.faults) }
-    ensures part_way { OnErr result
-        (IsPartWay (scan checks.now always.now var_scope text.now vars.old).changes vars.old vars.new) }
+) -> Result<(), NoMemory>
+    requires here { progress.old.place ≤ length subject.now.text.now }
+    requires always_ready { All (IsReady progress.old.vars) subject.now.always.now }
+    requires ready { All (IsReady progress.old.vars) checks.now }
+    ensures { Finishes (verdict_at subject.now var_scope false (blocks_of checks.now) progress.old) progress.old progress.new result }
 {
-    let mut faults = Items::new(alloc);
     let mut rest = checks;
-    let mut place = 0;
     let mut forget = false;
     while let Some(at) = next_label(rest) {
         let (block, behind) = rest.split_at(at + 1);
-        match run_labelled(
-            alloc,
-            forget,
-            always,
-            block,
-            &rest[at],
-            text,
-            place,
-            vars,
-            &mut faults,
-            steps,
-        ) {
-            Ok(Some(to)) => place = to,
-            Ok(None) => return Ok(Verdict { faults }),
+        match run_labelled(subject, forget, block, &rest[at], progress, steps) {
+            Ok(Going::On) => {}
+            Ok(Going::Over) => return Ok(()),
             Err(NoMemory) => return Err(NoMemory),
         }
         rest = behind;
         forget = var_scope;
     }
-    match run(
-        alloc,
-        true,
-        forget,
-        always,
-        rest,
-        text,
-        place,
-        vars,
-        &mut faults,
-        steps,
-    ) {
-        Ok(()) => Ok(Verdict { faults }),
-        Err(NoMemory) => Err(NoMemory),
-    }
+    run(subject, true, forget, rest, progress, steps)
 }
 
-/// What directives find amiss in a text. `always` are the implicit NOTs, and with `var_scope` each block but the first
-/// begins by forgetting the variables whose names don't begin with `$`. The variables are left as the matches bound them;
-/// where memory runs out, as those did that were made up to there.
+/// What directives find amiss in a text. With `var_scope` each block but the first begins by forgetting the variables whose
+/// names don't begin with `$`. The variables are left as the matches bound them; where memory runs out, as those did that
+/// were made up to there.
 pub fn scan<L: Ledger>(
-    alloc: Global,
+    subject: &Subject<'_>,
     checks: &[Check],
-    always: &[Check],
     var_scope: bool,
-    text: &[u8],
     vars: &mut Vars,
     steps: &mut Steps<L>,
 ) -> Result<Verdict, NoMemory>
-    requires always_ready { All (IsReady vars.old) always.now }
+    requires always_ready { All (IsReady vars.old) subject.now.always.now }
     requires ready { All (IsReady vars.old) checks.now }
     ensures verdict { IfOk result (λ verdict.
-        Ends (scan checks.now always.now var_scope text.now vars.old) vars.old vars.new [] verdict.faults) }
+        verdict.faults ≡ (scan checks.now subject.now.always.now var_scope subject.now.text.now vars.old).faults) }
+    ensures vars { OnOk result
+        (vars.new ≡ changed vars.old (scan checks.now subject.now.always.now var_scope subject.now.text.now vars.old).changes) }
     ensures lie { IfOk result (λ verdict.
-        All (FaultLies (Contains (numbers_of (checks.now ++ always.now))) (length text.now)) verdict.faults) }
+        All (FaultLies (Contains (numbers_of (checks.now ++ subject.now.always.now))) (length subject.now.text.now)) verdict.faults) }
     ensures part_way { OnErr result
-        (IsPartWay (scan checks.now always.now var_scope text.now vars.old).changes vars.old vars.new) }
+        (IsPartWay (scan checks.now subject.now.always.now var_scope subject.now.text.now vars.old).changes vars.old vars.new) }
 {
-    run_blocks(alloc, checks, always, var_scope, text, vars, steps)
+    let mut progress = Progress {
+        place: 0,
+        vars: replace(vars, Vars::new(subject.alloc, &[])?),
+        faults: Items::new(subject.alloc),
+    };
+    let ran = run_blocks(subject, checks, var_scope, &mut progress, steps);
+    let Progress {
+        vars: left,
+        faults,
+        ..
+    } = progress;
+    *vars = left;
+    match ran {
+        Ok(()) => Ok(Verdict { faults }),
+        Err(NoMemory) => Err(NoMemory),
+    }
 }

@@ -9,7 +9,7 @@ ghost use Rattle.check_program.specs.Ready.{IsScannable};
 use check_group::{Check, Fault, FaultKind};
 use check_lines::{Directive, read_checks};
 use check_program::{CompileFail, CompileOpts, Program, compile};
-use check_scan::{Verdict, scan};
+use check_scan::{Subject, Verdict, scan};
 use define_words::start_vars;
 use ere_auto::Steps;
 use pattern_parse::{Formats, Frame};
@@ -117,11 +117,9 @@ fn program_of(
 }
 
 fn scanned<L: Ledger>(
-    alloc: Global,
+    subject: &Subject<'_>,
     checks: &[Check],
-    always: &[Check],
     scope: bool,
-    text: &[u8],
     vars: &mut Vars,
     blank: Blank,
 ) -> Result<Verdict, NoMemory>
@@ -129,10 +127,10 @@ fn scanned<L: Ledger>(
     requires parts { blank.parts ≡ L.parts }
     requires some_part { 0 < blank.parts }
     requires ready { All (IsReady vars.old) checks.now }
-    requires always_ready { All (IsReady vars.old) always.now }
+    requires always_ready { All (IsReady vars.old) subject.now.always.now }
 {
     let mut steps = Steps::<L>::new(blank);
-    scan(alloc, checks, always, scope, text, vars, &mut steps)
+    scan(subject, checks, scope, vars, &mut steps)
 }
 
 /// The faults of a program, and the variables that it leaves.
@@ -151,15 +149,13 @@ fn verdict_of(
         names,
     } = program;
     let mut vars = start_vars(alloc, names, given_of(alloc, defined)?)?;
-    let verdict = scanned::<Brand>(
+    let subject = Subject {
         alloc,
-        checks.as_slice(),
-        always.as_slice(),
-        scope,
         text,
-        &mut vars,
-        Blank::new(1),
-    )?;
+        always: always.as_slice(),
+    };
+    let blank = Blank::new(1);
+    let verdict = scanned::<Brand>(&subject, checks.as_slice(), scope, &mut vars, blank)?;
     Ok((verdict, vars))
 }
 

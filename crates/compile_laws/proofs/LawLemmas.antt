@@ -43,7 +43,7 @@ module _ (opts : CompileOpts) where
       is.read again.read in
       λ i. record {
         number = (is.number ∙ sym again.number) i;
-        kind = (is.kind ∙ sym again.kind) i;
+        demand = (is.demand ∙ sym again.demand) i;
         line = (is.line ∙ sym again.line) i;
         pieces = same i;
         frame = (is.frame ∙ sym again.frame) i;

@@ -1,18 +1,18 @@
 -- What the bodies of a check file come to is one thing. Own rule.
 use Rattle.std.specs.Prelude.{◌≡◌, ℕ, Bool, List, map}
 use Rattle.check_group.specs.declared.directive.Check.{Check}
+use Rattle.check_group.specs.declared.directive.Demand.{Demand}
 use Rattle.check_program.specs.Compiled.{AreChecks, Body, Formats, IsRefused}
 use Rattle.check_program.specs.declared.program.CompileOpts.{CompileOpts}
 use Rattle.pattern_parse.specs.Item.{Item}
 use Rattle.pattern_parse.specs.PieceView.{items_view}
 use Rattle.pattern_parse.specs.declared.fault.PatFault.{PatFault}
 use Rattle.pattern_parse.specs.declared.pattern.Frame.{Frame}
-use Rattle.pattern_parse.specs.declared.pattern.Kind.{Kind}
 
 -- what scanning looks at in a directive
 pub record Seen : Type 0 where
   pub number : ℕ
-  pub kind : Kind
+  pub demand : Demand
   pub line : ℕ
   pub pieces : List Item
   pub frame : Frame
@@ -21,7 +21,7 @@ pub record Seen : Type 0 where
 abbrev pub seen : Check → Seen
 seen check = record {
   number = check.number;
-  kind = check.kind;
+  demand = check.demand;
   line = check.line;
   pieces = items_view check.pattern.pieces;
   frame = check.pattern.frame;

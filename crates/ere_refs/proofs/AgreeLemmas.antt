@@ -1,7 +1,7 @@
 -- Captures that agree on what is referred to: the same way derives the same part from either, and they agree behind it.
 -- And what a derivation leaves as it was: groups that don't stand in its tree. By induction on the tree.
 -- The hard one is `alike`: each setting of a group is the same in both, and each reference reads what is the same.
-use Rattle.std.proofs.Common.{◌≡◌, ◌≢◌, ℕ, zero, suc, ◌==◌, ◌||◌, Bool, true, false, cond, Some, List, refl, sym, ap, ◌∙◌, subst, inl, inr, arith, true≢false, eq-eqb}
+use Rattle.std.proofs.Common.{◌≡◌, ◌≢◌, ℕ, zero, suc, ◌==◌, ◌||◌, false, Some, List, refl, sym, ap, ◌∙◌, subst, inl, inr, true≢false, eq-eqb}
 use Rattle.std.proofs.lemmas.Bool.{cases_eq, ne_eqb}
 use Rattle.ere_tree.proofs.FreeLemmas.{no_left, no_right}
 use Rattle.std.proofs.lemmas.Option.{none-some}

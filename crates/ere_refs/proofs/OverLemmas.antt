@@ -1,7 +1,7 @@
 -- What groups hold behind a part, form by form of the expression: what is answered of its parts tells it of the whole.
 -- Along parts each end of the first one is tried from the greatest down; what was tried leads nowhere (`Tried`).
 -- The hard one is `parts_found`, by `row_best`.
-use Rattle.std.proofs.Common.{◌≡◌, ℕ, zero, suc, ◌+◌, ◌-◌, ◌<◌, ◌≤◌, ◌&&◌, Bool, true, false, IsTrue, Option, Some, None, List, [], ◌∷◌, Vec, Global, length, map, get_or, refl, sym, ap, ◌∙◌, subst, inl, inr, arith, true≢false, eq-eqb}
+use Rattle.std.proofs.Common.{◌≡◌, ℕ, zero, suc, ◌+◌, ◌-◌, ◌<◌, ◌≤◌, ◌&&◌, Bool, true, false, Option, Some, None, List, [], ◌∷◌, Vec, Global, length, map, get_or, refl, sym, ap, ◌∙◌, subst, inl, inr, arith, true≢false, eq-eqb}
 use Rattle.std.specs.Prelude.{not}
 use Rattle.std.proofs.lemmas.Bool.{cases_lt}
 use Rattle.std.proofs.lemmas.Option.{none-some}
@@ -39,6 +39,10 @@ both_right false b e = absurd (true≢false (sym e))
 pub not_true : (a : Bool) → not a ≡ true → a ≡ false
 not_true false e = refl
 not_true true e = absurd (true≢false (sym e))
+
+pub not_so : (a : Bool) → (a ≡ true → ⊥) → a ≡ false
+not_so false e = refl
+not_so true e = absurd (e refl)
 
 -- ONE EXPRESSION
 
@@ -167,16 +171,37 @@ only_end only m nothing same = true≢false (sym (eq-eqb only m (sym same)) ∙ 
 -- a place that is no end
 pub not_end : (s : List ℕ) (t : Tree) (start i j count : ℕ) (old : List (Option Cap)) (ends : Ends)
     → HasEnds s t start i j count old ends → may_be ends j ≡ false → GoesOver s t start i j count old None
-not_end s t start i j count old (Held seen) are nothing c is v d h =
+not_end s t start i j count old (Held seen last) are nothing c is v d h =
     true≢false (sym ((are.2.1 j).1 ((v, c, d, h), are.1)) ∙ nothing)
 not_end s t start i j count old (Only only) are nothing c is v d h = only_end only j nothing (are.2 c is v j d h)
 not_end s t start i j count old Any are nothing c is v d h = true≢false nothing
 
+-- nothing over the first part
+pub first_none : (s : List ℕ) (t : Tree) (ts : Trees) (start i j count : ℕ) (old : List (Option Cap)) (m : ℕ)
+    → GoesOver s t start i m count old None → (c : Captures) → old ≡ caps_of start c count → NoneAt s t ts i m j c
+first_none s t ts start i j count old m first c is v vs e d h g = first c is v e h
+
+-- places that are no ends need no try
+pub tried_past : (s : List ℕ) (t : Tree) (ts : Trees) (start i j count : ℕ) (old : List (Option Cap)) (ends : Ends)
+    (gone more : ℕ) → AreEnds s t start i j count old ends → Tried s t ts start i j count old gone
+    → ((k : ℕ) → k + gone ≤ j → j < k + more → may_be ends k ≡ true → ⊥) → Tried s t ts start i j count old more
+tried_past s t ts start i j count old ends gone more are before past c is k low high =
+    elim (cases_lt j (k + gone)) [
+      | inl tried ↦ before c is k tried high
+      | inr left ↦
+          first_none s t ts start i j count old k
+          (not_end s t start i k count old ends (j, high, are) (not_so (may_be ends k) (past k left low))) c is
+    ]
+
+pub tried_none : (s : List ℕ) (t : Tree) (ts : Trees) (start i j count : ℕ) (old : List (Option Cap))
+    → Tried s t ts start i j count old 0
+tried_none s t ts start i j count old c is k low high = absurd (omega (arith, low, high))
+
 -- an end of an expression without references
-pub held_end : (s : List ℕ) (t : Tree) (start i j count : ℕ) (old : List (Option Cap)) (ends : Ends) (seen : Seen)
-    → HasEnds s t start i j count old ends → ends ≡ Held seen → may_be ends j ≡ true
+pub held_end : (s : List ℕ) (t : Tree) (start i j count : ℕ) (old : List (Option Cap)) (ends : Ends) (seen : Seen) (last : ℕ)
+    → HasEnds s t start i j count old ends → ends ≡ Held seen last → may_be ends j ≡ true
     → (has_refs t ≡ false) × Spans s t i j
-held_end s t start i j count old ends seen are is holds =
+held_end s t start i j count old ends seen last are is holds =
     let known = subst (HasEnds s t start i j count old) is are in
     (known.2.0, ((known.2.1 j).0 (sym (ap (λ e. may_be e j) is) ∙ holds)).0)
 
@@ -206,11 +231,6 @@ back_nowhere s n fold start i old end unset c is (inside v) k d h = absurd h
 back_nowhere s n fold start i old end unset c is (parts vs) k d h = absurd h
 back_nowhere s n fold start i old end unset c is (members vs) k d h = absurd h
 back_nowhere s n fold start i old end unset c is (chosen m v) k d h = absurd h
-
--- nothing over the first part
-pub first_none : (s : List ℕ) (t : Tree) (ts : Trees) (start i j count : ℕ) (old : List (Option Cap)) (m : ℕ)
-    → GoesOver s t start i m count old None → (c : Captures) → old ≡ caps_of start c count → NoneAt s t ts i m j c
-first_none s t ts start i j count old m first c is v vs e d h g = first c is v e h
 
 -- nothing behind it
 pub rest_none : (s : List ℕ) (t : Tree) (ts : Trees) (start i j count : ℕ) (old : List (Option Cap)) (m : ℕ)

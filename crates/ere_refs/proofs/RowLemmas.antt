@@ -1,15 +1,15 @@
 -- Parts one behind the other, from captures: the way whose first part ends last, goes on at all, and is best there, is best.
 -- By what is tried before: at each greater end nothing goes on. The hard one is `row_best`: at the same end another way of
 -- the first part may leave other captures, but the rest goes on from them alike.
-use Rattle.std.proofs.Common.{◌≡◌, ℕ, false, ◌<◌, ◌≤◌, List, refl, sym, ap, ◌∙◌, subst, inl, inr, arith}
+use Rattle.std.proofs.Common.{◌≡◌, ℕ, false, ◌<◌, List, refl, sym, ◌∙◌, subst, inl, inr, arith}
 use Rattle.std.proofs.lemmas.Bool.{cases_lt}
 use Rattle.std.specs.Cmp.{nat_cmp_is}
-use Rattle.std.specs.Ordering.{nat_cmp, ordering_then}
+use Rattle.std.specs.Ordering.{ordering_then}
 use Rattle.std.specs.declared.cmp.Ordering.{Ordering}
 use Rattle.std.specs.declared.cmp.Ordering.TheVariants.{Less, Equal, Greater}
 use Rattle.ere_captures.proofs.BestLemmas.{equal_not_less}
 use Rattle.ere_refs.specs.Over.{AreBestFrom, DeriveNone, IsBestFrom}
-use Rattle.ere_refs.specs.Refers.{Agree, OneRefers}
+use Rattle.ere_refs.specs.Refers.{OneRefers}
 use Rattle.ere_refs.specs.Settled.{read_inside}
 use Rattle.ere_refs.proofs.AgreeLemmas.{all_alike, leaves_same}
 use Rattle.ere_tree.proofs.PreferenceLemmas.{greater_not_less}

@@ -57,17 +57,23 @@ RefersTo s start i j number fold caps answer =
 
 -- whether a part can end at a place
 abbrev pub may_be : Ends → ℕ → Bool
-may_be (Held seen) end = is_held seen end
+may_be (Held seen last) end = is_held seen end
 may_be (Only only) end = only == end
 may_be Any end = true
 
 -- the tree's ends from i, up to j, are among these
 abbrev pub AreEnds : List ℕ → Tree → ℕ → ℕ → ℕ → ℕ → List (Option Cap) → Ends → Type 0
-AreEnds s t start i j count old (Held seen) =
+AreEnds s t start i j count old (Held seen last) =
     (has_refs t ≡ false) × ((q : ℕ) → IsTrue (is_held seen q) ↔ (Spans s t i q × (q ≤ j)))
 AreEnds s t start i j count old (Only end) =
     (c : Captures) → old ≡ caps_of start c count → (w : Way) (k : ℕ) (d : Captures) → Derives s t w i k c d → k ≡ end
 AreEnds s t start i j count old Any = Unit {0}
+
+-- none of them lies beyond the last one, where it is told
+abbrev pub IsLast : Ends → Type 0
+IsLast (Held seen last) = (q : ℕ) → IsTrue (is_held seen q) → q ≤ last
+IsLast (Only only) = Unit {0}
+IsLast Any = Unit {0}
 
 -- the same where the ends are known up to a place from j on
 abbrev pub HasEnds : List ℕ → Tree → ℕ → ℕ → ℕ → ℕ → List (Option Cap) → Ends → Type 0

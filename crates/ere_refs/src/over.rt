@@ -96,9 +96,10 @@ fn over_parts(
         }
         return Ok(Some(Vec::from_slice(tries.alloc, caps)?));
     };
-    tries.take(part.to - part.from + 1)?;
     let ends = ends_of(tries.alloc, first, text, part, caps)?;
-    for back in 0..part.to - part.from + 1 {
+    let (low, high) = ends.between(part.from, part.to);
+    tries.take(high - low)?;
+    for back in part.to + 1 - high..part.to + 1 - low {
         let to = part.to - back;
         if let Some(held) = over_first(first, &ends, text, Part { to, ..part }, caps, tries)? {
             let behind = Part { from: to, ..part };
@@ -135,7 +136,7 @@ fn over_first(
     }
     tries.take(1)?;
     match ends {
-        Ends::Held(_) => Ok(Some(held_behind(tries.alloc, ere, text, part, caps)?)),
+        Ends::Held(_, _) => Ok(Some(held_behind(tries.alloc, ere, text, part, caps)?)),
         Ends::Only(_) | Ends::Any => over(ere, text, part, caps, tries),
     }
 }

@@ -2,7 +2,7 @@
 use std::alloc::{AllocError, Global};
 
 /// How many ends of parts one search may look at. One that wants more is given up as for want of memory.
-pub const MAX_TRIES: usize = 10_000_000;
+pub const MAX_TRIES: usize = 2_000_000;
 
 /// How many ends a search may still look at.
 #[derive(Drop, Debug)]

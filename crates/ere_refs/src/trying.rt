@@ -42,7 +42,7 @@ pub fn try_from(
     let none = none_held(tries.alloc, ere.groups())?;
     for back in 0..span.to - span.from + 1 {
         let to = span.to - back;
-        if ends.has(to) {
+        if ends.seen.has(to) {
             tries.take(1)?;
             let part = Part {
                 start,

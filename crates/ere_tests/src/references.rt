@@ -50,9 +50,9 @@ fn told_among(alloc: Global, pattern: &str, count: usize) -> Result<String, Allo
 
 #[test]
 fn tries_end_at_their_limit(rt: HostRuntime) -> Result<(), AllocError> {
-    let below = told_among(rt.alloc(), r"(a*)\1b", 8_000)?;
-    assert!(rt; below.as_str() == "0-8001 0-4000", "{below}");
-    let above = told_among(rt.alloc(), r"(a*)\1b", 10_000)?;
+    let below = told_among(rt.alloc(), r"(a*)(\1)b", 2_000)?;
+    assert!(rt; below.as_str() == "0-2001 0-1000 1000-2000", "{below}");
+    let above = told_among(rt.alloc(), r"(a*)(\1)b", 4_000)?;
     assert!(rt; above.as_str() == "no memory", "{above}");
     Ok(())
 }

@@ -2,9 +2,12 @@
 //! All that it says and how it ends is `filecheck_tool`'s; here are the real words, files and streams.
 #![tactic(auto)]
 
+mod pages;
+
+use crate::pages::{HELP, VERSION};
 use filecheck_tool::filecheck_run;
 use std::process::ExitCode;
-use tt_main::{no_words, words};
+use tt_main::{Page, no_words, page_of, show_page, words};
 use tt_real::{StdErr, StdFiles, StdOut, StdSource};
 
 fn main(rt: HostRuntime) -> ExitCode {
@@ -20,6 +23,15 @@ fn main(rt: HostRuntime) -> ExitCode {
             ));
         }
     };
+    if let Some(page) = page_of(words.as_slice()) {
+        let text = match page {
+            Page::Help => HELP,
+            Page::Version => VERSION,
+        };
+        let mut out = StdOut::new(rt.stdout());
+        let fault = b"filecheck: error: cannot write\n";
+        return ExitCode::from(show_page(text.as_bytes(), fault, &mut out, &mut err));
+    }
     let mut files = StdFiles::new(&rt);
     let mut input = StdSource::new(rt.stdin());
     let mut out = StdOut::new(rt.stdout());

@@ -1,19 +1,22 @@
 -- What a run of filecheck does to the objects that it is given.
 -- Own rule: the check file is read where the words are accepted, and the input where the check file was accepted; with
 -- --generate both are made, and nothing is read.
-use Rattle.std.specs.Prelude.{◌≡◌, ℕ, List, Option, Some, None, Result, Ok, Err}
+use Rattle.std.specs.Prelude.{◌≡◌, ℕ, ◌^◌, List, Option, Some, None, Result, Ok, Err}
 use Rattle.filecheck_words.specs.declared.checking.Input.{Input}
 use Rattle.filecheck_words.specs.declared.checking.Input.TheVariants.{Standard, Named}
 use Rattle.filecheck_words.specs.declared.fault.WordsFault.{WordsFault}
 use Rattle.filecheck_words.specs.declared.job.Job.{Job}
 use Rattle.generator.specs.Generated.{checks_text, input_text}
-use Rattle.tt_run.specs.Run.{Files, FileRead, FilesRest, Source, SourceRead, SourceRests, StaysSteady}
+use Rattle.tt_outside.specs.Faults.{Rose}
+use Rattle.tt_run.specs.Run.{Files, FileRead, FilesRest, Source, SourceRead, SourceRests, StaysSteady, files}
+use Rattle.tt_run.specs.declared.answer.Answer.{Answer}
 use Rattle.tt_run.specs.declared.reading.Reading.{Reading}
 use Rattle.tt_run.specs.declared.reading.Reading.TheVariants.{Whole}
 use Rattle.filecheck_tool.specs.Program.{IsProgram}
 use Rattle.filecheck_tool.specs.Start.{start_of}
 use Rattle.filecheck_tool.specs.Verdict.{verdict_read}
 use Rattle.filecheck_tool.specs.declared.program.Program.{Program}
+use Rattle.filecheck_messages.specs.Answer.{answer_to}
 use Rattle.filecheck_messages.specs.declared.refusal.Refusal.TheVariants.{Words}
 use Rattle.filecheck_messages.specs.declared.refusal.Stop.{Stop}
 use Rattle.filecheck_messages.specs.declared.refusal.Stop.TheVariants.{Refused}
@@ -55,3 +58,21 @@ OutcomeFrom files input limit (Ok program) outcome =
     (read : Reading) × InputRead files input limit program.file.made program.file.asked.input read
     × (outcome ≡ verdict_read program read)
 OutcomeFrom files input limit (Err stop) outcome = FilesRest files × SourceRests input × (outcome ≡ Err stop)
+
+-- from words to what is told: the check file is read within its limit, and then the input within its own
+abbrev pub OutcomeOf : {F : Type 0} → (F → Option (List ℕ → Option (List ℕ))) → (F → Type 0) → (F → ℕ) → F → F → Source
+    → Result Job WordsFault → Result Report Stop → Type 0
+OutcomeOf {F} held steady faults old new input job outcome =
+    (middle : F) × (program : Result Program Stop)
+    × ProgramFrom (files held steady faults old middle) (2 ^ 24) job program × IsKept held steady old middle
+    × OutcomeFrom (files held steady faults middle new) input (2 ^ 26) program outcome
+
+-- and the answer to it
+abbrev pub AnswerOf : {F : Type 0} → (F → Option (List ℕ → Option (List ℕ))) → (F → Type 0) → (F → ℕ) → F → F → Source
+    → Result Job WordsFault → Answer → Type 0
+AnswerOf held steady faults old new input job answer =
+    (outcome : Result Report Stop) × OutcomeOf held steady faults old new input job outcome × (answer ≡ answer_to outcome)
+
+-- an object counted a fault from one moment to another
+abbrev pub Failed : {S : Type 0} → (S → ℕ) → S → S → Type 0
+Failed faults old new = Rose (faults old) (faults new)

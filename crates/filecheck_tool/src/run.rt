@@ -1,19 +1,15 @@
 //! The top call.
 ghost use Rattle.std.specs.Prelude.{◌≡◌, ◌⊎◌, ◌≤◌, ◌<◌, ◌≢◌, ◌+◌, ◌^◌, true, IfOk, IsErr, List, Result};
-ghost use Rattle.tt_outside.specs.Faults.{Rose};
 ghost use Rattle.tt_outside.specs.Transfer.{TakesAtMost};
 ghost use Rattle.tt_run.specs.Run.{Told, Written, files, source, stream};
 ghost use Rattle.std.specs.Str.{is_utf8};
 ghost use Rattle.opt_words.specs.Step.{texts};
 ghost use Rattle.tt_run.specs.Run.{FileRead, IsShort};
-ghost use Rattle.filecheck_messages.specs.Answer.{answer_to};
 ghost use Rattle.filecheck_messages.specs.Message.{cannot_write, out_of_memory};
 ghost use Rattle.filecheck_tool.specs.Program.{IsSound, IsSoundFile};
-ghost use Rattle.filecheck_tool.specs.Run.{AreUnread, ChecksRead, InputRead, IsKept, OutcomeFrom, ProgramFrom};
+ghost use Rattle.filecheck_tool.specs.Run.{AnswerOf, AreUnread, ChecksRead, Failed, InputRead, IsKept, OutcomeFrom, OutcomeOf, ProgramFrom};
 ghost use Rattle.filecheck_tool.specs.Start.{IsStart};
-ghost use Rattle.filecheck_tool.specs.declared.program.Program.{Program};
-ghost use Rattle.filecheck_messages.specs.declared.refusal.Stop.{Stop};
-ghost use Rattle.filecheck_messages.specs.declared.report.Report.{Report};
+ghost use Rattle.tt_run.specs.declared.answer.Answer.{Answer};
 ghost use Rattle.filecheck_words.specs.Job.{IsSound as IsSoundJob, asked_by};
 
 use crate::check_file::CheckFile;
@@ -47,19 +43,14 @@ pub fn filecheck_run<F: Files, I: Source, O: Sink, E: Sink>(
     out: &mut O,
     err: &mut E,
 ) -> u8
-    ensures answer { result ≢ 4 → (middle : F) × (program : Result Program Stop) × (outcome : Result Report Stop)
-        × ProgramFrom (files F.held F.steady F.faults from.old middle) (2 ^ 24) (asked_by (texts words.now)) program
-        × IsKept F.held F.steady from.old middle
-        × OutcomeFrom (files F.held F.steady F.faults middle from.new)
-        (source I.left I.steady I.faults input.old input.new) (2 ^ 26) program outcome
-        × Written cannot_write (answer_to outcome) result
+    ensures answer { result ≢ 4 → (answer : Answer)
+        × AnswerOf F.held F.steady F.faults from.old from.new (source I.left I.steady I.faults input.old input.new)
+        (asked_by (texts words.now)) answer × Written cannot_write answer result
         (stream O.held O.faults O.room out.old out.new) (stream E.held E.faults E.room err.old err.new) }
-    ensures fault { result ≡ 3 → Rose (F.faults from.old) (F.faults from.new)
-        ⊎ Rose (I.faults input.old) (I.faults input.new)
-        ⊎ Rose (O.faults out.old) (O.faults out.new)
-        ⊎ Rose (E.faults err.old) (E.faults err.new) }
+    ensures fault { result ≡ 3 → Failed F.faults from.old from.new ⊎ Failed I.faults input.old input.new
+        ⊎ Failed O.faults out.old out.new ⊎ Failed E.faults err.old err.new }
     ensures calm { F.steady from.old → I.steady input.old → result ≡ 3 →
-        Rose (O.faults out.old) (O.faults out.new) ⊎ Rose (E.faults err.old) (E.faults err.new) }
+        Failed O.faults out.old out.new ⊎ Failed E.faults err.old err.new }
     ensures unread { IsErr (asked_by (texts words.now)) → AreUnread from.old from.new input.old input.new }
     ensures memory { result ≡ 4 → (O.held out.new ≡ O.held out.old)
         × Told out_of_memory (stream E.held E.faults E.room err.old err.new) }
@@ -80,13 +71,10 @@ fn answer_from<F: Files, I: Source>(
     from: &mut F,
     input: &mut I,
 ) -> Result<Answer, NoMemory>
-    ensures answer { IfOk result (λ answer. (middle : F) × (program : Result Program Stop) × (outcome : Result Report Stop)
-        × ProgramFrom (files F.held F.steady F.faults from.old middle) (2 ^ 24) (asked_by (texts words.now)) program
-        × IsKept F.held F.steady from.old middle
-        × OutcomeFrom (files F.held F.steady F.faults middle from.new)
-        (source I.left I.steady I.faults input.old input.new) (2 ^ 26) program outcome × (answer ≡ answer_to outcome)) }
+    ensures answer { IfOk result (AnswerOf F.held F.steady F.faults from.old from.new
+        (source I.left I.steady I.faults input.old input.new) (asked_by (texts words.now))) }
     ensures fault { IfOk result (λ answer. answer.status ≡ 3 →
-        Rose (F.faults from.old) (F.faults from.new) ⊎ Rose (I.faults input.old) (I.faults input.new)) }
+        Failed F.faults from.old from.new ⊎ Failed I.faults input.old input.new) }
     ensures calm { IfOk result (λ answer. F.steady from.old → I.steady input.old → answer.status ≢ 3) }
     ensures unread { IsErr (asked_by (texts words.now)) → AreUnread from.old from.new input.old input.new }
     ensures small { IfOk result (λ answer. answer.status ≤ 3) }
@@ -108,11 +96,8 @@ fn outcome_of<F: Files, I: Source>(
     from: &mut F,
     input: &mut I,
 ) -> Result<Result<Report, Stop>, NoMemory>
-    ensures value { IfOk result (λ outcome. (middle : F) × (program : Result Program Stop)
-        × ProgramFrom (files F.held F.steady F.faults from.old middle) (2 ^ 24) (asked_by (texts words.now)) program
-        × IsKept F.held F.steady from.old middle
-        × OutcomeFrom (files F.held F.steady F.faults middle from.new)
-        (source I.left I.steady I.faults input.old input.new) (2 ^ 26) program outcome) }
+    ensures value { IfOk result (OutcomeOf F.held F.steady F.faults from.old from.new
+        (source I.left I.steady I.faults input.old input.new) (asked_by (texts words.now))) }
     ensures unread { IsErr (asked_by (texts words.now)) → AreUnread from.old from.new input.old input.new }
     ensures taken { TakesAtMost (I.left input.old) (I.left input.new) (2 ^ 26 + 1) }
     ensures files_stay { IsKept F.held F.steady from.old from.new }

@@ -13,7 +13,7 @@ use crate::check_file::{CheckFile, whole};
 use crate::program::Program;
 use check_group::{Check, Fault, FaultKind};
 use check_lines::canon_owned;
-use check_scan::scan;
+use check_scan::{Subject, scan};
 use ere_auto::Steps;
 use filecheck_messages::{
     Finding, Made, Note, Refusal, Remark, Report, StepFail, Trouble, refuse, spot_at,
@@ -89,14 +89,16 @@ fn verdict(
     requires short { length input.now ≤ 2 ^ 30 }
     ensures { IfOk result (λ report. report ≡ verdict program.old count input.now) }
 {
-    let file = &program.file;
-    let scope = file.asked.var_scope;
-    let faults = faults_in(
+    let subject = Subject {
         alloc,
+        text: input,
+        always: program.always.as_slice(),
+    };
+    let scope = program.file.asked.var_scope;
+    let faults = faults_in(
+        &subject,
         program.checks.as_slice(),
-        program.always.as_slice(),
         scope,
-        input,
         &mut program.vars,
     )?;
     report_of(alloc, &program.file, count, input, faults.as_slice())
@@ -123,28 +125,24 @@ fn report_of(
 
 /// The faults of directives in a canonical input.
 fn faults_in(
-    alloc: Global,
+    subject: &Subject<'_>,
     checks: &[Check],
-    always: &[Check],
     scope: bool,
-    input: &[u8],
     vars: &mut Vars,
 ) -> Result<Items<Fault>, NoMemory>
     requires ready { All (IsReady vars.old) checks.now }
-    requires always_ready { All (IsReady vars.old) always.now }
+    requires always_ready { All (IsReady vars.old) subject.now.always.now }
     ensures value { IfOk result (λ faults. faults
-        ≡ (scan checks.now always.now scope input.now vars.old).faults) }
-    ensures lie { IfOk result (All (λ fault. OffsetsLie (length input.now) fault.kind)) }
+        ≡ (scan checks.now subject.now.always.now scope subject.now.text.now vars.old).faults) }
+    ensures lie { IfOk result (All (λ fault. OffsetsLie (length subject.now.text.now) fault.kind)) }
 {
-    faults_by::<Brand>(alloc, checks, always, scope, input, vars, Blank::new(1))
+    faults_by::<Brand>(subject, checks, scope, vars, Blank::new(1))
 }
 
 fn faults_by<L: Ledger>(
-    alloc: Global,
+    subject: &Subject<'_>,
     checks: &[Check],
-    always: &[Check],
     scope: bool,
-    input: &[u8],
     vars: &mut Vars,
     blank: Blank,
 ) -> Result<Items<Fault>, NoMemory>
@@ -152,13 +150,13 @@ fn faults_by<L: Ledger>(
     requires parts { blank.parts ≡ L.parts }
     requires some_part { 0 < blank.parts }
     requires ready { All (IsReady vars.old) checks.now }
-    requires always_ready { All (IsReady vars.old) always.now }
+    requires always_ready { All (IsReady vars.old) subject.now.always.now }
     ensures value { IfOk result (λ faults. faults
-        ≡ (scan checks.now always.now scope input.now vars.old).faults) }
-    ensures lie { IfOk result (All (λ fault. OffsetsLie (length input.now) fault.kind)) }
+        ≡ (scan checks.now subject.now.always.now scope subject.now.text.now vars.old).faults) }
+    ensures lie { IfOk result (All (λ fault. OffsetsLie (length subject.now.text.now) fault.kind)) }
 {
     let mut steps = Steps::<L>::new(blank);
-    let verdict = scan(alloc, checks, always, scope, input, vars, &mut steps)?;
+    let verdict = scan(subject, checks, scope, vars, &mut steps)?;
     Ok(verdict.faults)
 }
 

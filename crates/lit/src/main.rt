@@ -2,12 +2,15 @@
 //! All that it says and how it ends is `lit_tool`'s; here are the real words, folders, programs and streams.
 #![tactic(auto)]
 
+mod pages;
+
+use crate::pages::{HELP, VERSION};
 use lit_tool::lit_run;
 use std::env::{self, Env};
 use std::io::{self, ErrorKind};
 use std::process::ExitCode;
 use tt_base::Bytes;
-use tt_main::{no_words, words};
+use tt_main::{Page, no_words, page_of, show_page, words};
 use tt_outside::Sink;
 use tt_real::{StdCrew, StdErr, StdOut, StdTree};
 use tt_run::{answer_on, tell};
@@ -46,6 +49,15 @@ fn main(rt: HostRuntime) -> ExitCode {
             ));
         }
     };
+    if let Some(page) = page_of(words.as_slice()) {
+        let text = match page {
+            Page::Help => HELP,
+            Page::Version => VERSION,
+        };
+        let mut out = StdOut::new(rt.stdout());
+        let fault = b"lit: error: cannot write\n";
+        return ExitCode::from(show_page(text.as_bytes(), fault, &mut out, &mut err));
+    }
     let base = match base(&rt) {
         Ok(base) => base,
         Err(error) => return ExitCode::from(no_base(&error, &mut err)),

@@ -1,8 +1,11 @@
--- What a discovery answers, by what its words gave and by the tests that were found.
-use Rattle.std.proofs.Common.{◌≡◌, ℕ, zero, suc, ◌+◌, ◌<◌, true, false, ◌⊎◌, inl, inr, List, [], ◌∷◌, ◌++◌, length, map, take, drop, get_or, All, Option, Some, None, IfSome, Result, Ok, Err, refl, sym, ap, ◌∙◌, subst, arith, add-one}
+-- What a discovery answers, by what its words gave and by the files that were found.
+-- Idea: each file that the words make a test was found, since each directory above it was walked through.
+-- The hard one is `test_found`.
+use Rattle.std.proofs.Common.{◌≡◌, ℕ, suc, ◌+◌, ◌<◌, true, false, ◌⊎◌, inl, inr, List, [], ◌∷◌, ◌++◌, length, map, take, drop, get_or, All, Option, Some, None, IfSome, Result, Ok, Err, refl, sym, ap, ◌∙◌, subst, arith, add-one}
 use Rattle.std.specs.List.{Any, Contains, list_all}
 use Rattle.std.proofs.Math.Seq.{drop-cons, take-suc}
 use Rattle.std.proofs.lemmas.List.{map-append, take-append-drop}
+use Rattle.std.proofs.lemmas.List.Elements.{All-contains, All-weaker}
 use Rattle.tt_outside.specs.declared.test_data.Test.{Test}
 use Rattle.tt_outside.specs.declared.tree.Node.{Node}
 use Rattle.tt_outside.specs.declared.tree.ItemKind.TheVariants.{File}
@@ -10,125 +13,114 @@ use Rattle.tt_outside.specs.TreeMap.{are_nested, is_part}
 use Rattle.lit_paths.specs.Paths.{Parts, dir_of, joined, parts_of, text_of}
 use Rattle.lit_dirs.specs.Looks.{kind_of}
 use Rattle.lit_dirs.specs.declared.fault.DiscoverFault.{DiscoverFault}
-use Rattle.lit_dirs.specs.declared.fault.DiscoverFault.TheVariants.{Missing, TooMany, NoTests, TreeFault, NoMemory}
+use Rattle.lit_dirs.specs.declared.fault.DiscoverFault.TheVariants.{TooMany, NoTests}
 use Rattle.lit_look.specs.Suites.{nearest}
+use Rattle.lit_look.specs.Trees.{Told}
 use Rattle.lit_look.specs.declared.seen.Looked.{Looked}
-use Rattle.lit_find.specs.Answers.{GivesTests, GivesWords, Walks}
+use Rattle.lit_look.proofs.TreeLemmas.{told}
 use Rattle.lit_find.specs.Discovery.{IsBelow, IsLookedAt, IsTest, LooksAt, has_suffix}
-use Rattle.lit_find.specs.Found.{AnswersTo, AreMade, AreTests, Discovers}
+use Rattle.lit_find.specs.Files.{IsFiled, test_in}
+use Rattle.lit_find.specs.Found.{AnswersTo, AreTests, Discovers, IsInOrder, IsRight}
 use Rattle.lit_find.specs.Refusals.{IsClear, IsRefused, RefusesWord}
-use Rattle.lit_find.specs.Walk.{GivesWord, HasPath, HasText, IsCovered, IsDirIn, IsRooted, IsUnder, Walked, was_walked}
-use Rattle.lit_find.specs.declared.visit.Walk.{Walk}
+use Rattle.lit_find.specs.Walk.{GivesWord, GivesWords, HasFile, HasPath, IsCovered, IsDirIn, IsTestFile, IsUnder, Walked, Walks, was_walked}
+use Rattle.lit_find.specs.declared.place.TestFile.{TestFile}
+use Rattle.lit_find.specs.declared.walk.Walk.{Walk}
 use Rattle.lit_find.proofs.FaultLemmas.{no_tests, not_too_many}
-use Rattle.lit_find.proofs.PlaceLemmas.{cons_cases, none_in}
+use Rattle.lit_find.proofs.FileLemmas.{right_test}
+use Rattle.lit_find.proofs.ListLemmas.{any_one, its_one, mapped, none_in}
 use Rattle.lit_find.proofs.ReachLemmas.{test_reached}
-use Rattle.lit_find.proofs.WordLemmas.{its_word}
 
 -- ---- the tests
-
-any_mapped : {A B : Type 0} (f : A → B) (xs : List A) (y : B) → Contains (map f xs) y → Any (λ x. f x ≡ y) xs
-any_mapped f [] y within = absurd (none_in y within)
-any_mapped {A = A} {B = B} f (x ∷ xs) y within =
-    elim (cons_cases (f x) y (map f xs) within) [
-      | inl same ↦ (zero, x, omega arith, refl, sym same)
-      | inr later ↦ next (any_mapped f xs y later)
-    ]
-  where
-    next : Any (λ one. f one ≡ y) xs → Any (λ one. f one ≡ y) (x ∷ xs)
-    next (k, one, within, is, same) = (suc k, one, omega arith, is, same)
 
 -- each file that the words make a test was found
 test_found : (nodes : List Node) (words : List Parts) (seen : List Looked) (walk : Walk) → are_nested nodes ≡ true
     → IsCovered nodes words seen walk → (path : Parts) → list_all is_part path ≡ true → IsTest nodes words path
-    → HasText walk.found (text_of path)
+    → HasFile walk.found path
 test_found nodes words seen walk nested is path parts test =
-    let (word, within, either) = its_word (λ word. (path ≡ word) ⊎ IsBelow nodes word path) words test.1 in
+    let (word, within, either) = its_one (λ word. (path ≡ word) ⊎ IsBelow nodes word path) words test.1 in
     elim either [
-      | inl same ↦ subst (λ one. HasText walk.found (text_of one)) (sym same)
-          (is.files word within (ap (kind_of nodes) (sym same) ∙ test.0))
-      | inr below ↦ subst (λ one. HasText walk.found (text_of one)) (sym below.behind)
-          (test_reached nodes (Walked seen walk) (λ one. HasText walk.found (text_of one)) nested closed is.current.kept
-          word
-          below.rest (is.dirs word within below.from_dir) below.from_dir
+      | inl same ↦ subst (HasFile walk.found) (sym same)
+          (is.state.files word within (ap (kind_of nodes) (sym same) ∙ test.0))
+      | inr below ↦ subst (HasFile walk.found) (sym below.behind)
+          (test_reached nodes (Walked seen walk) (HasFile walk.found) nested closed is.state.kept word below.rest
+          (done word (is.state.dirs word within below.from_dir)) below.from_dir
           (subst (λ one. list_all is_part one ≡ true) below.behind parts)
           (subst (λ one. kind_of nodes one ≡ Some File) below.behind test.0) below.is_open
           (subst (λ one. has_suffix (nearest nodes (dir_of one)) (text_of one) ≡ true) below.behind below.suffix))
     ]
   where
+    done : (dir : Parts) → Walked seen walk dir ⊎ HasPath walk.pending dir → Walked seen walk dir
+    done dir (inl was) = was
+    done dir (inr waits) = absurd (none_in dir (subst (λ places. HasPath places dir) is.done waits))
+
     closed : (dir : Parts) (part : List ℕ) → Walked seen walk dir → IsDirIn nodes dir part
         → Walked seen walk (dir ++ part ∷ [])
-    closed dir part w inside = elim (is.current.closed dir part w inside) [
-      | inl done ↦ done
-      | inr p ↦ absurd (none_in (dir ++ part ∷ []) (subst (λ places. HasPath places (dir ++ part ∷ [])) is.done p))
-    ]
-
-are_tests : (nodes : List Node) (words : List Parts) (seen : List Looked) (walk : Walk) (tests : List Test)
-    → are_nested nodes ≡ true → IsCovered nodes words seen walk → AreMade nodes words walk.found tests
-    → AreTests nodes words tests
-are_tests nodes words seen walk tests nested is made = record {
-  ascending = made.ascending;
-  right = made.right;
-  whole = λ path parts test. any_mapped (λ one. one.path) tests (text_of path)
-      (subst (λ texts. Contains texts (text_of path)) (sym made.texts)
-      (test_found nodes words seen walk nested is path parts test));
-}
+    closed dir part was inside = done (dir ++ part ∷ []) (is.state.closed dir part was inside)
 
 is_clear : (nodes : List Node) (words : List Parts) (seen : List Looked) (walk : Walk) → IsCovered nodes words seen walk
     → IsClear nodes words
 is_clear nodes words seen walk is = record { places = is.places; seen = seen; all = is.all }
 
-pub answers : (nodes : List Node) (words : List Parts) (seen : List Looked) (walk : Walk) (result : Result (List Test)
-    DiscoverFault)
-    → are_nested nodes ≡ true → IsCovered nodes words seen walk → GivesTests nodes words walk.found result
-    → AnswersTo nodes words result
-answers nodes words seen walk (Ok tests) nested is gives =
-    (is_clear nodes words seen walk is, are_tests nodes words seen walk tests nested is gives.0, gives.1, gives.2)
-answers nodes words seen walk (Err NoTests) nested is gives =
-    (is_clear nodes words seen walk is, are_tests nodes words seen walk [] nested is gives)
-answers nodes words seen walk (Err TooMany) nested is gives =
-    let (tests, made, more) = gives in
-    (is_clear nodes words seen walk is, (tests, are_tests nodes words seen walk tests nested is made, more))
-answers nodes words seen walk (Err NoMemory) nested is gives = tt
-answers nodes words seen walk (Err TreeFault) nested is gives = tt
-answers nodes words seen walk (Err fault) nested is gives = absurd gives
+are_tests : (nodes : List Node) (words : List Parts) (seen : List Looked) (walk : Walk) (tests : List Test)
+    → are_nested nodes ≡ true → IsCovered nodes words seen walk → IsInOrder walk.found tests
+    → AreTests nodes words tests
+are_tests nodes words seen walk tests nested is made = record {
+  ascending = made.ascending;
+  right = All-weaker (λ test. Any (λ file. IsFiled file × (test ≡ test_in file)) walk.found) (IsRight nodes words)
+      (λ test any. right test (its_one (λ file. IsFiled file × (test ≡ test_in file)) walk.found any)) tests made.right;
+  whole = λ path parts test. found path (test_found nodes words seen walk nested is path parts test);
+}
+  where
+    right : (test : Test) → (file : TestFile) × Contains walk.found file × (IsFiled file × (test ≡ test_in file))
+        → IsRight nodes words test
+    right test (file, within, (filed, same)) =
+        subst (IsRight nodes words) (sym same) (right_test nodes words file filed
+        (All-contains (IsTestFile nodes words) walk.found file is.state.tests within))
+
+    found : (path : Parts) → HasFile walk.found path → Any (λ test. test.path ≡ text_of path) tests
+    found path has =
+        let (file, within, same) = mapped (λ one. one.path) walk.found (text_of path) has in
+        let (test, among, named) = its_one (λ test. test.path ≡ file.path) tests
+        (All-contains (λ one. Any (λ test. test.path ≡ one.path) tests) walk.found file made.whole within) in
+        any_one (λ one. one.path ≡ text_of path) tests test among (named ∙ same)
+
+pub discovers : (told : Option (List Node)) (base : List ℕ) (texts : List (List ℕ)) (found : List TestFile)
+    (tests : List Test) (result : Result (List Test) DiscoverFault) → Walks told base texts (Ok found)
+    → IsInOrder found tests → ((nodes : List Node) (words : List Parts) → IsClear nodes words
+    → AreTests nodes words tests → AnswersTo nodes words result) → Discovers told base texts result
+discovers None base texts found tests result walks made answers = tt
+discovers (Some nodes) base texts found tests result (nested, (seen, walk, is, same)) made answers =
+    let words = map (joined (parts_of base)) texts in
+    answers nodes words (is_clear nodes words seen walk is)
+    (are_tests nodes words seen walk tests nested is (subst (λ files. IsInOrder files tests) (sym same) made))
 
 -- ---- refusals
 
-refused_word : (nodes : List Node) (words early later : List Parts) (word : Parts) (seen : List Looked) (walk : Walk)
-    (fault : DiscoverFault) → IsCovered nodes early seen walk → words ≡ early ++ word ∷ later
-    → RefusesWord nodes early word fault → IsRefused nodes words fault
-refused_word nodes words early later word seen walk fault is all refuses = record {
-  earlier = early;
-  word = word;
-  later = later;
-  all = all;
-  clear = is_clear nodes early seen walk is;
-  refused = refuses;
-}
-
-pub words_refused : (A B : Type 0) (nodes : List Node) (words early later : List Parts) (word : Parts) (seen next : List
-    Looked)
+pub words_refused : (nodes : List Node) (words early later : List Parts) (word : Parts) (seen next : List Looked)
     (walk after : Walk) (fault : DiscoverFault) → IsCovered nodes early seen walk → words ≡ early ++ word ∷ later
-    → GivesWord {A = A} nodes early word next after (Err fault) → GivesWords {A = B} nodes words next after (Err fault)
-words_refused A B nodes words early later word seen next walk after (Missing path) is all gives =
-    refused_word nodes words early later word seen walk (Missing path) is all gives
-words_refused A B nodes words early later word seen next walk after TooMany is all gives = not_too_many nodes early word
-    gives
-words_refused A B nodes words early later word seen next walk after NoTests is all gives = no_tests nodes early word
-    gives
-words_refused A B nodes words early later word seen next walk after TreeFault is all gives = tt
-words_refused A B nodes words early later word seen next walk after NoMemory is all gives = tt
-words_refused A B nodes words early later word seen next walk after fault is all gives =
-    refused_word nodes words early later word seen walk fault is all gives
+    → GivesWord {A = Unit {0}} nodes early word next after (Err fault)
+    → GivesWords {A = Unit {0}} nodes words next after (Err fault)
+words_refused nodes words early later word seen next walk after fault is all gives =
+    told (RefusesWord nodes early word) (IsRefused nodes words) fault
+    (λ one refuses. record {
+      earlier = early;
+      word = word;
+      later = later;
+      all = all;
+      clear = is_clear nodes early seen walk is;
+      refused = refuses;
+    }) gives
 
-pub answers_refusal : (A : Type 0) (nodes : List Node) (words : List Parts) (seen : List Looked) (walk : Walk) (fault :
-    DiscoverFault)
-    → GivesWords {A = A} nodes words seen walk (Err fault) → AnswersTo nodes words (Err fault)
-answers_refusal A nodes words seen walk TooMany gives = absurd gives
-answers_refusal A nodes words seen walk NoTests gives = absurd gives
-answers_refusal A nodes words seen walk TreeFault gives = tt
-answers_refusal A nodes words seen walk NoMemory gives = tt
-answers_refusal A nodes words seen walk fault gives = gives
+answers_refusal : (nodes : List Node) (words : List Parts) (fault : DiscoverFault)
+    → Told (IsRefused nodes words) fault → AnswersTo nodes words (Err fault)
+answers_refusal nodes words TooMany is = absurd (not_too_many nodes is.earlier is.word is.refused)
+answers_refusal nodes words NoTests is = absurd (no_tests nodes is.earlier is.word is.refused)
+answers_refusal nodes words fault is = is
+
+pub discovers_refusal : (told : Option (List Node)) (base : List ℕ) (texts : List (List ℕ)) (fault : DiscoverFault)
+    → Walks told base texts (Err fault) → Discovers told base texts (Err fault)
+discovers_refusal None base texts fault walks = tt
+discovers_refusal (Some nodes) base texts fault walks = answers_refusal nodes _ fault walks
 
 -- ---- words one by one
 
@@ -149,10 +141,9 @@ words_cut f xs i x within is =
 -- ---- before the first word
 
 pub nothing_yet : (nodes : List Node) (walk : Walk) → ((number : ℕ) → was_walked walk number ≡ false)
-    → walk.pending ≡ []
-    → walk.found ≡ [] → IsCovered nodes [] [] walk
+    → walk.pending ≡ [] → walk.found ≡ [] → IsCovered nodes [] [] walk
 nothing_yet nodes walk none pending found = record {
-  current = record {
+  state = record {
     looks = record {
       right = λ dir has. has;
       whole = λ dir has. has;
@@ -161,10 +152,12 @@ nothing_yet nodes walk none pending found = record {
       within = omega arith;
     };
     below = λ number was. let e : false ≡ true = sym (none number) ∙ was in absurd (cc);
-    under = subst (All (IsUnder nodes [])) (sym pending) (λ k d less. absurd (omega arith));
-    rooted = subst (All (IsRooted nodes [])) (sym found) (λ k d less. absurd (omega arith));
-    closed = λ dir part w inside. absurd (not_walked dir w);
-    kept = λ dir part w inside. absurd (not_walked dir w);
+    under = subst (All (IsUnder nodes)) (sym pending) (λ k d less. absurd (omega arith));
+    tests = subst (All (IsTestFile nodes [])) (sym found) (λ k d less. absurd (omega arith));
+    closed = λ dir part was inside. absurd (not_walked dir was);
+    kept = λ dir part was inside. absurd (not_walked dir was);
+    dirs = λ word within kind. absurd (none_in word within);
+    files = λ word within kind. absurd (none_in word within);
   };
   done = pending;
   places = λ k d less. absurd (omega arith);
@@ -175,35 +168,20 @@ nothing_yet nodes walk none pending found = record {
     once = λ i j d less within. absurd (omega arith);
     within = omega arith;
   };
-  tests = subst (All (λ place. IsTest nodes [] place.path)) (sym found) (λ k d less. absurd (omega arith));
-  dirs = λ word within kind. absurd (none_in word within);
-  files = λ word within kind. absurd (none_in word within);
 }
   where
     not_walked : (dir : Parts) → Walked [] walk dir → ⊥
     not_walked dir (number, its, was) = let e : false ≡ true = sym (none number) ∙ was in absurd (cc)
 
     no_word : (dir : Parts) → IsLookedAt nodes [] dir → ⊥
-    no_word dir any = let (word, within, at) = its_word (LooksAt nodes dir) [] any in none_in word within
+    no_word dir any = let (word, within, at) = its_one (LooksAt nodes dir) [] any in none_in word within
 
 -- ---- where the tree tells what stands in it
 
-pub walks_where_told : (told : Option (List Node)) (root base : List ℕ) (texts : List (List ℕ)) (result : Result (Walk ×
-    List Looked) DiscoverFault)
-    → base ≡ root → IfSome told (λ nodes. are_nested nodes ≡ true)
+pub walks_where_told : (told : Option (List Node)) (root base : List ℕ) (texts : List (List ℕ))
+    (result : Result (List TestFile) DiscoverFault) → base ≡ root → IfSome told (λ nodes. are_nested nodes ≡ true)
     → ((nodes : List Node) → told ≡ Some nodes → are_nested nodes ≡ true → Walks (Some nodes) base texts result)
     → Walks told root texts result
-walks_where_told None root base texts (Ok done) same nested right = tt
-walks_where_told None root base texts (Err fault) same nested right = tt
+walks_where_told None root base texts result same nested right = tt
 walks_where_told (Some nodes) root base texts result same nested right =
     subst (λ one. Walks (Some nodes) one texts result) same (right nodes refl nested)
-
-pub discovers : (told : Option (List Node)) (base : List ℕ) (texts : List (List ℕ)) (walk : Walk) (seen : List Looked)
-    (result : Result (List Test) DiscoverFault) → Walks told base texts (Ok (walk, seen))
-    → ((nodes : List Node) (words : List Parts) → All (IsRooted nodes seen) walk.found
-    → All (λ place. IsTest nodes words place.path) walk.found → GivesTests nodes words walk.found result)
-    → Discovers told base texts result
-discovers None base texts walk seen result walks gives = tt
-discovers (Some nodes) base texts walk seen result (nested, covered) gives =
-    let words = map (joined (parts_of base)) texts in
-    answers nodes words seen walk result nested covered (gives nodes words covered.current.rooted covered.tests)

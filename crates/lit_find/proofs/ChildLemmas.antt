@@ -1,4 +1,6 @@
 -- What a directory lists, and what stands in it.
+-- Idea: names differ, so the item of a name is the one that is found under it.
+-- The hard one is `named_item`.
 use Rattle.std.proofs.Common.{◌≡◌, ℕ, Bool, true, false, true≢false, cond, not, ◌||◌, inl, inr, List, [], ◌∷◌, ◌++◌, Option, Some, None, refl, sym, ap, ◌∙◌, subst}
 use Rattle.std.specs.List.{Contains, find, list_all, list_any}
 use Rattle.std.specs.Option.{option_map}
@@ -19,7 +21,7 @@ use Rattle.lit_paths.proofs.LawLemmas.{names_stand_below}
 use Rattle.lit_paths.proofs.PartLemmas.{and_left, and_right, false_of}
 use Rattle.lit_paths.specs.Paths.{Parts, text_of}
 use Rattle.lit_dirs.specs.Looks.{kind_of}
-use Rattle.lit_find.proofs.PlaceLemmas.{cons_cases, first_in, later_in, none_in}
+use Rattle.lit_find.proofs.ListLemmas.{cons_cases, first_in, later_in, none_in}
 
 -- ---- names
 

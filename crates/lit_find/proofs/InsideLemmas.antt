@@ -1,52 +1,71 @@
 -- What stands in a directory whose suite is known: what is walked through, and what is a test.
-use Rattle.std.proofs.Common.{◌≡◌, ℕ, true, false, true≢false, cond, is_some, not, ◌&&◌, inr, List, [], ◌∷◌, ◌++◌, Option, Some, None, Ok, refl, sym, ap, ◌∙◌, subst, append_assoc}
-use Rattle.std.specs.Prelude.{slice_get}
-use Rattle.std.specs.List.{Any, Contains, list_all}
-use Rattle.std.specs.Option.{option_map}
+-- Idea: a listing is a finite map, so an item of each name stands for what is there, and the reverse.
+-- The hard one is `file_item`, from a test to the item that lists it.
+use Rattle.std.proofs.Common.{◌≡◌, ℕ, true, false, true≢false, not, ◌&&◌, inr, List, [], ◌∷◌, ◌++◌, Option, Some, None, IfSome, Ok, refl, sym, ap, ◌∙◌, subst, append_assoc}
+use Rattle.std.specs.List.{Contains, list_all}
+use Rattle.std.specs.Option.{option_map, unwrap_or}
 use Rattle.tt_outside.specs.declared.tree.Node.{Node}
 use Rattle.tt_outside.specs.declared.tree.Item.{Item}
 use Rattle.tt_outside.specs.declared.tree.ItemKind.{ItemKind}
 use Rattle.tt_outside.specs.declared.tree.ItemKind.TheVariants.{File, Dir, Other}
 use Rattle.tt_outside.specs.TreeMap.{Lists, is_part}
-use Rattle.lit_paths.specs.Paths.{Parts, text_of}
+use Rattle.lit_paths.specs.Paths.{Parts, dir_of, path_in, text_of}
 use Rattle.lit_paths.proofs.PartLemmas.{and_both, and_left, and_right, false_of}
-use Rattle.lit_suite.specs.declared.suite_file.Suite.{Suite}
 use Rattle.lit_dirs.specs.Looks.{kind_of}
 use Rattle.lit_dirs.specs.Passing as passing
 use Rattle.lit_dirs.specs.Suites.{suite_at}
-use Rattle.lit_look.specs.Suites.{Rooted, first_suite, nearest, or_else, rooted}
+use Rattle.lit_look.specs.Seen.{IsLook}
+use Rattle.lit_look.specs.Suites.{first_suite, nearest, or_else, rooted, rooted_at}
+use Rattle.lit_look.specs.declared.root.SuiteRoot.{SuiteRoot}
 use Rattle.lit_look.specs.declared.seen.Looked.{Looked}
 use Rattle.lit_look.proofs.SuiteLemmas.{upward_push}
 use Rattle.lit_find.specs.Discovery.{IsTest, IsWalked, has_suffix, is_passed}
-use Rattle.lit_find.specs.Sorting.{is_dir, is_entered, is_file, is_kept, place_of}
-use Rattle.lit_find.specs.Walk.{IsDirIn, IsRooted, IsTestIn, IsUnder, own_or, root_at, root_in, root_of}
+use Rattle.lit_find.specs.Sorting.{file_of, is_dir, is_entered, is_file, is_kept, place_of}
+use Rattle.lit_find.specs.Walk.{IsDirIn, IsTestFile, IsTestIn, IsUnder}
+use Rattle.lit_find.specs.declared.place.Place.{Place}
 use Rattle.lit_find.proofs.ChildLemmas.{listed_right, listed_whole}
-use Rattle.lit_find.proofs.PathLemmas.{name_behind}
+use Rattle.lit_find.proofs.ListLemmas.{any_one}
+use Rattle.lit_find.proofs.PathLemmas.{name_behind, path_in_word}
 use Rattle.lit_find.proofs.ReachLemmas.{dir_of_push, one_part, open_push, parts_both}
 
 -- ---- its suite
 
-pub near_root : (nodes : List Node) (seen : List Looked) (looked : Looked) (number known : ℕ)
-    → slice_get seen number ≡ Some looked → suite_at nodes looked.dir ≡ option_map Ok looked.suite
-    → nearest nodes looked.dir ≡ or_else (rooted looked.dir (suite_at nodes looked.dir)) (root_at seen known)
-    → nearest nodes looked.dir ≡ root_at seen (own_or (Some looked) number known)
-near_root nodes seen looked number known here at near = by_suite looked.suite refl at
+-- what is known of a directory that was looked at
+pub record IsOf (nodes : List Node) (dir : Parts) (items : List Item) (root : SuiteRoot) : Type 0 where
+  pub parts : list_all is_part dir ≡ true
+  pub lists : Lists nodes (text_of dir) items
+  pub near : nearest nodes dir ≡ Some (rooted_at root)
+
+pub is_of : (nodes : List Node) (place : Place) (looked : Looked) → IsLook nodes looked → IsUnder nodes place
+    → looked.dir ≡ place.path → IsOf nodes looked.dir looked.items (unwrap_or looked.suite place.suite)
+is_of nodes place looked look under here = record {
+  parts = ap (list_all is_part) here ∙ under.parts;
+  lists = look.lists;
+  near = by_suite looked.suite refl look.suite;
+}
   where
-    by_suite : (s : Option Suite) → looked.suite ≡ s → suite_at nodes looked.dir ≡ option_map Ok s
-        → nearest nodes looked.dir ≡ root_at seen (cond (is_some looked.suite) number known)
+    above : nearest nodes looked.dir
+        ≡ or_else (rooted looked.dir (suite_at nodes looked.dir)) (Some (rooted_at place.suite))
+    above =
+        subst (λ dir. nearest nodes dir ≡ or_else (rooted dir (suite_at nodes dir)) (Some (rooted_at place.suite)))
+        (sym here) under.suite
+
+    by_suite : (s : Option SuiteRoot) → looked.suite ≡ s
+        → suite_at nodes looked.dir ≡ option_map Ok (option_map (λ root. root.suite) looked.suite)
+        → nearest nodes looked.dir ≡ Some (rooted_at (unwrap_or looked.suite place.suite))
     by_suite None is at =
-        near ∙ ap (λ x. or_else (rooted looked.dir x) (root_at seen known)) at
-        ∙ sym (ap (λ s. root_at seen (cond (is_some s) number known)) is)
-    by_suite (Some suite) is at =
-        near ∙ ap (λ x. or_else (rooted looked.dir x) (root_at seen known)) at
-        ∙ sym (ap (λ s. root_at seen (cond (is_some s) number known)) is ∙ ap root_of here ∙ ap (root_in looked.dir) is)
+        above ∙ ap (λ x. or_else (rooted looked.dir x) (Some (rooted_at place.suite)))
+        (at ∙ ap (λ s. option_map Ok (option_map (λ root. root.suite) s)) is)
+        ∙ ap (λ s. Some (rooted_at (unwrap_or s place.suite))) (sym is)
+    by_suite (Some own) is at =
+        let dir : own.dir ≡ looked.dir =
+        subst (λ (s : Option SuiteRoot). IfSome s (λ root. root.dir ≡ looked.dir)) is look.root in
+        above ∙ ap (λ x. or_else (rooted looked.dir x) (Some (rooted_at place.suite)))
+        (at ∙ ap (λ s. option_map Ok (option_map (λ root. root.suite) s)) is)
+        ∙ ap (λ d. Some (record { root = d; suite = own.suite })) (sym dir)
+        ∙ ap (λ s. Some (rooted_at (unwrap_or s place.suite))) (sym is)
 
-pub near_inside : (nodes : List Node) (dir : Parts) (part : List ℕ)
-    → nearest nodes (dir ++ part ∷ []) ≡ or_else (rooted (dir ++ part ∷ []) (suite_at nodes (dir ++ part ∷ [])))
-    (nearest nodes dir)
-near_inside nodes dir part = ap (first_suite nodes) (upward_push dir part)
-
--- ---- from items to names
+-- ---- items and names
 
 its_dir : (kind : ItemKind) → is_dir kind ≡ true → kind ≡ Dir
 its_dir Dir h = refl
@@ -58,101 +77,99 @@ its_file File h = refl
 its_file Dir h = absurd (true≢false (sym h))
 its_file Other h = absurd (true≢false (sym h))
 
-pub dir_in : (nodes : List Node) (dir : Parts) (root : Rooted) (items : List Item) (item : Item)
-    → list_all is_part dir ≡ true
-    → Lists nodes (text_of dir) items → nearest nodes dir ≡ Some root → Contains items item
-    → is_entered root.suite item ≡ true → IsDirIn nodes dir item.name
-dir_in nodes dir root items item parts lists near within entered =
-    let listed = listed_right nodes dir items item parts lists within in
-    let passed = passing.is_passed root.suite item.name in
-    record {
-      named = listed.0;
-      kind = listed.1 ∙ ap (λ kind. Some kind) (its_dir item.kind (and_right (not passed) (is_dir item.kind) entered));
-      kept = ap (λ r. is_passed r item.name) near ∙ false_of passed (and_left (not passed) (is_dir item.kind) entered);
-    }
+module _ (nodes : List Node) (dir : Parts) (items : List Item) (root : SuiteRoot) (of : IsOf nodes dir items root) where
+  not_passed : (name : List ℕ) → not (passing.is_passed root.suite name) ≡ true
+      → is_passed (nearest nodes dir) name ≡ false
+  not_passed name h = ap (λ r. is_passed r name) of.near ∙ false_of (passing.is_passed root.suite name) h
 
-pub test_in : (nodes : List Node) (dir : Parts) (root : Rooted) (items : List Item) (item : Item)
-    → list_all is_part dir ≡ true
-    → Lists nodes (text_of dir) items → nearest nodes dir ≡ Some root → Contains items item
-    → is_kept root.suite dir item ≡ true → IsTestIn nodes dir item.name
-test_in nodes dir root items item parts lists near within kept =
-    let listed = listed_right nodes dir items item parts lists within in
-    let passed = passing.is_passed root.suite item.name in
-    let suffix = passing.has_suffix root.suite (text_of (dir ++ item.name ∷ [])) in
-    let right = and_right (not passed) (is_file item.kind && suffix) kept in
-    record {
-      named = listed.0;
-      kind = listed.1 ∙ ap (λ kind. Some kind) (its_file item.kind (and_left (is_file item.kind) suffix right));
-      kept = ap (λ r. is_passed r item.name) near ∙ false_of passed (and_left (not passed) (is_file item.kind && suffix)
-          kept);
-      suffix = ap (λ r. has_suffix r (text_of (dir ++ item.name ∷ []))) near
-          ∙ and_right (is_file item.kind) suffix right;
-    }
+  opened : (name part : List ℕ) → name ≡ part → is_passed (nearest nodes dir) part ≡ false
+      → not (passing.is_passed root.suite name) ≡ true
+  opened name part same kept =
+      ap (λ one. not (passing.is_passed root.suite one)) same
+      ∙ ap not (sym (ap (λ r. is_passed r part) of.near) ∙ kept)
 
--- ---- from names to items
+  pub dir_in : (item : Item) → Contains items item → is_entered root.suite item ≡ true → IsDirIn nodes dir item.name
+  dir_in item within entered =
+      let listed = listed_right nodes dir items item of.parts of.lists within in
+      let open_here = not (passing.is_passed root.suite item.name) in
+      record {
+        named = listed.0;
+        kind = listed.1 ∙ ap (λ kind. Some kind) (its_dir item.kind (and_right open_here (is_dir item.kind) entered));
+        kept = not_passed item.name (and_left open_here (is_dir item.kind) entered);
+      }
 
-pub dir_item : (nodes : List Node) (dir : Parts) (root : Rooted) (items : List Item) (part : List ℕ)
-    → list_all is_part dir ≡ true
-    → Lists nodes (text_of dir) items → nearest nodes dir ≡ Some root → IsDirIn nodes dir part
-    → (item : Item) × Contains items item × (is_entered root.suite item ≡ true)
-    × (dir ++ part ∷ [] ≡ dir ++ item.name ∷ [])
-dir_item nodes dir root items part parts lists near inside =
-    let (item, within, named, kind) = listed_whole nodes dir items part Dir parts lists inside.named inside.kind in
-    let open_here = ap (passing.is_passed root.suite) named ∙ sym (ap (λ r. is_passed r part) near) ∙ inside.kept in (
-      item,
-      within,
-      and_both (not (passing.is_passed root.suite item.name)) (is_dir item.kind) (ap not open_here) (ap is_dir kind),
-      ap (λ name. dir ++ name ∷ []) (sym named),
-    )
+  pub file_in : (item : Item) → Contains items item → is_kept root.suite dir item ≡ true → IsTestIn nodes dir item.name
+  file_in item within kept =
+      let listed = listed_right nodes dir items item of.parts of.lists within in
+      let open_here = not (passing.is_passed root.suite item.name) in
+      let suffix = passing.has_suffix root.suite (text_of (dir ++ item.name ∷ [])) in
+      let right = and_right open_here (is_file item.kind && (suffix && is_part item.name)) kept in
+      record {
+        named = listed.0;
+        kind = listed.1 ∙ ap (λ kind. Some kind) (its_file item.kind (and_left (is_file item.kind) (suffix && is_part item.name) right));
+        kept = not_passed item.name (and_left open_here (is_file item.kind && (suffix && is_part item.name)) kept);
+        suffix = ap (λ r. has_suffix r (text_of (dir ++ item.name ∷ []))) of.near
+            ∙ and_left suffix (is_part item.name) (and_right (is_file item.kind) (suffix && is_part item.name) right);
+      }
 
-pub test_item : (nodes : List Node) (dir : Parts) (root : Rooted) (items : List Item) (part : List ℕ)
-    → list_all is_part dir ≡ true
-    → Lists nodes (text_of dir) items → nearest nodes dir ≡ Some root → IsTestIn nodes dir part
-    → (item : Item) × Contains items item × (is_kept root.suite dir item ≡ true)
-    × (text_of (dir ++ part ∷ []) ≡ text_of (dir ++ item.name ∷ []))
-test_item nodes dir root items part parts lists near inside =
-    let (item, within, named, kind) = listed_whole nodes dir items part File parts lists inside.named inside.kind in
-    let open_here = ap (passing.is_passed root.suite) named ∙ sym (ap (λ r. is_passed r part) near) ∙ inside.kept in
-    let suffix = ap (λ name. passing.has_suffix root.suite (text_of (dir ++ name ∷ []))) named
-    ∙ sym (ap (λ r. has_suffix r (text_of (dir ++ part ∷ []))) near) ∙ inside.suffix in
-    let file = and_both (is_file item.kind) (passing.has_suffix root.suite (text_of (dir ++ item.name ∷ []))) (ap
-    is_file kind) suffix in (
-      item,
-      within,
-      and_both (not (passing.is_passed root.suite item.name))
-          (is_file item.kind && passing.has_suffix root.suite (text_of (dir ++ item.name ∷ []))) (ap not open_here)
-          file,
-      ap (λ name. text_of (dir ++ name ∷ [])) (sym named),
-    )
+  pub dir_item : (part : List ℕ) → IsDirIn nodes dir part
+      → (item : Item) × Contains items item × (is_entered root.suite item ≡ true)
+      × (dir ++ part ∷ [] ≡ dir ++ item.name ∷ [])
+  dir_item part inside =
+      let (item, within, named, kind) =
+      listed_whole nodes dir items part Dir of.parts of.lists inside.named inside.kind in (
+        item,
+        within,
+        and_both (not (passing.is_passed root.suite item.name)) (is_dir item.kind)
+            (opened item.name part named inside.kept) (ap is_dir kind),
+        ap (λ name. dir ++ name ∷ []) (sym named),
+      )
 
--- ---- places
+  pub file_item : (part : List ℕ) → IsTestIn nodes dir part
+      → (item : Item) × Contains items item × (is_kept root.suite dir item ≡ true)
+      × (dir ++ part ∷ [] ≡ dir ++ item.name ∷ [])
+  file_item part inside =
+      let (item, within, named, kind) =
+      listed_whole nodes dir items part File of.parts of.lists inside.named inside.kind in
+      let path = ap (λ name. dir ++ name ∷ []) (sym named) in (
+        item,
+        within,
+        and_both (not (passing.is_passed root.suite item.name))
+            (is_file item.kind && (passing.has_suffix root.suite (text_of (dir ++ item.name ∷ [])) && is_part item.name))
+            (opened item.name part named inside.kept)
+            (and_both (is_file item.kind)
+            (passing.has_suffix root.suite (text_of (dir ++ item.name ∷ [])) && is_part item.name) (ap is_file kind)
+            (and_both (passing.has_suffix root.suite (text_of (dir ++ item.name ∷ []))) (is_part item.name)
+            (ap (λ x. passing.has_suffix root.suite (text_of x)) (sym path)
+            ∙ sym (ap (λ r. has_suffix r (text_of (dir ++ part ∷ []))) of.near) ∙ inside.suffix)
+            (ap is_part named ∙ inside.named))),
+        path,
+      )
 
-pub under_it : (nodes : List Node) (seen : List Looked) (dir : Parts) (root : Rooted) (number : ℕ) (item : Item)
-    → list_all is_part dir ≡ true → root_at seen number ≡ Some root → nearest nodes dir ≡ root_at seen number
-    → IsDirIn nodes dir item.name → IsUnder nodes seen (place_of number dir item)
-under_it nodes seen dir root number item parts at near inside = record {
-  parts = parts_both dir (item.name ∷ []) parts (one_part item.name inside.named);
-  kind = inside.kind;
-  has = λ none. absurd (cc);
-  suite = near_inside nodes dir item.name
-      ∙ ap (or_else (rooted (dir ++ item.name ∷ []) (suite_at nodes (dir ++ item.name ∷ [])))) near;
-}
+  pub under_it : (item : Item) → IsDirIn nodes dir item.name → IsUnder nodes (place_of root dir item)
+  under_it item inside = record {
+    parts = parts_both dir (item.name ∷ []) of.parts (one_part item.name inside.named);
+    is_dir = inside.kind;
+    suite = ap (first_suite nodes) (upward_push dir item.name)
+        ∙ ap (or_else (rooted (dir ++ item.name ∷ []) (suite_at nodes (dir ++ item.name ∷ [])))) of.near;
+  }
 
-pub rooted_in : (nodes : List Node) (seen : List Looked) (dir : Parts) (root : Rooted) (number : ℕ) (item : Item)
-    → list_all is_part dir ≡ true → root_at seen number ≡ Some root → nearest nodes dir ≡ root_at seen number
-    → IsTestIn nodes dir item.name → IsRooted nodes seen (place_of number dir item)
-rooted_in nodes seen dir root number item parts at near inside = record {
-  some = name_behind dir item.name;
-  parts = parts_both dir (item.name ∷ []) parts (one_part item.name inside.named);
-  has = λ none. absurd (cc);
-  suite = ap (nearest nodes) (dir_of_push dir item.name) ∙ near;
-}
+  pub test_it : (words : List Parts) (item : Item) → IsTestIn nodes dir item.name
+      → IsTest nodes words (dir ++ item.name ∷ []) → IsTestFile nodes words (file_of root dir item)
+  test_it words item inside test =
+      let path = dir ++ item.name ∷ [] in
+      let same : path_in (text_of path) ≡ path =
+      path_in_word path (parts_both dir (item.name ∷ []) of.parts (one_part item.name inside.named))
+      (name_behind dir item.name) in
+      record {
+        suite = ap (λ one. nearest nodes (dir_of one)) same ∙ ap (nearest nodes) (dir_of_push dir item.name) ∙ of.near;
+        test = subst (IsTest nodes words) (sym same) test;
+      }
 
 -- ---- below a word
 
 pub walked_below : (nodes : List Node) (word dir : Parts) (part : List ℕ) → IsWalked nodes word dir
-    → IsDirIn nodes dir part
-    → IsWalked nodes word (dir ++ part ∷ [])
+    → IsDirIn nodes dir part → IsWalked nodes word (dir ++ part ∷ [])
 walked_below nodes word dir part walked inside = record {
   rest = walked.rest ++ part ∷ [];
   behind = ap (λ path. path ++ part ∷ []) walked.behind ∙ append_assoc word walked.rest (part ∷ []);
@@ -162,15 +179,12 @@ walked_below nodes word dir part walked inside = record {
       (subst (λ path. is_passed (nearest nodes path) part ≡ false) walked.behind inside.kept);
 }
 
-pub any_word : (P : Parts → Type 0) (words : List Parts) (word : Parts) → Contains words word → P word → Any P words
-any_word P words word (k, within, is) p = (k, word, within, is, p)
-
 pub test_below : (nodes : List Node) (words : List Parts) (word dir : Parts) (part : List ℕ) → Contains words word
     → kind_of nodes word ≡ Some Dir → IsWalked nodes word dir → IsTestIn nodes dir part
     → IsTest nodes words (dir ++ part ∷ [])
 test_below nodes words word dir part one from walked inside = (
   inside.kind,
-  any_word _ words word one (inr (record {
+  any_one _ words word one (inr (record {
     rest = walked.rest ++ part ∷ [];
     behind = ap (λ path. path ++ part ∷ []) walked.behind ∙ append_assoc word walked.rest (part ∷ []);
     from_dir = from;

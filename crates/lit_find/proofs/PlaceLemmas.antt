@@ -1,226 +1,192 @@
--- What a list of places has behind one that is put in, and behind what a directory lists.
-use Rattle.std.proofs.Common.{◌≡◌, ℕ, zero, suc, ◌+◌, ◌≤◌, Bool, true, false, true≢false, cond, ◌⊎◌, inl, inr, List, [], ◌∷◌, ◌++◌, length, map, All, refl, sym, ap, ◌∙◌, subst, arith}
+-- What lists of places and files have behind one that is put in, and behind what a directory lists.
+-- By induction over the list, and over the items: what was there stays, and what an item makes is there.
+-- The hard one is `put_has`.
+use Rattle.std.proofs.Common.{◌≡◌, ◌+◌, ◌≤◌, Bool, true, false, true≢false, cond, ◌⊎◌, inl, inr, List, [], ◌∷◌, ◌++◌, length, map, All, refl, sym, ap, ◌∙◌, subst, arith}
+use Rattle.std.specs.BTreeMap.{insert_entry}
 use Rattle.std.specs.List.{Contains}
 use Rattle.std.specs.Ordering.{match_ordering}
 use Rattle.std.specs.declared.cmp.Ordering.{Ordering}
 use Rattle.std.specs.declared.cmp.Ordering.TheVariants.{Less, Equal, Greater}
-use Rattle.std.proofs.lemmas.List.Elements.{All-cons, All-head, All-tail, Contains-append_cases, Contains-append_left, Contains-append_right, Contains-push}
+use Rattle.std.proofs.lemmas.List.{map_push}
+use Rattle.std.proofs.lemmas.List.Elements.{All-cons, All-head, All-push, All-tail, Contains-append_left, Contains-push}
 use Rattle.tt_outside.specs.declared.tree.Item.{Item}
+use Rattle.lit_look.specs.declared.root.SuiteRoot.{SuiteRoot}
 use Rattle.lit_paths.specs.Paths.{Parts, text_of}
-use Rattle.lit_suite.specs.declared.suite_file.Suite.{Suite}
-use Rattle.lit_find.specs.Places.{path_order, place_in, put, text_order}
-use Rattle.lit_find.specs.Sorting.{is_entered, is_kept, place_of, text_in, with_dir, with_dirs, with_file, with_files}
-use Rattle.lit_find.specs.Walk.{HasPath, HasText}
+use Rattle.lit_find.specs.Places.{IsInside, path_order, place_of_entry, put}
+use Rattle.lit_find.specs.Sorting.{file_of, is_entered, is_kept, place_of, text_in, with_dir, with_dirs, with_file, with_files}
+use Rattle.lit_find.specs.Walk.{HasFile, HasPath}
+use Rattle.lit_find.specs.declared.place.TestFile.{TestFile}
 use Rattle.lit_find.specs.declared.place.Place.{Place}
-use Rattle.lit_find.proofs.EntryLemmas.{exact_parts}
-use Rattle.lit_find.proofs.PathLemmas.{name_told}
-use Rattle.std.proofs.lemmas.Map.Lookups.{exact_bytes}
+use Rattle.lit_find.proofs.KeyLemmas.{Key, exact_parts, inserted, vec_cmp}
+use Rattle.lit_find.proofs.ListLemmas.{cons_cases, first_in, later_in, none_in}
 
--- ---- lists
-
-pub first_in : {A : Type 0} (x : A) (xs : List A) → Contains (x ∷ xs) x
-first_in x xs = Contains-append_left (x ∷ []) xs x (Contains-push [] x)
-
-pub later_in : {A : Type 0} (x y : A) (xs : List A) → Contains xs y → Contains (x ∷ xs) y
-later_in x y xs h = Contains-append_right (x ∷ []) xs y h
-
-only : {A : Type 0} (x y : A) → Contains (x ∷ []) y → y ≡ x
-only x y (zero, within, is) = sym is
-only x y (suc k, within, is) = absurd (omega arith)
-
-pub cons_cases : {A : Type 0} (x y : A) (xs : List A) → Contains (x ∷ xs) y → (y ≡ x) ⊎ Contains xs y
-cons_cases x y xs h = elim (Contains-append_cases (x ∷ []) xs y h) [
-  | inl one ↦ inl (only x y one)
-  | inr later ↦ inr later
-]
-
-pub none_in : {A : Type 0} (x : A) → Contains [] x → ⊥
-none_in x (k, within, is) = absurd (omega arith)
-
--- ---- a place that is put in
+-- ---- one more
 
 -- what holds of each place and of one more
-pub all_put : (P : Place → Type 0) (order : Place → Place → Ordering) (place : Place) (places : List Place) → P place
-    → All P places → All P (put order place places)
-all_put P order place [] p all = All-cons P place [] p all
-all_put P order place (one ∷ places) p all =
-    by_order (order place one) (all_put P order place places p (All-tail P one places all))
+pub all_put : (P : Place → Type 0) (place : Place) (places : List Place) → P place → All P places
+    → All P (put path_order place places)
+all_put P place [] p all = All-cons P place [] p all
+all_put P place (one ∷ places) p all =
+    by_order (path_order place one) (all_put P place places p (All-tail P one places all))
   where
-    by_order : (o : Ordering) → All P (put order place places)
-        → All P (match_ordering o (place ∷ one ∷ places) (place ∷ places) (one ∷ put order place places))
+    by_order : (o : Ordering) → All P (put path_order place places)
+        → All P (match_ordering o (place ∷ one ∷ places) (place ∷ places) (one ∷ put path_order place places))
     by_order Less later = All-cons P place (one ∷ places) p all
     by_order Equal later = All-cons P place places p (All-tail P one places all)
-    by_order Greater later = All-cons P one (put order place places) (All-head P one places all) later
+    by_order Greater later = All-cons P one (put path_order place places) (All-head P one places all) later
 
--- where the order is that of keys, a key is there behind if it was there before, and that of the place is there
-pub put_has : {K : Type 0} (of : Place → K) (order : Place → Place → Ordering)
-    → ((one other : Place) → order one other ≡ Equal → of one ≡ of other)
-    → (place : Place) (places : List Place) (key : K)
-    → (key ≡ of place) ⊎ Contains (map of places) key → Contains (map of (put order place places)) key
-put_has of order exact place [] key h = elim h [
-  | inl is ↦ subst (λ k. Contains (of place ∷ []) k) (sym is) (first_in (of place) [])
-  | inr had ↦ absurd (none_in key had)
-]
-put_has of order exact place (one ∷ places) key h =
-    by_order (order place one) refl (put_has of order exact place places key)
+pub inside_put : (entries : List (Key × SuiteRoot)) (key : Key) (suite : SuiteRoot) → IsInside (place_of_entry (key, suite))
+    → All IsInside (map place_of_entry entries)
+    → All IsInside (map place_of_entry (insert_entry vec_cmp entries key suite))
+inside_put entries key suite here all =
+    subst (All IsInside) (sym (inserted entries key suite))
+    (all_put IsInside (place_of_entry (key, suite)) (map place_of_entry entries) here all)
+
+here : (places : List Place) (place : Place) (path : Parts) → path ≡ place.path → HasPath (place ∷ places) path
+here places place path is =
+    subst (λ one. HasPath (place ∷ places) one) (sym is) (first_in place.path (map (λ one. one.path) places))
+
+-- a path is there behind if it was there before, and that of the place is
+pub put_has : (place : Place) (places : List Place) (path : Parts) → (path ≡ place.path) ⊎ HasPath places path
+    → HasPath (put path_order place places) path
+put_has place [] path (inl is) = here [] place path is
+put_has place [] path (inr had) = absurd (none_in path had)
+put_has place (one ∷ places) path h =
+    by_order (path_order place one) refl h (put_has place places path)
   where
-    by_order : (o : Ordering) → order place one ≡ o
-        → ((key ≡ of place) ⊎ Contains (map of places) key → Contains (map of (put order place places)) key)
-        → Contains (map of (match_ordering o (place ∷ one ∷ places) (place ∷ places) (one ∷ put order place places)))
-        key
-    by_order Less is later = elim h [
-      | inl same ↦ subst (λ k. Contains (of place ∷ of one ∷ map of places) k) (sym same) (first_in (of place) (of one ∷
-          map of places))
-      | inr had ↦ later_in (of place) key (of one ∷ map of places) had
+    next : List Place
+    next = put path_order place places
+
+    by_order : (o : Ordering) → path_order place one ≡ o → (path ≡ place.path) ⊎ HasPath (one ∷ places) path
+        → ((path ≡ place.path) ⊎ HasPath places path → HasPath (put path_order place places) path)
+        → HasPath (match_ordering o (place ∷ one ∷ places) (place ∷ places) (one ∷ put path_order place places)) path
+    by_order Less is (inl same) later = here (one ∷ places) place path same
+    by_order Less is (inr had) later = later_in place.path path (map (λ one. one.path) (one ∷ places)) had
+    by_order Equal is (inl same) later = here places place path same
+    by_order Equal is (inr had) later = elim (cons_cases one.path path (map (λ one. one.path) places) had) [
+      | inl same ↦ here places place path (same ∙ sym (exact_parts place.path one.path is))
+      | inr more ↦ later_in place.path path (map (λ one. one.path) places) more
     ]
-    by_order Equal is later = elim h [
-      | inl same ↦ subst (λ k. Contains (of place ∷ map of places) k) (sym same) (first_in (of place) (map of places))
-      | inr had ↦ elim (cons_cases (of one) key (map of places) had) [
-        | inl same ↦ subst (λ k. Contains (of place ∷ map of places) k) (exact place one is
-            ∙ sym same) (first_in (of place) (map of places))
-        | inr more ↦ later_in (of place) key (map of places) more
-      ]
-    ]
-    by_order Greater is later = elim h [
-      | inl same ↦ later_in (of one) key (map of (put order place places)) (later (inl same))
-      | inr had ↦ elim (cons_cases (of one) key (map of places) had) [
-        | inl same ↦ subst (λ k. Contains (of one ∷ map of (put order place places)) k) (sym same) (first_in (of one)
-            (map of (put order place places)))
-        | inr more ↦ later_in (of one) key (map of (put order place places)) (later (inr more))
-      ]
+    by_order Greater is (inl same) later = later_in one.path path (map (λ one. one.path) next) (later (inl same))
+    by_order Greater is (inr had) later = elim (cons_cases one.path path (map (λ one. one.path) places) had) [
+      | inl same ↦ here next one path same
+      | inr more ↦ later_in one.path path (map (λ one. one.path) next) (later (inr more))
     ]
 
 -- there is one more at most
-pub put_length : (order : Place → Place → Ordering) (place : Place) (places : List Place)
-    → length (put order place places) ≤ length places + 1
-put_length order place [] = omega arith
-put_length order place (one ∷ places) = by_order (order place one) (put_length order place places)
+put_length : (place : Place) (places : List Place) → length (put path_order place places) ≤ length places + 1
+put_length place [] = omega arith
+put_length place (one ∷ places) = by_order (path_order place one) (put_length place places)
   where
-    by_order : (o : Ordering) → length (put order place places) ≤ length places + 1
-        → length (match_ordering o (place ∷ one ∷ places) (place ∷ places) (one ∷ put order place places))
+    by_order : (o : Ordering) → length (put path_order place places) ≤ length places + 1
+        → length (match_ordering o (place ∷ one ∷ places) (place ∷ places) (one ∷ put path_order place places))
         ≤ length (one ∷ places) + 1
     by_order Less later = omega arith
     by_order Equal later = omega arith
     by_order Greater later = omega arith
 
+-- the same of files
+pub file_has : (file : TestFile) (files : List TestFile) (path : Parts) → (text_of path ≡ file.path) ⊎ HasFile files path
+    → HasFile (files ++ file ∷ []) path
+file_has file files path h =
+    subst (λ texts. Contains texts (text_of path)) (sym (map_push (λ one. one.path) files file)) (elim h [
+      | inl is ↦ subst (λ text. Contains (map (λ one. one.path) files ++ file.path ∷ []) text) (sym is)
+          (Contains-push (map (λ one. one.path) files) file.path)
+      | inr had ↦ Contains-append_left (map (λ one. one.path) files) (file.path ∷ []) (text_of path) had
+    ])
+
 -- ---- what a directory lists
 
--- what holds of each place, and of each that an item makes
-pub all_dirs : (P : Place → Type 0) (suite : Suite) (number : ℕ) (dir : Parts) (items : List Item) (places : List Place)
-    → ((item : Item) → Contains items item → is_entered suite item ≡ true → P (place_of number dir item)) → All P places
-    → All P (with_dirs suite number dir items places)
-all_dirs P suite number dir [] places each all = all
-all_dirs P suite number dir (item ∷ items) places each all =
-    all_dirs P suite number dir items (with_dir suite number dir item places)
-    (λ one within. each one (later_in item one items within))
-    (by_test (is_entered suite item) refl)
-  where
-    by_test : (b : Bool) → is_entered suite item ≡ b
-        → All P (cond b (put path_order (place_of number dir item) places) places)
-    by_test true is = all_put P path_order (place_of number dir item) places (each item (first_in item items) is) all
-    by_test false is = all
+module _ (root : SuiteRoot) (dir : Parts) where
+  -- what holds of each place, and of each that an item makes
+  pub all_dirs : (P : Place → Type 0) (items : List Item) (places : List Place)
+      → ((item : Item) → Contains items item → is_entered root.suite item ≡ true → P (place_of root dir item))
+      → All P places → All P (with_dirs root dir items places)
+  all_dirs P [] places each all = all
+  all_dirs P (item ∷ items) places each all =
+      all_dirs P items (with_dir root dir item places) (λ one within. each one (later_in item one items within))
+      (by_test (is_entered root.suite item) refl)
+    where
+      by_test : (b : Bool) → is_entered root.suite item ≡ b
+          → All P (cond b (put path_order (place_of root dir item) places) places)
+      by_test true is = all_put P (place_of root dir item) places (each item (first_in item items) is) all
+      by_test false is = all
 
-pub all_files : (P : Place → Type 0) (suite : Suite) (number : ℕ) (dir : Parts) (items : List Item) (places : List
-    Place)
-    → ((item : Item) → Contains items item → is_kept suite dir item ≡ true → P (place_in (text_in dir item) number))
-    → All P places → All P (with_files suite number dir items places)
-all_files P suite number dir [] places each all = all
-all_files P suite number dir (item ∷ items) places each all =
-    all_files P suite number dir items (with_file suite number dir item places)
-    (λ one within. each one (later_in item one items within))
-    (by_test (is_kept suite dir item) refl)
-  where
-    by_test : (b : Bool) → is_kept suite dir item ≡ b
-        → All P (cond b (put text_order (place_in (text_in dir item) number) places) places)
-    by_test true is =
-        all_put P text_order (place_in (text_in dir item) number) places (each item (first_in item items) is) all
-    by_test false is = all
+  pub all_files : (P : TestFile → Type 0) (items : List Item) (files : List TestFile)
+      → ((item : Item) → Contains items item → is_kept root.suite dir item ≡ true → P (file_of root dir item))
+      → All P files → All P (with_files root dir items files)
+  all_files P [] files each all = all
+  all_files P (item ∷ items) files each all =
+      all_files P items (with_file root dir item files) (λ one within. each one (later_in item one items within))
+      (by_test (is_kept root.suite dir item) refl)
+    where
+      by_test : (b : Bool) → is_kept root.suite dir item ≡ b → All P (cond b (files ++ file_of root dir item ∷ []) files)
+      by_test true is = All-push P files (file_of root dir item) all (each item (first_in item items) is)
+      by_test false is = all
 
--- the paths that were there, and those of the items
-dir_has : (suite : Suite) (number : ℕ) (dir : Parts) (item : Item) (places : List Place) (path : Parts)
-    → ((path ≡ dir ++ item.name ∷ []) × (is_entered suite item ≡ true)) ⊎ HasPath places path
-    → HasPath (with_dir suite number dir item places) path
-dir_has suite number dir item places path h = by_test (is_entered suite item) refl h
-  where
-    place : Place
-    place = place_of number dir item
+  -- the paths that were there, and those of the items
+  dir_has : (item : Item) (places : List Place) (path : Parts)
+      → ((path ≡ dir ++ item.name ∷ []) × (is_entered root.suite item ≡ true)) ⊎ HasPath places path
+      → HasPath (with_dir root dir item places) path
+  dir_has item places path h = by_test (is_entered root.suite item) refl h
+    where
+      by_test : (b : Bool) → is_entered root.suite item ≡ b
+          → ((path ≡ dir ++ item.name ∷ []) × (is_entered root.suite item ≡ true)) ⊎ HasPath places path
+          → HasPath (cond b (put path_order (place_of root dir item) places) places) path
+      by_test true is (inl same) = put_has (place_of root dir item) places path (inl same.0)
+      by_test true is (inr had) = put_has (place_of root dir item) places path (inr had)
+      by_test false is (inl same) = absurd (true≢false (sym same.1 ∙ is))
+      by_test false is (inr had) = had
 
-    by_test : (b : Bool) → is_entered suite item ≡ b → ((path ≡ place.path) × (is_entered suite item ≡ true))
-        ⊎ HasPath places path
-        → HasPath (cond b (put path_order place places) places) path
-    by_test true is (inl same) = put_has (λ one. one.path) path_order (λ one other h. exact_parts one.path other.path h)
-        place places path (inl same.0)
-    by_test true is (inr had) = put_has (λ one. one.path) path_order (λ one other h. exact_parts one.path other.path h)
-        place places path (inr had)
-    by_test false is (inl same) = absurd (true≢false (sym same.1 ∙ is))
-    by_test false is (inr had) = had
+  pub dirs_have : (items : List Item) (places : List Place) (path : Parts)
+      → ((item : Item) × Contains items item × (is_entered root.suite item ≡ true) × (path ≡ dir ++ item.name ∷ []))
+      ⊎ HasPath places path → HasPath (with_dirs root dir items places) path
+  dirs_have [] places path (inl (item, within, entered, is)) = absurd (none_in item within)
+  dirs_have [] places path (inr had) = had
+  dirs_have (one ∷ items) places path (inl (item, within, entered, is)) =
+      dirs_have items (with_dir root dir one places) path (elim (cons_cases one item items within) [
+        | inl same ↦ inr (dir_has one places path
+            (inl (is ∙ ap (λ x. dir ++ x.name ∷ []) same, ap (is_entered root.suite) (sym same) ∙ entered)))
+        | inr later ↦ inl (item, later, entered, is)
+      ])
+  dirs_have (one ∷ items) places path (inr had) =
+      dirs_have items (with_dir root dir one places) path (inr (dir_has one places path (inr had)))
 
-pub dirs_have : (suite : Suite) (number : ℕ) (dir : Parts) (items : List Item) (places : List Place) (path : Parts)
-    → ((item : Item) × Contains items item × (is_entered suite item ≡ true) × (path ≡ dir ++ item.name ∷ []))
-    ⊎ HasPath places path
-    → HasPath (with_dirs suite number dir items places) path
-dirs_have suite number dir [] places path (inl (item, within, entered, is)) = absurd (none_in item within)
-dirs_have suite number dir [] places path (inr had) = had
-dirs_have suite number dir (one ∷ items) places path (inl (item, within, entered, is)) =
-    let rest = with_dir suite number dir one places in
-    elim (cons_cases one item items within) [
-      | inl same ↦ dirs_have suite number dir items rest path
-          (inr (dir_has suite number dir one places path
-          (inl (is ∙ ap (λ x. dir ++ x.name ∷ []) same, ap (is_entered suite) (sym same) ∙ entered))))
-      | inr later ↦ dirs_have suite number dir items rest path (inl (item, later, entered, is))
-    ]
-dirs_have suite number dir (one ∷ items) places path (inr had) =
-    dirs_have suite number dir items (with_dir suite number dir one places) path
-    (inr (dir_has suite number dir one places path (inr had)))
+  one_file : (item : Item) (files : List TestFile) (path : Parts)
+      → ((text_of path ≡ text_in dir item) × (is_kept root.suite dir item ≡ true)) ⊎ HasFile files path
+      → HasFile (with_file root dir item files) path
+  one_file item files path h = by_test (is_kept root.suite dir item) refl h
+    where
+      by_test : (b : Bool) → is_kept root.suite dir item ≡ b
+          → ((text_of path ≡ text_in dir item) × (is_kept root.suite dir item ≡ true)) ⊎ HasFile files path
+          → HasFile (cond b (files ++ file_of root dir item ∷ []) files) path
+      by_test true is (inl same) = file_has (file_of root dir item) files path (inl same.0)
+      by_test true is (inr had) = file_has (file_of root dir item) files path (inr had)
+      by_test false is (inl same) = absurd (true≢false (sym same.1 ∙ is))
+      by_test false is (inr had) = had
 
-file_has : (suite : Suite) (number : ℕ) (dir : Parts) (item : Item) (places : List Place) (text : List ℕ)
-    → ((text ≡ text_in dir item) × (is_kept suite dir item ≡ true)) ⊎ HasText places text
-    → HasText (with_file suite number dir item places) text
-file_has suite number dir item places text h = by_test (is_kept suite dir item) refl h
-  where
-    place : Place
-    place = place_in (text_in dir item) number
+  pub files_have : (items : List Item) (files : List TestFile) (path : Parts)
+      → ((item : Item) × Contains items item × (is_kept root.suite dir item ≡ true) × (path ≡ dir ++ item.name ∷ []))
+      ⊎ HasFile files path → HasFile (with_files root dir items files) path
+  files_have [] files path (inl (item, within, kept, is)) = absurd (none_in item within)
+  files_have [] files path (inr had) = had
+  files_have (one ∷ items) files path (inl (item, within, kept, is)) =
+      files_have items (with_file root dir one files) path (elim (cons_cases one item items within) [
+        | inl same ↦ inr (one_file one files path
+            (inl (ap text_of is ∙ ap (text_in dir) same, ap (is_kept root.suite dir) (sym same) ∙ kept)))
+        | inr later ↦ inl (item, later, kept, is)
+      ])
+  files_have (one ∷ items) files path (inr had) =
+      files_have items (with_file root dir one files) path (inr (one_file one files path (inr had)))
 
-    by_test : (b : Bool) → is_kept suite dir item ≡ b
-        → ((text ≡ text_in dir item) × (is_kept suite dir item ≡ true)) ⊎ HasText places text
-        → HasText (cond b (put text_order place places) places) text
-    by_test true is (inl same) = put_has (λ one. text_of one.path) text_order
-        (λ one other h. exact_bytes (text_of one.path) (text_of other.path) h) place places text
-        (inl (same.0 ∙ sym (name_told dir item.name)))
-    by_test true is (inr had) = put_has (λ one. text_of one.path) text_order
-        (λ one other h. exact_bytes (text_of one.path) (text_of other.path) h) place places text (inr had)
-    by_test false is (inl same) = absurd (true≢false (sym same.1 ∙ is))
-    by_test false is (inr had) = had
-
-pub files_have : (suite : Suite) (number : ℕ) (dir : Parts) (items : List Item) (places : List Place) (text : List ℕ)
-    → ((item : Item) × Contains items item × (is_kept suite dir item ≡ true) × (text ≡ text_in dir item))
-    ⊎ HasText places text
-    → HasText (with_files suite number dir items places) text
-files_have suite number dir [] places text (inl (item, within, kept, is)) = absurd (none_in item within)
-files_have suite number dir [] places text (inr had) = had
-files_have suite number dir (one ∷ items) places text (inl (item, within, kept, is)) =
-    let rest = with_file suite number dir one places in
-    elim (cons_cases one item items within) [
-      | inl same ↦ files_have suite number dir items rest text
-          (inr (file_has suite number dir one places text
-          (inl (
-            is ∙ ap (text_in dir) same,
-            ap (is_kept suite dir) (sym same) ∙ kept,
-          ))))
-      | inr later ↦ files_have suite number dir items rest text (inl (item, later, kept, is))
-    ]
-files_have suite number dir (one ∷ items) places text (inr had) =
-    files_have suite number dir items (with_file suite number dir one places) text
-    (inr (file_has suite number dir one places text (inr had)))
-
-pub dirs_length : (suite : Suite) (number : ℕ) (dir : Parts) (items : List Item) (places : List Place)
-    → length (with_dirs suite number dir items places) ≤ length places + length items
-dirs_length suite number dir [] places = omega arith
-dirs_length suite number dir (item ∷ items) places =
-    let later = dirs_length suite number dir items (with_dir suite number dir item places) in
-    let one = by_test (is_entered suite item) in
-    omega arith
-  where
-    by_test : (b : Bool) → length (cond b (put path_order (place_of number dir item) places) places) ≤ length places + 1
-    by_test true = put_length path_order (place_of number dir item) places
-    by_test false = omega arith
+  pub dirs_length : (items : List Item) (places : List Place)
+      → length (with_dirs root dir items places) ≤ length places + length items
+  dirs_length [] places = omega arith
+  dirs_length (item ∷ items) places =
+      let later = dirs_length items (with_dir root dir item places) in
+      let one = by_test (is_entered root.suite item) in
+      omega arith
+    where
+      by_test : (b : Bool) → length (cond b (put path_order (place_of root dir item) places) places) ≤ length places + 1
+      by_test true = put_length (place_of root dir item) places
+      by_test false = omega arith

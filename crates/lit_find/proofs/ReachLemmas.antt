@@ -1,4 +1,6 @@
 -- What is reached from a directory whose inner directories are walked through, part by part.
+-- By induction over the rest of a path: each part is a directory that is walked through or is to be, or the test itself.
+-- The hard one is `reached`.
 use Rattle.std.proofs.Common.{◌≡◌, ◌≢◌, ℕ, ◌-◌, true, false, ◌&&◌, ◌⊎◌, inl, inr, List, [], ◌∷◌, ◌++◌, length, take, Some, None, refl, sym, ap, ◌∙◌, subst, append_assoc, append-nil, arith, length-append}
 use Rattle.std.specs.List.{list_all}
 use Rattle.std.proofs.lemmas.List.{take-append-le}

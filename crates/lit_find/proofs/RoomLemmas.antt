@@ -1,14 +1,18 @@
 -- How long a walk may take: each further directory makes the room no greater.
+-- Idea: a directory that is walked through leaves the count of idle items, and brings no more places than it lists items.
+-- The hard one is `room_through`.
 use Rattle.std.proofs.Common.{◌≡◌, ℕ, zero, suc, ◌+◌, ◌≤◌, ◌==◌, Bool, true, false, true≢false, cond, List, [], ◌∷◌, ◌++◌, length, Some, refl, sym, ap, ◌∙◌, subst, arith}
 use Rattle.std.specs.Prelude.{slice_get}
-use Rattle.std.proofs.lemmas.Bool.Decides.{nat_tests}
+use Rattle.std.specs.Option.{unwrap_or}
 use Rattle.std.proofs.lemmas.List.Sums.{sum_by-append, sum_by-cons}
 use Rattle.lit_look.specs.Looks.{Extends}
 use Rattle.lit_look.specs.Seen.{count_items}
+use Rattle.lit_look.specs.declared.root.SuiteRoot.{SuiteRoot}
 use Rattle.lit_look.specs.declared.seen.Looked.{Looked}
-use Rattle.lit_find.specs.Walk.{Enters, IsThrough, idle, own_or, room, was_walked}
-use Rattle.lit_find.specs.declared.visit.Walk.{Walk}
+use Rattle.lit_find.specs.Walk.{Enters, IsThrough, idle, room, was_walked}
+use Rattle.lit_find.specs.declared.walk.Walk.{Walk}
 use Rattle.lit_find.proofs.PlaceLemmas.{dirs_length}
+use Rattle.lit_find.proofs.SeenLemmas.{marked_here}
 
 -- ---- further looks
 
@@ -79,29 +83,24 @@ mark_stays : (a b : Bool) → b ≡ true → cond a true b ≡ true
 mark_stays true b h = refl
 mark_stays false b h = h
 
-room_through : (seen : List Looked) (number known : ℕ) (old new : Walk) → was_walked old number ≡ false
-    → IsThrough seen number known old new → room seen new ≤ room seen old
-room_through seen number known old new fresh through =
-    let same : (number == number) ≡ true = grind (arith, nat_tests) in
-    let marked : was_walked new number ≡ true =
-    through.marked number ∙ ap (λ b. cond b true (was_walked old number)) same in
-    let less : idle (was_walked new) 0 seen + length through.looked.items ≤ idle (was_walked old) 0 seen =
-    idle_marked (was_walked old) (was_walked new) 0 number seen through.looked
-    (λ n was. through.marked n ∙ mark_stays (n == number) (was_walked old n) was) through.here
-    (ap (was_walked old) (omega arith) ∙ fresh) (ap (was_walked new) (omega arith) ∙ marked) in
-    let more : length new.pending ≤ length old.pending + length through.looked.items =
-    subst (λ places. length places ≤ length old.pending + length through.looked.items) (sym through.dirs)
-    (dirs_length through.rooted.suite (own_or (Some through.looked) number known) through.looked.dir
-    through.looked.items old.pending) in
+room_through : (seen : List Looked) (looked : Looked) (number : ℕ) (known : SuiteRoot) (old new : Walk)
+    → slice_get seen number ≡ Some looked → was_walked old number ≡ false → IsThrough looked number known old new
+    → room seen new ≤ room seen old
+room_through seen looked number known old new here fresh through =
+    let less : idle (was_walked new) 0 seen + length looked.items ≤ idle (was_walked old) 0 seen =
+    idle_marked (was_walked old) (was_walked new) 0 number seen looked
+    (λ n was. through.marked n ∙ mark_stays (n == number) (was_walked old n) was) here
+    (ap (was_walked old) (omega arith) ∙ fresh)
+    (ap (was_walked new) (omega arith) ∙ marked_here number old new through.marked) in
+    let more : length new.pending ≤ length old.pending + length looked.items =
+    subst (λ places. length places ≤ length old.pending + length looked.items) (sym through.dirs)
+    (dirs_length (unwrap_or looked.suite known) looked.dir looked.items old.pending) in
     omega arith
 
-pub room_entered : (seen : List Looked) (number known : ℕ) (old new : Walk) → Enters seen number known old new
-    → room seen new ≤ room seen old
-room_entered seen number known old new enters = by_test (was_walked old number) refl
+pub room_entered : (seen : List Looked) (looked : Looked) (number : ℕ) (known : SuiteRoot) (old new : Walk)
+    → slice_get seen number ≡ Some looked → Enters looked number known old new → room seen new ≤ room seen old
+room_entered seen looked number known old new here enters = by_test (was_walked old number) refl
   where
-    same_room : new ≡ old → room seen new ≤ room seen old
-    same_room is = subst (λ walk. room seen walk ≤ room seen old) (sym is) (omega arith)
-
     by_test : (b : Bool) → was_walked old number ≡ b → room seen new ≤ room seen old
-    by_test true was = same_room (enters.again was)
-    by_test false was = room_through seen number known old new was (enters.first was)
+    by_test true was = subst (λ walk. room seen walk ≤ room seen old) (sym (enters.again was)) (omega arith)
+    by_test false was = room_through seen looked number known old new here was (enters.first was)

@@ -1,18 +1,17 @@
--- What stays where further directories were looked at.
-use Rattle.std.proofs.Common.{◌≡◌, ◌≢◌, ℕ, zero, suc, ◌<◌, true, List, [], ◌∷◌, ◌++◌, length, Option, Some, None, get_or, refl, sym, ap, ◌∙◌}
+-- Directories that were walked through, where further ones were looked at, and where one more is marked.
+-- Idea: numbers stay, since further directories come behind, and each number that was marked is of an earlier one.
+-- The hard one is `marked_only`.
+use Rattle.std.proofs.Common.{◌≡◌, ℕ, zero, suc, ◌<◌, ◌==◌, Bool, true, false, cond, ◌⊎◌, inl, inr, List, [], ◌∷◌, ◌++◌, length, Some, get_or, refl, sym, ap, ◌∙◌, arith}
 use Rattle.std.specs.Prelude.{slice_get}
+use Rattle.std.proofs.lemmas.Bool.Decides.{nat_tests}
 use Rattle.std.proofs.lemmas.Option.{get_or_from_slice_get, slice_get-get_or, slice_get_within}
-use Rattle.tt_outside.specs.declared.tree.Node.{Node}
 use Rattle.lit_paths.specs.Paths.{Parts}
-use Rattle.lit_dirs.specs.Suites.{suite_at}
 use Rattle.lit_look.specs.Looks.{Extends, IsNumberOf}
 use Rattle.lit_look.specs.Seen.{Has}
-use Rattle.lit_look.specs.Suites.{or_else, rooted}
 use Rattle.lit_look.specs.declared.seen.Looked.{Looked}
 use Rattle.lit_look.proofs.SeenLemmas.{has_at}
-use Rattle.lit_find.specs.Walk.{IsRooted, IsUnder, Walked, root_at, root_of, was_walked}
-use Rattle.lit_find.specs.declared.place.Place.{Place}
-use Rattle.lit_find.specs.declared.visit.Walk.{Walk}
+use Rattle.lit_find.specs.Walk.{Walked, was_walked}
+use Rattle.lit_find.specs.declared.walk.Walk.{Walk}
 
 behind : (old more : List Looked) (number : ℕ) (looked : Looked) → slice_get old number ≡ Some looked
     → slice_get (old ++ more) number ≡ Some looked
@@ -20,36 +19,9 @@ behind [] more number looked h = absurd (cc)
 behind (one ∷ old) more zero looked h = h
 behind (one ∷ old) more (suc number) looked h = behind old more number looked h
 
-pub get_longer : (old new : List Looked) (number : ℕ) (looked : Looked) → Extends old new
+get_longer : (old new : List Looked) (number : ℕ) (looked : Looked) → Extends old new
     → slice_get old number ≡ Some looked → slice_get new number ≡ Some looked
 get_longer old new number looked (more, is) h = ap (λ seen. slice_get seen number) is ∙ behind old more number looked h
-
-pub root_longer : (old new : List Looked) (number : ℕ) → Extends old new → root_at old number ≢ None
-    → root_at new number ≡ root_at old number
-root_longer old new number longer some = by_entry (slice_get old number) refl some
-  where
-    by_entry : (o : Option Looked) → slice_get old number ≡ o → root_of o ≢ None → root_at new number ≡ root_of o
-    by_entry None is some = absurd (some refl)
-    by_entry (Some looked) is some = ap root_of (get_longer old new number looked longer is)
-
-pub under_longer : (nodes : List Node) (old new : List Looked) (place : Place) → Extends old new
-    → IsUnder nodes old place
-    → IsUnder nodes new place
-under_longer nodes old new place longer under =
-    let same = root_longer old new place.suite longer under.has in
-    record {
-      parts = under.parts;
-      kind = under.kind;
-      has = λ none. under.has (sym same ∙ none);
-      suite = under.suite ∙ ap (or_else (rooted place.path (suite_at nodes place.path))) (sym same);
-    }
-
-pub rooted_longer : (nodes : List Node) (old new : List Looked) (place : Place) → Extends old new
-    → IsRooted nodes old place
-    → IsRooted nodes new place
-rooted_longer nodes old new place longer is =
-    let same = root_longer old new place.suite longer is.has in
-    record { some = is.some; parts = is.parts; has = λ none. is.has (sym same ∙ none); suite = is.suite ∙ sym same }
 
 pub walked_longer : (old new : List Looked) (walk : Walk) (dir : Parts) → Extends old new → Walked old walk dir
     → Walked new walk dir
@@ -69,3 +41,45 @@ pub has_number : (seen : List Looked) (dir : Parts) (number : ℕ) → IsNumberO
 has_number seen dir number (looked, here, is) =
     has_at seen number looked dir (slice_get_within seen number looked here)
     (ap (λ one. one.dir) (get_or_from_slice_get seen number looked looked here) ∙ is)
+
+pub dir_at : (seen : List Looked) (dir : Parts) (number : ℕ) (looked : Looked) → IsNumberOf seen dir number
+    → slice_get seen number ≡ Some looked → looked.dir ≡ dir
+dir_at seen dir number looked (one, there, is) here =
+    let both : Some one ≡ Some looked = sym there ∙ here in
+    let same : one ≡ looked = cc in
+    ap (λ x. x.dir) (sym same) ∙ is
+
+-- ---- one more is marked
+
+either : (a b : Bool) → b ≡ true → cond a true b ≡ true
+either true b h = refl
+either false b h = h
+
+module _ (number : ℕ) (old new : Walk)
+    (marked : (other : ℕ) → was_walked new other ≡ cond (other == number) true (was_walked old other)) where
+  pub marked_before : (seen : List Looked) (dir : Parts) → Walked seen old dir → Walked seen new dir
+  marked_before seen dir (other, is, was) =
+      (other, is, marked other ∙ either (other == number) (was_walked old other) was)
+
+  pub marked_here : was_walked new number ≡ true
+  marked_here = marked number ∙ ap (λ b. cond b true (was_walked old number)) (itself number)
+    where
+      itself : (n : ℕ) → (n == n) ≡ true
+      itself n = grind (arith, nat_tests)
+
+  pub marked_cases : (other : ℕ) → was_walked new other ≡ true → (was_walked old other ≡ true) ⊎ (other ≡ number)
+  marked_cases other was = by_test (other == number) refl (sym (marked other) ∙ was)
+    where
+      by_test : (b : Bool) → (other == number) ≡ b → cond b true (was_walked old other) ≡ true
+          → (was_walked old other ≡ true) ⊎ (other ≡ number)
+      by_test true same h = inr (grind (arith, nat_tests))
+      by_test false same h = inl h
+
+  pub marked_only : (seen : List Looked) (looked : Looked) (dir : Parts) → slice_get seen number ≡ Some looked
+      → Walked seen new dir → Walked seen old dir ⊎ (dir ≡ looked.dir)
+  marked_only seen looked dir here (other, (one, there, is), was) = elim (marked_cases other was) [
+    | inl before ↦ inl (other, (one, there, is), before)
+    | inr same ↦
+        let both : Some one ≡ Some looked = sym there ∙ ap (slice_get seen) same ∙ here in
+        inr (sym is ∙ (let e : one ≡ looked = cc in ap (λ x. x.dir) e))
+  ]

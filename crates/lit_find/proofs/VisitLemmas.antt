@@ -1,90 +1,151 @@
 -- What one directory of a walk gives, and what refuses it.
-use Rattle.std.proofs.Common.{◌≡◌, ℕ, Bool, true, false, ◌⊎◌, inl, inr, List, ◌∷◌, ◌++◌, map, All, Some, Err, refl, sym, ◌∙◌, subst}
+-- Idea: what was looked at in the walk stands before all that is to be walked through, so at a refusal just the directories
+-- before it were. The hard one is `refused_here`.
+use Rattle.std.proofs.Common.{◌≡◌, ◌⊎◌, inl, inr, ℕ, Bool, true, false, List, [], ◌∷◌, ◌++◌, map, All, Some, Err, refl, sym, ◌∙◌, subst}
+use Rattle.std.specs.Prelude.{slice_get}
 use Rattle.std.specs.List.{list_all}
-use Rattle.std.proofs.lemmas.List.Elements.{All-contains, All-head, All-map}
+use Rattle.std.proofs.lemmas.List.Elements.{All-contains, All-head, All-map, All-tail}
 use Rattle.tt_outside.specs.declared.tree.Node.{Node}
-use Rattle.tt_outside.specs.declared.tree.ItemKind.TheVariants.{Dir, File}
+use Rattle.tt_outside.specs.declared.tree.ItemKind.TheVariants.{Dir}
 use Rattle.tt_outside.specs.TreeMap.{are_nested, is_part}
 use Rattle.lit_paths.specs.Paths.{Parts}
 use Rattle.lit_dirs.specs.Looks.{kind_of}
 use Rattle.lit_dirs.specs.declared.fault.DiscoverFault.{DiscoverFault}
-use Rattle.lit_dirs.specs.declared.fault.DiscoverFault.TheVariants.{Missing, TreeFault, NoMemory}
-use Rattle.lit_look.specs.Looks.{Extends, GivesLook, IsNumberOf}
+use Rattle.lit_look.specs.Looks.{Extends, GivesLook, IsAbsent}
 use Rattle.lit_look.specs.Seen.{AreSeen, Has, Refuses}
 use Rattle.lit_look.specs.declared.seen.Looked.{Looked}
-use Rattle.lit_look.proofs.SeenLemmas.{refused_behind}
+use Rattle.lit_look.proofs.SeenLemmas.{refused_behind, same_seen}
+use Rattle.lit_look.proofs.TreeLemmas.{told}
 use Rattle.lit_find.specs.Discovery.{IsWalked}
 use Rattle.lit_find.specs.Places.{IsBefore}
-use Rattle.lit_find.specs.Walk.{Enters, GivesVisit, GivesWalk, HasPath, IsUnder, IsWalk, Walked, was_walked, with_first}
+use Rattle.lit_find.specs.Walk.{Enters, GivesVisit, GivesWalk, HasPath, IsRefusedIn, IsState, IsUnder, IsWalk, Walked, was_walked, with_first}
 use Rattle.lit_find.specs.declared.place.Place.{Place}
-use Rattle.lit_find.specs.declared.visit.Walk.{Walk}
-use Rattle.lit_find.proofs.OrderLemmas.{before_before, none_before}
-use Rattle.lit_find.proofs.PlaceLemmas.{cons_cases}
+use Rattle.lit_find.specs.declared.walk.Walk.{Walk}
+use Rattle.lit_find.proofs.InsideLemmas.{test_below, walked_below}
+use Rattle.lit_find.proofs.ListLemmas.{cons_cases}
+use Rattle.lit_find.proofs.OrderLemmas.{before_before, before_below, none_before}
 use Rattle.lit_find.proofs.ReachLemmas.{parts_both, reached}
 use Rattle.lit_find.proofs.SeenLemmas.{has_number}
-use Rattle.lit_find.proofs.StepLemmas.{IsAtPlace, at_place, walked_again}
-use Rattle.lit_find.proofs.ThroughLemmas.{walked_first}
+use Rattle.lit_find.proofs.StateLemmas.{places_hold, state_again, state_longer, state_through, through_of}
+
+-- ---- it is walked through
+
+below_it : (one path : Parts) (part : List ℕ) → (one ≡ path) ⊎ IsBefore one path → IsBefore one (path ++ part ∷ [])
+below_it one path part (inl same) = subst (λ x. IsBefore x (path ++ part ∷ [])) (sym same) (before_below path part)
+below_it one path part (inr before) = before_before one path (path ++ part ∷ []) before (before_below path part)
 
 pub visited : (nodes : List Node) (words : List Parts) (word : Parts) (first old new : List Looked) (place : Place)
-    (number : ℕ)
-    (before after : Walk) → IsWalk nodes words word first old (with_first place before)
+    (number : ℕ) (looked : Looked) (before after : Walk) → IsWalk nodes words word first old (with_first place before)
     → All (λ other. IsBefore place.path other.path) before.pending → Extends old new
-    → AreSeen nodes (λ one. Has old one ⊎ (one ≡ place.path)) new → IsNumberOf new place.path number
-    → Enters new number place.suite before after → IsWalk nodes words word first new after
-visited nodes words word first old new place number before after is least longer looks its enters =
-    by_test (was_walked before number) refl (at_place nodes words word first old new place before is least longer looks)
+    → AreSeen nodes (λ one. Has old one ⊎ (one ≡ place.path)) new → slice_get new number ≡ Some looked
+    → looked.dir ≡ place.path → Enters looked number place.suite before after
+    → IsWalk nodes words word first new after
+visited nodes words word first old new place number looked before after is least longer looks at here enters =
+    by_test (was_walked before number) refl
   where
-    by_test : (b : Bool) → was_walked before number ≡ b → IsAtPlace nodes words word first new place before
-        → IsWalk nodes words word first new after
-    by_test true was at =
-        subst (IsWalk nodes words word first new) (sym (enters.again was))
-        (walked_again nodes words word first new place before at (number, its, was))
-    by_test false was at = walked_first nodes words word first new place number before after at its (enters.first was)
+    rest : List Place
+    rest = before.pending
 
-its_kind : (nodes : List Node) (words : List Parts) (word : Parts) (first old : List Looked) (place : Place) (before :
-    Walk)
-    → IsWalk nodes words word first old (with_first place before) → IsUnder nodes old place
-its_kind nodes words word first old place before is =
-    All-head (IsUnder nodes old) place before.pending is.current.under
+    state : IsState nodes words new (with_first place before)
+    state = state_longer nodes words old new (with_first place before) is.state longer
+        (same_seen nodes (λ one. Has old one ⊎ (one ≡ place.path)) (Has new) new looks looks.whole looks.right)
 
-pub no_file : (nodes : List Node) (words : List Parts) (word : Parts) (first old : List Looked) (place : Place) (before
-    : Walk)
-    → IsWalk nodes words word first old (with_first place before) → kind_of nodes place.path ≡ Some File → ⊥
-no_file nodes words word first old place before is file =
-    let under = its_kind nodes words word first old place before is in
-    let e : Some Dir ≡ Some File = sym under.kind ∙ file in
-    absurd (cc)
+    walked : IsWalked nodes word place.path
+    walked = All-head (λ other. IsWalked nodes word other.path) place before.pending is.right
 
-pub all_parts : (nodes : List Node) (words : List Parts) (word : Parts) (first old : List Looked) (place : Place)
-    (before : Walk)
-    → IsWalk nodes words word first old (with_first place before) → list_all is_part place.path ≡ true
-all_parts nodes words word first old place before is = (its_kind nodes words word first old place before is).parts
+    -- what was looked at stands before the directory, or is it
+    looked_at : (dir : Parts) → Has new dir → Has first dir
+        ⊎ (IsWalked nodes word dir × ((dir ≡ place.path) ⊎ IsBefore dir place.path)
+        × All (λ other. IsBefore dir other.path) before.pending)
+    looked_at dir has = elim (looks.right dir has) [
+      | inl had ↦ elim (is.new dir had) [
+        | inl early ↦ inl early
+        | inr later ↦ inr (
+          later.0,
+          inr (All-head (λ other. IsBefore dir other.path) place before.pending later.1),
+          All-tail (λ other. IsBefore dir other.path) place before.pending later.1,
+        )
+      ]
+      | inr same ↦ inr (
+        subst (IsWalked nodes word) (sym same) walked,
+        inl same,
+        subst (λ one. All (λ other. IsBefore one other.path) before.pending) (sym same) least,
+      )
+    ]
+
+    by_test : (b : Bool) → was_walked before number ≡ b → IsWalk nodes words word first new after
+    by_test true was =
+        subst (IsWalk nodes words word first new) (sym (enters.again was)) (record {
+          state = state_again nodes words new place before state (number, (looked, at, here), was);
+          right = All-tail (λ other. IsWalked nodes word other.path) place before.pending is.right;
+          from = λ dir has. looks.whole dir (inl (is.from dir has));
+          new = λ dir has. elim (looked_at dir has) [
+            | inl early ↦ inl early
+            | inr later ↦ inr (later.0, later.2)
+          ];
+          one = is.one;
+          is_dir = is.is_dir;
+        })
+    by_test false was =
+        let t = through_of nodes words new number looked place before after state at here (enters.first was) in
+        let its = subst (IsWalked nodes word) (sym here) walked in
+        record {
+          state = state_through nodes new number looked place before after t words state
+              (λ part inside. test_below nodes words word looked.dir part is.one is.is_dir its inside);
+          right = places_hold nodes new number looked place before after t (λ other. IsWalked nodes word other.path)
+              (All-tail (λ other. IsWalked nodes word other.path) place before.pending is.right)
+              (λ part inside suite under. walked_below nodes word looked.dir part its inside);
+          from = λ dir has. looks.whole dir (inl (is.from dir has));
+          new = λ dir has. elim (looked_at dir has) [
+            | inl early ↦ inl early
+            | inr later ↦ inr (
+              later.0,
+              places_hold nodes new number looked place before after t (λ other. IsBefore dir other.path) later.2
+                  (λ part inside suite under. subst (λ x. IsBefore dir (x ++ part ∷ [])) (sym here)
+                  (below_it dir place.path part later.1)),
+            )
+          ];
+          one = is.one;
+          is_dir = is.is_dir;
+        }
+
+-- ---- it is refused
+
+pub is_dir : (nodes : List Node) (words : List Parts) (word : Parts) (first old : List Looked) (place : Place)
+    (before : Walk) → IsWalk nodes words word first old (with_first place before)
+    → kind_of nodes place.path ≡ Some Dir
+is_dir nodes words word first old place before is =
+    (All-head (IsUnder nodes) place before.pending is.state.under).is_dir
+
+pub its_parts : (nodes : List Node) (words : List Parts) (word : Parts) (first old : List Looked) (place : Place)
+    (before : Walk) → IsWalk nodes words word first old (with_first place before) → list_all is_part place.path ≡ true
+its_parts nodes words word first old place before is =
+    (All-head (IsUnder nodes) place before.pending is.state.under).parts
 
 -- a fault of a look is one of the walk
-pub visit_refused : (A : Type 0) (nodes : List Node) (words : List Parts) (word : Parts) (first old new : List Looked)
+pub visit_refused : (nodes : List Node) (words : List Parts) (word : Parts) (first old new : List Looked)
     (place : Place) (before after : Walk) (fault : DiscoverFault)
-    → IsWalk nodes words word first old (with_first place before)
-    → GivesLook nodes place.path old new (Err fault)
-    → GivesVisit {A = A} nodes words word place.path first old new after (Err fault)
-visit_refused A nodes words word first old new place before after (Missing path) is gives =
-    gives.1 (its_kind nodes words word first old place before is).kind
-visit_refused A nodes words word first old new place before after TreeFault is gives = tt
-visit_refused A nodes words word first old new place before after NoMemory is gives = tt
-visit_refused A nodes words word first old new place before after fault is gives = gives
-
--- ---- the refusal of a walk
+    → IsWalk nodes words word first old (with_first place before) → GivesLook nodes place.path old new (Err fault)
+    → GivesVisit {A = Unit {0}} nodes words word place.path first old new after (Err fault)
+visit_refused nodes words word first old new place before after fault is gives =
+    told (λ one. IsAbsent nodes place.path one ⊎ Refuses nodes (Has old) place.path one)
+    (Refuses nodes (Has old) place.path) fault
+    (λ one h. elim h [
+      | inl absent ↦ absurd (absent.1 (is_dir nodes words word first old place before is))
+      | inr refuses ↦ refuses
+    ]) gives
 
 -- what stands before the first directory was looked at
-before_first : (nodes : List Node) (words : List Parts) (word : Parts) (first seen : List Looked) (place : Place) (walk
-    : Walk)
-    → are_nested nodes ≡ true → list_all is_part word ≡ true
+before_first : (nodes : List Node) (words : List Parts) (word : Parts) (first seen : List Looked) (place : Place)
+    (walk : Walk) → are_nested nodes ≡ true → list_all is_part word ≡ true
     → IsWalk nodes words word first seen (with_first place walk)
     → All (λ other. IsBefore place.path other.path) walk.pending
     → (dir : Parts) → IsWalked nodes word dir → IsBefore dir place.path → Has seen dir
 before_first nodes words word first seen place walk nested parts is least dir walked before =
-    elim (reached nodes (Walked seen walk) (HasPath (place ∷ walk.pending)) nested is.current.closed word walked.rest
+    elim (reached nodes (Walked seen walk) (HasPath (place ∷ walk.pending)) nested is.state.closed word walked.rest
     (parts_both word walked.rest parts walked.parts)
-    (subst (λ path. kind_of nodes path ≡ Some Dir) walked.behind walked.is_dir) walked.is_open is.walking.begun) [
+    (subst (λ path. kind_of nodes path ≡ Some Dir) walked.behind walked.is_dir) walked.is_open
+    (is.state.dirs word is.one is.is_dir)) [
       | inl done ↦ seen_it done
       | inr open_one ↦ absurd (none_open open_one)
     ]
@@ -104,39 +165,32 @@ before_first nodes words word first seen place walk nested parts is least dir wa
               (All-map (λ path. IsBefore place.path path) (λ other. other.path) walk.pending least) later))
         ]
 
-pub refused_here : (nodes : List Node) (words : List Parts) (word : Parts) (first seen : List Looked) (place : Place)
-    (walk : Walk)
-    (fault : DiscoverFault) → are_nested nodes ≡ true → list_all is_part word ≡ true
+refused_here : (nodes : List Node) (words : List Parts) (word : Parts) (first seen : List Looked) (place : Place)
+    (walk : Walk) (fault : DiscoverFault) → are_nested nodes ≡ true → list_all is_part word ≡ true
     → IsWalk nodes words word first seen (with_first place walk)
-    → All (λ other. IsBefore place.path other.path) walk.pending
-    → Refuses nodes (Has seen) place.path fault
-    → (dir : Parts) × IsWalked nodes word dir
-    × Refuses nodes (λ one. Has first one ⊎ (IsWalked nodes word one × IsBefore one dir)) dir fault
+    → All (λ other. IsBefore place.path other.path) walk.pending → Refuses nodes (Has seen) place.path fault
+    → IsRefusedIn nodes word first fault
 refused_here nodes words word first seen place walk fault nested parts is least refuses = (
   place.path,
-  All-head (λ other. IsWalked nodes word other.path) place walk.pending is.walking.right,
-  refused_behind nodes (Has seen) (λ one. Has first one ⊎ (IsWalked nodes word one
-      × IsBefore one place.path)) place.path fault
-      refuses
-      (λ one has. elim (is.walking.new one has) [
+  All-head (λ other. IsWalked nodes word other.path) place walk.pending is.right,
+  refused_behind nodes (Has seen) (λ one. Has first one ⊎ (IsWalked nodes word one × IsBefore one place.path))
+      place.path fault refuses
+      (λ one has. elim (is.new one has) [
         | inl early ↦ inl early
         | inr later ↦ inr (later.0, All-head (λ other. IsBefore one other.path) place walk.pending later.1)
       ])
       (λ one h. elim h [
-        | inl early ↦ is.walking.from one early
+        | inl early ↦ is.from one early
         | inr later ↦ before_first nodes words word first seen place walk nested parts is least one later.0 later.1
       ]),
 )
 
-pub walk_refused : (A B : Type 0) (nodes : List Node) (words : List Parts) (word : Parts) (first old new : List Looked)
-    (place : Place)
-    (before after : Walk) (fault : DiscoverFault) → are_nested nodes ≡ true → list_all is_part word ≡ true
-    → IsWalk nodes words word first old (with_first place before)
+pub walk_refused : (nodes : List Node) (words : List Parts) (word : Parts) (first old new : List Looked)
+    (place : Place) (before after : Walk) (fault : DiscoverFault) → are_nested nodes ≡ true
+    → list_all is_part word ≡ true → IsWalk nodes words word first old (with_first place before)
     → All (λ other. IsBefore place.path other.path) before.pending
-    → GivesVisit {A = A} nodes words word place.path first old new after (Err fault)
-    → GivesWalk {A = B} nodes words word first new after (Err fault)
-walk_refused A B nodes words word first old new place before after (Missing path) nested parts is least gives = gives
-walk_refused A B nodes words word first old new place before after TreeFault nested parts is least gives = tt
-walk_refused A B nodes words word first old new place before after NoMemory nested parts is least gives = tt
-walk_refused A B nodes words word first old new place before after fault nested parts is least gives =
-    refused_here nodes words word first old place before fault nested parts is least gives
+    → GivesVisit {A = Unit {0}} nodes words word place.path first old new after (Err fault)
+    → GivesWalk {A = Unit {0}} nodes words word first new after (Err fault)
+walk_refused nodes words word first old new place before after fault nested parts is least gives =
+    told (Refuses nodes (Has old) place.path) (IsRefusedIn nodes word first) fault
+    (λ one refuses. refused_here nodes words word first old place before one nested parts is least refuses) gives

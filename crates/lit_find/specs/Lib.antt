@@ -1,6 +1,5 @@
-pub mod Answers
 pub mod Discovery
-pub mod Entries
+pub mod Files
 pub mod Found
 pub mod Laws
 pub mod Places

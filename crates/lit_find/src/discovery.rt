@@ -1,164 +1,114 @@
-//! Discovery.
-ghost use Rattle.std.specs.Prelude.{◌≡◌, ◌≢◌, ◌≤◌, [], All, Err, List, Some, map, true};
-ghost use Rattle.std.specs.List.{list_all};
-ghost use Rattle.lit_find.specs.Answers.{GivesNames, GivesTests, GivesWords, Walks};
-ghost use Rattle.lit_find.specs.Discovery.{IsTest};
-ghost use Rattle.lit_find.specs.Found.{Discovers, DiscoversNames};
-ghost use Rattle.lit_find.specs.Walk.{IsCovered, IsRooted};
-ghost use Rattle.lit_paths.specs.Paths.{Parts, joined};
-ghost use Rattle.tt_outside.specs.Faults.{Rose};
-ghost use Rattle.tt_outside.specs.TreeMap.{are_nested, is_part};
-ghost use Rattle.tt_outside.specs.declared.tree.Node.{Node};
+//! What a discovery has found.
+ghost use Rattle.std.specs.Prelude.{◌≡◌, ◌↔◌, All, IfOk, IsTrue, [], length, map};
+ghost use Rattle.lit_find.specs.Files.{IsFiled, test_in};
 
-use crate::found::Found;
-use crate::pending::Pending;
-use crate::visit::Walk;
-use crate::words::add_word;
-use lit_dirs::DiscoverFault;
-use lit_look::Seen;
-use lit_paths::{joined, read_path};
+use crate::place::TestFile;
+use lit_dirs::{name_of, test_of};
 use std::alloc::Global;
-use std::collections::BTreeSet;
-use tt_base::{Bytes, Items};
-use tt_outside::{Test, Tree};
+use std::marker::Model;
+use tt_base::{Bytes, Items, NoMemory};
+use tt_outside::Test;
 
-/// How many tests a run has at most.
-const MAX_TESTS: usize = 100_000;
-
-/// Finds the tests of words, up to the first that is refused.
-fn add_words<T: Tree>(
-    alloc: Global,
-    tree: &mut T,
-    seen: &mut Seen,
-    walk: &mut Walk,
-    base: &[Bytes],
-    texts: &[Bytes],
-) -> Result<(), DiscoverFault>
-    requires parts { list_all is_part base.now ≡ true }
-    ensures gives { (nodes : List Node) → T.nodes tree.old ≡ Some nodes → are_nested nodes ≡ true
-        → IsCovered nodes [] seen.old walk.old
-        → GivesWords nodes (map (joined base.now) texts.now) seen.new walk.new result }
-    ensures nodes { T.nodes tree.new ≡ T.nodes tree.old }
-    ensures root { T.root tree.new ≡ T.root tree.old }
-    ensures later { T.faults tree.old ≤ T.faults tree.new }
-    ensures cause { result ≡ Err DiscoverFault.TreeFault → Rose (T.faults tree.old) (T.faults tree.new) }
-    ensures calm { result ≢ Err DiscoverFault.TreeFault → T.faults tree.new ≡ T.faults tree.old }
-    ensures steady { T.steady tree.old → (result ≢ Err DiscoverFault.TreeFault) × T.steady tree.new }
-{
-    for text in texts {
-        let word = match joined(alloc, base, text.as_slice()) {
-            Ok(word) => word,
-            Err(_) => return Err(DiscoverFault::NoMemory),
-        };
-        match add_word(alloc, tree, seen, walk, word) {
-            Ok(()) => {}
-            Err(fault) => return Err(fault),
-        }
-    }
-    Ok(())
+/// The tests that words make, each once, in byte order of their paths. A test is made, or named, when it is asked for.
+#[derive(Drop, Debug)]
+pub struct Discovery {
+    files: Vec<TestFile>,
 }
 
-/// The walk of words, and the directories that were looked at in it; or the first refusal.
-fn walk_words<T: Tree>(
-    alloc: Global,
-    tree: &mut T,
-    paths: &[Bytes],
-) -> Result<(Walk, Seen), DiscoverFault>
-    ensures walk { Walks (T.nodes tree.old) (T.root tree.old) paths.now result }
-    ensures nodes { T.nodes tree.new ≡ T.nodes tree.old }
-    ensures root { T.root tree.new ≡ T.root tree.old }
-    ensures later { T.faults tree.old ≤ T.faults tree.new }
-    ensures cause { result ≡ Err DiscoverFault.TreeFault → Rose (T.faults tree.old) (T.faults tree.new) }
-    ensures calm { result ≢ Err DiscoverFault.TreeFault → T.faults tree.new ≡ T.faults tree.old }
-    ensures steady { T.steady tree.old → (result ≢ Err DiscoverFault.TreeFault) × T.steady tree.new }
-{
-    let Ok(base) = read_path(alloc, tree.base()) else {
-        return Err(DiscoverFault::NoMemory);
-    };
-    let mut seen = Seen::new(alloc);
-    let mut walk = Walk {
-        found: Found::new(alloc),
-        walked: BTreeSet::new(alloc),
-        pending: Pending::new(alloc),
-    };
-    match add_words(alloc, tree, &mut seen, &mut walk, base.as_slice(), paths) {
-        Ok(()) => Ok((walk, seen)),
-        Err(fault) => Err(fault),
-    }
+impl Model for Discovery {
+    ghost use Rattle.std.specs.Prelude.{All, List, map};
+    ghost use Rattle.lit_find.specs.Files.{IsFiled, test_in};
+    ghost use Rattle.tt_outside.specs.declared.test_data.Test.{Test};
+
+    ghost Value = { List Test };
+
+    ghost view = { λ found. map test_in found.files.items };
+
+    ghost invariant = { λ found. All IsFiled found.files.items };
 }
 
-/// The tests that were found, if there are some and not too many.
-fn tests_of(alloc: Global, found: Found, seen: &Seen) -> Result<Items<Test>, DiscoverFault>
-    ensures tests { (nodes : List Node) (words : List Parts) → All (IsRooted nodes seen.now) found
-        → All (λ place. IsTest nodes words place.path) found → GivesTests nodes words found result }
-    ensures calm { result ≢ Err DiscoverFault.TreeFault }
+/// The name of a file's test.
+fn name_in(alloc: Global, file: &TestFile) -> Result<Bytes, NoMemory>
+    requires { IsFiled file.now }
+    ensures { IfOk result (λ name. name ≡ (test_in file.now).name) }
 {
-    let Ok(tests) = found.tests(alloc, seen) else {
-        return Err(DiscoverFault::NoMemory);
-    };
-    if tests.len() > MAX_TESTS {
-        return Err(DiscoverFault::TooMany);
-    }
-    if tests.is_empty() {
-        return Err(DiscoverFault::NoTests);
-    }
-    Ok(tests)
+    let root = file.suite.get();
+    name_of(
+        alloc,
+        root.dir.as_slice(),
+        &root.suite,
+        file.path.as_slice(),
+    )
 }
 
-/// The names of the tests that were found, if there are some and not too many.
-fn names_of(alloc: Global, found: Found, seen: &Seen) -> Result<Items<Bytes>, DiscoverFault>
-    ensures names { (nodes : List Node) (words : List Parts) → All (IsRooted nodes seen.now) found
-        → All (λ place. IsTest nodes words place.path) found → GivesNames nodes words found result }
-    ensures calm { result ≢ Err DiscoverFault.TreeFault }
+/// The test of a file.
+fn test_in(alloc: Global, file: TestFile) -> Result<Test, NoMemory>
+    requires { IsFiled file }
+    ensures { IfOk result (λ test. test ≡ test_in file) }
 {
-    let Ok(names) = found.names(alloc, seen) else {
-        return Err(DiscoverFault::NoMemory);
-    };
-    if names.len() > MAX_TESTS {
-        return Err(DiscoverFault::TooMany);
-    }
-    if names.is_empty() {
-        return Err(DiscoverFault::NoTests);
+    let TestFile { path, suite } = file;
+    let root = suite.get();
+    test_of(alloc, root.dir.as_slice(), &root.suite, path)
+}
+
+/// The names of the tests of files.
+fn names_in(alloc: Global, files: &[TestFile]) -> Result<Items<Bytes>, NoMemory>
+    requires { All IsFiled files.now }
+    ensures { IfOk result (λ names. names ≡ map (λ file. (test_in file).name) files.now) }
+{
+    let mut names = Items::new(alloc);
+    for file in files {
+        names.push(name_in(alloc, file)?)?;
     }
     Ok(names)
 }
 
-/// The tests that path words name, each once, in byte order of their paths; or the first refusal.
-pub fn discover<T: Tree>(
-    alloc: Global,
-    tree: &mut T,
-    paths: &[Bytes],
-) -> Result<Items<Test>, DiscoverFault>
-    ensures found { Discovers (T.nodes tree.old) (T.root tree.old) paths.now result }
-    ensures nodes { T.nodes tree.new ≡ T.nodes tree.old }
-    ensures root { T.root tree.new ≡ T.root tree.old }
-    ensures later { T.faults tree.old ≤ T.faults tree.new }
-    ensures cause { result ≡ Err DiscoverFault.TreeFault → Rose (T.faults tree.old) (T.faults tree.new) }
-    ensures calm { result ≢ Err DiscoverFault.TreeFault → T.faults tree.new ≡ T.faults tree.old }
-    ensures steady { T.steady tree.old → (result ≢ Err DiscoverFault.TreeFault) × T.steady tree.new }
+/// The tests of files.
+fn tests_in(alloc: Global, files: Vec<TestFile>) -> Result<Items<Test>, NoMemory>
+    requires { All IsFiled files.items }
+    ensures { IfOk result (λ tests. tests ≡ map test_in files.items) }
 {
-    match walk_words(alloc, tree, paths) {
-        Ok((walk, seen)) => tests_of(alloc, walk.found, &seen),
-        Err(fault) => Err(fault),
+    let mut tests = Items::new(alloc);
+    for file in files {
+        tests.push(test_in(alloc, file)?)?;
     }
+    Ok(tests)
 }
 
-/// The names of the tests that `discover` finds, in their order, without the rest of each test; or the first refusal.
-pub fn discover_names<T: Tree>(
-    alloc: Global,
-    tree: &mut T,
-    paths: &[Bytes],
-) -> Result<Items<Bytes>, DiscoverFault>
-    ensures found { DiscoversNames (T.nodes tree.old) (T.root tree.old) paths.now result }
-    ensures nodes { T.nodes tree.new ≡ T.nodes tree.old }
-    ensures root { T.root tree.new ≡ T.root tree.old }
-    ensures later { T.faults tree.old ≤ T.faults tree.new }
-    ensures cause { result ≡ Err DiscoverFault.TreeFault → Rose (T.faults tree.old) (T.faults tree.new) }
-    ensures calm { result ≢ Err DiscoverFault.TreeFault → T.faults tree.new ≡ T.faults tree.old }
-    ensures steady { T.steady tree.old → (result ≢ Err DiscoverFault.TreeFault) × T.steady tree.new }
-{
-    match walk_words(alloc, tree, paths) {
-        Ok((walk, seen)) => names_of(alloc, walk.found, &seen),
-        Err(fault) => Err(fault),
+impl Discovery {
+    /// The tests of files.
+    pub(crate) fn of(files: Vec<TestFile>) -> Discovery
+        requires { All IsFiled files.items }
+        ensures { result ≡ map test_in files.items }
+    {
+        Discovery { files }
+    }
+
+    /// How many tests there are.
+    pub fn len(&self) -> usize
+        ensures { result ≡ length self.now }
+    {
+        self.files.len()
+    }
+
+    /// Whether there are none.
+    pub fn is_empty(&self) -> bool
+        ensures { IsTrue result ↔ (self.now ≡ []) }
+    {
+        self.files.is_empty()
+    }
+
+    /// The names of the tests, without the rest of each.
+    pub fn names(&self, alloc: Global) -> Result<Items<Bytes>, NoMemory>
+        ensures { IfOk result (λ names. names ≡ map (λ test. test.name) self.now) }
+    {
+        names_in(alloc, self.files.as_slice())
+    }
+
+    /// The tests.
+    pub fn into_tests(self, alloc: Global) -> Result<Items<Test>, NoMemory>
+        ensures { IfOk result (λ tests. tests ≡ self) }
+    {
+        tests_in(alloc, self.files)
     }
 }

@@ -3,13 +3,16 @@
 #![tactic(auto)]
 
 mod discovery;
+mod finding;
 mod found;
 mod laws;
 mod pending;
 mod place;
 mod sorting;
 mod visit;
+mod walk;
 mod words;
 
-pub use discovery::{discover, discover_names};
+pub use discovery::Discovery;
+pub use finding::discover;
 pub use laws::law_of_tests;

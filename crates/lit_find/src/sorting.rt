@@ -1,17 +1,26 @@
 //! What a directory lists, for a walk.
 ghost use Rattle.std.specs.Prelude.{◌≡◌, ◌++◌, ◌∷◌, [], IfOk, OnOk};
+ghost use Rattle.lit_look.specs.Suites.{LiesIn};
 ghost use Rattle.lit_paths.specs.Paths.{Parts, slashed};
 ghost use Rattle.lit_find.specs.Sorting.{text_in, with_dir, with_dirs, with_file, with_files};
+ghost use Rattle.tt_outside.specs.TreeMap.{is_part};
 
-use crate::found::Found;
-use crate::pending::Pending;
-use crate::place::Place;
+use crate::pending::key_in;
+use crate::place::TestFile;
+use crate::walk::Walk;
 use lit_dirs::{has_suffix, is_passed};
-use lit_paths::{chained, front_of, with_name};
-use lit_suite::Suite;
+use lit_look::SharedRoot;
+use lit_paths::{chained, front_of};
 use std::alloc::Global;
 use tt_base::{Bytes, NoMemory};
 use tt_outside::{Item, ItemKind};
+
+/// Whether a name is one part of a path.
+pub(crate) fn is_part(name: &[u8]) -> bool
+    ensures { result ≡ is_part name.now }
+{
+    !name.is_empty() && !name.contains(&b'/')
+}
 
 /// The text of an item's path. `front` stands before the names in its directory.
 #[tactic(auto, using(crate::proofs::PathLemmas::name_text))]
@@ -25,68 +34,56 @@ fn text_in(alloc: Global, front: &[u8], item: &Item) -> Result<Bytes, NoMemory>
 /// in the directory that lists it.
 fn sort_item(
     alloc: Global,
-    suite: &Suite,
-    number: usize,
+    root: &SharedRoot,
     dir: &[Bytes],
     front: &[u8],
     item: &Item,
-    pending: &mut Pending,
-    found: &mut Found,
+    walk: &mut Walk,
 ) -> Result<(), NoMemory>
-    requires { front.now ≡ slashed dir.now ++ 47 ∷ [] }
-    ensures dirs { OnOk result (pending.new ≡ with_dir suite.now number dir.now item.now pending.old) }
-    ensures files { OnOk result (found.new ≡ with_file suite.now number dir.now item.now found.old) }
+    requires front { front.now ≡ slashed dir.now ++ 47 ∷ [] }
+    requires inside { LiesIn root.now.dir dir.now }
+    ensures dirs { OnOk result (walk.new.pending ≡ with_dir root.now dir.now item.now walk.old.pending) }
+    ensures files { OnOk result (walk.new.found ≡ with_file root.now dir.now item.now walk.old.found) }
+    ensures walked { walk.new.walked ≡ walk.old.walked }
 {
+    let suite = &root.get().suite;
     if is_passed(suite, item.name.as_slice()) {
         return Ok(());
     }
     match item.kind {
         ItemKind::File => {
-            let text = text_in(alloc, front, item)?;
-            if has_suffix(suite, text.as_slice()) {
-                found.put(text, number)?;
+            let path = text_in(alloc, front, item)?;
+            // No file has a name that is no part of a path, whatever the tree lists.
+            if has_suffix(suite, path.as_slice()) && is_part(item.name.as_slice()) {
+                let suite = root.share()?;
+                walk.found.put(TestFile { path, suite })?;
             }
         }
         ItemKind::Dir => {
-            let path = with_name(alloc, dir, item.name.as_slice())?;
-            pending.put(
-                alloc,
-                Place {
-                    path,
-                    suite: number,
-                },
-            )?;
+            let key = key_in(alloc, dir, item.name.as_slice())?;
+            walk.pending.put(key, root.share()?)?;
         }
         ItemKind::Other => {}
     }
     Ok(())
 }
 
-/// Keeps what a directory lists. `number` is that of its suite.
+/// Keeps what a directory lists. `root` is its suite.
 pub(crate) fn sort_items(
     alloc: Global,
-    suite: &Suite,
-    number: usize,
+    root: &SharedRoot,
     dir: &[Bytes],
     items: &[Item],
-    pending: &mut Pending,
-    found: &mut Found,
+    walk: &mut Walk,
 ) -> Result<(), NoMemory>
-    ensures dirs { OnOk result (pending.new ≡ with_dirs suite.now number dir.now items.now pending.old) }
-    ensures files { OnOk result (found.new ≡ with_files suite.now number dir.now items.now found.old) }
+    requires { LiesIn root.now.dir dir.now }
+    ensures dirs { OnOk result (walk.new.pending ≡ with_dirs root.now dir.now items.now walk.old.pending) }
+    ensures files { OnOk result (walk.new.found ≡ with_files root.now dir.now items.now walk.old.found) }
+    ensures walked { walk.new.walked ≡ walk.old.walked }
 {
     let front = front_of(alloc, dir)?;
     for item in items {
-        sort_item(
-            alloc,
-            suite,
-            number,
-            dir,
-            front.as_slice(),
-            item,
-            pending,
-            found,
-        )?;
+        sort_item(alloc, root, dir, front.as_slice(), item, walk)?;
     }
     Ok(())
 }

@@ -1,56 +1,38 @@
-//! The walk through one directory.
-ghost use Rattle.std.specs.Prelude.{◌≡◌, ◌≢◌, ◌≤◌, ◌==◌, ◌∷◌, ℕ, if◌then◌else◌, All, Err, IfErr, List, OnOk, Some, true};
+//! The walk through directories.
+ghost use Rattle.std.specs.Prelude.{◌≡◌, ◌≤◌, ◌==◌, ℕ, if◌then◌else◌, All, IfErr, List, OnOk, Some, true};
 ghost use Rattle.std.specs.List.{list_all};
 ghost use Rattle.std.specs.BTreeSet.{contains};
-ghost use Rattle.std.specs.Option.{option_map};
+ghost use Rattle.std.specs.Option.{unwrap_or};
 ghost use Rattle.std.specs.Ordering.{nat_cmp};
 ghost use Rattle.lit_dirs.specs.Looks.{IsGone};
-ghost use Rattle.lit_find.specs.Places.{IsBefore};
-ghost use Rattle.lit_find.specs.Walk.{Enters, GivesVisit, GivesWalk, IsThrough, IsWalk, own_or, room, root_at, with_first};
+ghost use Rattle.lit_find.specs.Places.{IsBefore, IsInside};
+ghost use Rattle.lit_find.specs.Walk.{Enters, GivesVisit, GivesWalk, IsWalk, room, with_first};
 ghost use Rattle.lit_look.specs.declared.seen.Looked.{Looked};
+ghost use Rattle.lit_look.specs.Seen.{HasRoot};
+ghost use Rattle.lit_look.specs.Suites.{LiesIn};
+ghost use Rattle.lit_look.specs.Trees.{Leaves, fault_of};
 ghost use Rattle.lit_paths.specs.Paths.{Parts};
-ghost use Rattle.tt_outside.specs.Faults.{Rose};
 ghost use Rattle.tt_outside.specs.TreeMap.{are_nested, is_part};
 ghost use Rattle.tt_outside.specs.declared.tree.Node.{Node};
 
-use crate::found::Found;
-use crate::pending::Pending;
 use crate::place::Place;
-use crate::sorting::sort_items;
+use crate::sorting::{is_part, sort_items};
+use crate::walk::Walk;
 use lit_dirs::DiscoverFault;
-use lit_look::{Looked, Seen, look};
+use lit_look::{Looked, Seen, SharedRoot, look};
 use lit_paths::text_of;
-use lit_suite::Suite;
 use std::alloc::Global;
 use std::collections::BTreeSet;
 use tt_base::{Bytes, NoMemory};
 use tt_outside::Tree;
 
-/// What a discovery has found, the numbers of the directories that it has walked through, and those before it.
-#[derive(Drop, Debug)]
-pub(crate) struct Walk {
-    pub found: Found,
-    pub walked: BTreeSet<usize>,
-    pub pending: Pending,
-}
-
-/// The number of the suite of a directory. `known` is that of the one above it.
-fn own_or(looked: &Looked, number: usize, known: usize) -> usize
-    ensures { result ≡ own_or (Some looked.now) number known }
+/// The suite of a directory: its own, or the one of the directory above it, `known`.
+fn own_or<'a>(looked: &'a Looked, known: &'a SharedRoot) -> &'a SharedRoot
+    ensures { result.now ≡ unwrap_or looked.now.suite known.now }
 {
-    match looked.suite {
-        Some(_) => number,
+    match &looked.suite {
+        Some(own) => own,
         None => known,
-    }
-}
-
-/// The suite that a directory is the root of.
-pub(crate) fn suite_at(seen: &[Looked], number: usize) -> Option<&Suite>
-    ensures { option_map (λ suite. suite.now) result ≡ option_map (λ rooted. rooted.suite) (root_at seen.now number) }
-{
-    match seen.get(number) {
-        Some(looked) => looked.suite.as_ref(),
-        None => None,
     }
 }
 
@@ -66,57 +48,30 @@ fn mark(walked: &mut BTreeSet<usize>, number: usize) -> Result<(), NoMemory>
     }
 }
 
-/// Walks through a directory that was looked at. `known` is the number of the suite above it.
-fn walk_through(
-    alloc: Global,
-    seen: &[Looked],
-    walk: &mut Walk,
-    number: usize,
-    known: usize,
-) -> Result<(), NoMemory>
-    ensures { OnOk result (IsThrough seen.now number known walk.old walk.new) }
-{
-    // The number is always that of a directory, and `known` that of a suite.
-    let Some(looked) = seen.get(number) else {
-        return Err(NoMemory);
-    };
-    let own = own_or(looked, number, known);
-    let Some(suite) = suite_at(seen, own) else {
-        return Err(NoMemory);
-    };
-    mark(&mut walk.walked, number)?;
-    sort_items(
-        alloc,
-        suite,
-        own,
-        looked.dir.as_slice(),
-        looked.items.as_slice(),
-        &mut walk.pending,
-        &mut walk.found,
-    )
-}
-
-/// The same, unless that was done.
+/// Walks through a directory that was looked at, unless that was done. `known` is the suite of the one above it.
 fn enter(
     alloc: Global,
-    seen: &[Looked],
-    walk: &mut Walk,
+    looked: &Looked,
     number: usize,
-    known: usize,
+    known: &SharedRoot,
+    walk: &mut Walk,
 ) -> Result<(), NoMemory>
-    ensures { OnOk result (Enters seen.now number known walk.old walk.new) }
+    requires inside { LiesIn known.now.dir looked.now.dir }
+    requires root { HasRoot looked.now }
+    ensures { OnOk result (Enters looked.now number known.now walk.old walk.new) }
 {
     if walk.walked.contains(&number) {
         return Ok(());
     }
-    walk_through(alloc, seen, walk, number, known)
-}
-
-/// Whether a name is one part of a path.
-fn is_part(name: &[u8]) -> bool
-    ensures { result ≡ is_part name.now }
-{
-    !name.is_empty() && !name.contains(&b'/')
+    mark(&mut walk.walked, number)?;
+    let root = own_or(looked, known);
+    sort_items(
+        alloc,
+        root,
+        looked.dir.as_slice(),
+        looked.items.as_slice(),
+        walk,
+    )
 }
 
 /// Whether a path is made of parts.
@@ -134,18 +89,14 @@ fn visit<T: Tree>(
     walk: &mut Walk,
     place: Place,
 ) -> Result<(), DiscoverFault>
+    requires { IsInside place }
     ensures gives { (nodes : List Node) (words : List Parts) (word : Parts) (first : List Looked)
         → T.nodes tree.old ≡ Some nodes → IsWalk nodes words word first seen.old (with_first place walk.old)
         → All (λ other. IsBefore place.path other.path) walk.old.pending
         → GivesVisit nodes words word place.path first seen.old seen.new walk.new result }
     ensures gone { IfErr result (IsGone place.path) }
     ensures room { OnOk result (room seen.new walk.new ≤ room seen.old walk.old) }
-    ensures nodes { T.nodes tree.new ≡ T.nodes tree.old }
-    ensures root { T.root tree.new ≡ T.root tree.old }
-    ensures later { T.faults tree.old ≤ T.faults tree.new }
-    ensures cause { result ≡ Err DiscoverFault.TreeFault → Rose (T.faults tree.old) (T.faults tree.new) }
-    ensures calm { result ≢ Err DiscoverFault.TreeFault → T.faults tree.new ≡ T.faults tree.old }
-    ensures steady { T.steady tree.old → (result ≢ Err DiscoverFault.TreeFault) × T.steady tree.new }
+    ensures tree { Leaves T.nodes T.root T.faults T.steady tree.old tree.new (fault_of result) }
 {
     let dir = place.path.as_slice();
     // No directory has a name that is no part of a path, whatever the tree lists.
@@ -154,7 +105,7 @@ fn visit<T: Tree>(
     }
     match look(alloc, tree, seen, dir) {
         Ok(Some(number)) => {
-            match enter(alloc, seen.as_slice(), walk, number, place.suite) {
+            match enter(alloc, seen.at(number), number, &place.suite, walk) {
                 Ok(()) => Ok(()),
                 Err(NoMemory) => Err(DiscoverFault::NoMemory),
             }
@@ -175,14 +126,9 @@ pub(crate) fn walk_all<T: Tree>(
         → T.nodes tree.old ≡ Some nodes → are_nested nodes ≡ true → list_all is_part word ≡ true
         → IsWalk nodes words word first seen.old walk.old
         → GivesWalk nodes words word first seen.new walk.new result }
-    ensures nodes { T.nodes tree.new ≡ T.nodes tree.old }
-    ensures root { T.root tree.new ≡ T.root tree.old }
-    ensures later { T.faults tree.old ≤ T.faults tree.new }
-    ensures cause { result ≡ Err DiscoverFault.TreeFault → Rose (T.faults tree.old) (T.faults tree.new) }
-    ensures calm { result ≢ Err DiscoverFault.TreeFault → T.faults tree.new ≡ T.faults tree.old }
-    ensures steady { T.steady tree.old → (result ≢ Err DiscoverFault.TreeFault) × T.steady tree.new }
+    ensures tree { Leaves T.nodes T.root T.faults T.steady tree.old tree.new (fault_of result) }
 {
-    while let Some(place) = walk.pending.pop() {
+    while let Some(place) = walk.pending.pop(alloc)? {
         match visit(alloc, tree, seen, walk, place) {
             Ok(()) => {}
             Err(fault) => return Err(fault),

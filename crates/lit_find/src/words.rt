@@ -1,21 +1,23 @@
 //! The tests of a word.
-ghost use Rattle.std.specs.Prelude.{◌≡◌, ◌≢◌, ◌≤◌, Err, List, Some, true};
+ghost use Rattle.std.specs.Prelude.{◌≡◌, ◌≢◌, ◌++◌, ◌∷◌, [], List, Some, true};
 ghost use Rattle.std.specs.List.{list_all};
 ghost use Rattle.lit_dirs.specs.Looks.{kind_of};
 ghost use Rattle.lit_find.specs.Walk.{GivesWord, IsCovered, IsCoveredBut};
+ghost use Rattle.lit_look.specs.Trees.{Leaves, fault_of};
 ghost use Rattle.lit_paths.specs.Paths.{Parts};
-ghost use Rattle.tt_outside.specs.Faults.{Rose};
 ghost use Rattle.tt_outside.specs.TreeMap.{are_nested, is_part};
 ghost use Rattle.tt_outside.specs.declared.tree.ItemKind.TheVariants.{File};
 ghost use Rattle.tt_outside.specs.declared.tree.Node.{Node};
 
-use crate::place::Place;
-use crate::visit::{Walk, walk_all};
+use crate::pending::key_of;
+use crate::place::TestFile;
+use crate::visit::walk_all;
+use crate::walk::Walk;
 use lit_dirs::DiscoverFault;
 use lit_look::{Seen, look, nearest};
 use lit_paths::{dir_of, text_of};
 use std::alloc::Global;
-use tt_base::{Bytes, Items};
+use tt_base::Bytes;
 use tt_outside::Tree;
 
 /// Finds the tests below a directory, which was looked at.
@@ -24,24 +26,18 @@ fn add_dir<T: Tree>(
     tree: &mut T,
     seen: &mut Seen,
     walk: &mut Walk,
-    word: Items<Bytes>,
+    word: &[Bytes],
 ) -> Result<(), DiscoverFault>
-    requires parts { list_all is_part word ≡ true }
+    requires parts { list_all is_part word.now ≡ true }
     ensures gives { (nodes : List Node) (words : List Parts) → T.nodes tree.old ≡ Some nodes → are_nested nodes ≡ true
-        → IsCoveredBut nodes words word seen.old walk.old → GivesWord nodes words word seen.new walk.new result }
-    ensures nodes { T.nodes tree.new ≡ T.nodes tree.old }
-    ensures root { T.root tree.new ≡ T.root tree.old }
-    ensures later { T.faults tree.old ≤ T.faults tree.new }
-    ensures cause { result ≡ Err DiscoverFault.TreeFault → Rose (T.faults tree.old) (T.faults tree.new) }
-    ensures calm { result ≢ Err DiscoverFault.TreeFault → T.faults tree.new ≡ T.faults tree.old }
-    ensures steady { T.steady tree.old → (result ≢ Err DiscoverFault.TreeFault) × T.steady tree.new }
+        → IsCoveredBut nodes words word.now seen.old walk.old
+        → GivesWord nodes words word.now seen.new walk.new result }
+    ensures tree { Leaves T.nodes T.root T.faults T.steady tree.old tree.new (fault_of result) }
 {
-    match nearest(alloc, tree, seen, word.as_slice(), word.as_slice()) {
+    match nearest(alloc, tree, seen, word, word) {
         Ok(suite) => {
-            match walk.pending.put(alloc, Place { path: word, suite }) {
-                Ok(()) => walk_all(alloc, tree, seen, walk),
-                Err(_) => Err(DiscoverFault::NoMemory),
-            }
+            walk.pending.put(key_of(alloc, word)?, suite)?;
+            walk_all(alloc, tree, seen, walk)
         }
         Err(fault) => Err(fault),
     }
@@ -53,30 +49,21 @@ fn add_file<T: Tree>(
     tree: &mut T,
     seen: &mut Seen,
     walk: &mut Walk,
-    word: Items<Bytes>,
+    word: &[Bytes],
 ) -> Result<(), DiscoverFault>
-    requires parts { list_all is_part word ≡ true }
+    requires parts { list_all is_part word.now ≡ true }
     ensures gives { (nodes : List Node) (words : List Parts) → T.nodes tree.old ≡ Some nodes → are_nested nodes ≡ true
-        → IsCovered nodes words seen.old walk.old → kind_of nodes word ≡ Some File
-        → GivesWord nodes words word seen.new walk.new result }
-    ensures nodes { T.nodes tree.new ≡ T.nodes tree.old }
-    ensures root { T.root tree.new ≡ T.root tree.old }
-    ensures later { T.faults tree.old ≤ T.faults tree.new }
-    ensures cause { result ≡ Err DiscoverFault.TreeFault → Rose (T.faults tree.old) (T.faults tree.new) }
-    ensures calm { result ≢ Err DiscoverFault.TreeFault → T.faults tree.new ≡ T.faults tree.old }
-    ensures steady { T.steady tree.old → (result ≢ Err DiscoverFault.TreeFault) × T.steady tree.new }
+        → IsCovered nodes words seen.old walk.old → kind_of nodes word.now ≡ Some File
+        → GivesWord nodes words word.now seen.new walk.new result }
+    ensures tree { Leaves T.nodes T.root T.faults T.steady tree.old tree.new (fault_of result) }
 {
+    let path = text_of(alloc, word)?;
     // A file at `/` stands in no directory.
     if word.is_empty() {
-        return Err(DiscoverFault::Missing(text_of(alloc, word.as_slice())?));
+        return Err(DiscoverFault::Missing(path));
     }
-    match nearest(alloc, tree, seen, dir_of(word.as_slice()), word.as_slice()) {
-        Ok(suite) => {
-            match walk.found.put_path(alloc, word, suite) {
-                Ok(()) => Ok(()),
-                Err(_) => Err(DiscoverFault::NoMemory),
-            }
-        }
+    match nearest(alloc, tree, seen, dir_of(word), word) {
+        Ok(suite) => Ok(walk.found.put(TestFile { path, suite })?),
         Err(fault) => Err(fault),
     }
 }
@@ -87,19 +74,14 @@ pub(crate) fn add_word<T: Tree>(
     tree: &mut T,
     seen: &mut Seen,
     walk: &mut Walk,
-    word: Items<Bytes>,
+    word: &[Bytes],
 ) -> Result<(), DiscoverFault>
-    requires parts { list_all is_part word ≡ true }
+    requires parts { list_all is_part word.now ≡ true }
     ensures gives { (nodes : List Node) (words : List Parts) → T.nodes tree.old ≡ Some nodes → are_nested nodes ≡ true
-        → IsCovered nodes words seen.old walk.old → GivesWord nodes words word seen.new walk.new result }
-    ensures nodes { T.nodes tree.new ≡ T.nodes tree.old }
-    ensures root { T.root tree.new ≡ T.root tree.old }
-    ensures later { T.faults tree.old ≤ T.faults tree.new }
-    ensures cause { result ≡ Err DiscoverFault.TreeFault → Rose (T.faults tree.old) (T.faults tree.new) }
-    ensures calm { result ≢ Err DiscoverFault.TreeFault → T.faults tree.new ≡ T.faults tree.old }
-    ensures steady { T.steady tree.old → (result ≢ Err DiscoverFault.TreeFault) × T.steady tree.new }
+        → IsCovered nodes words seen.old walk.old → GivesWord nodes words word.now seen.new walk.new result }
+    ensures tree { Leaves T.nodes T.root T.faults T.steady tree.old tree.new (fault_of result) }
 {
-    match look(alloc, tree, seen, word.as_slice()) {
+    match look(alloc, tree, seen, word) {
         Ok(Some(_)) => add_dir(alloc, tree, seen, walk, word),
         Ok(None) => add_file(alloc, tree, seen, walk, word),
         Err(fault) => Err(fault),

@@ -1,7 +1,7 @@
 -- Looks from a directory upward.
 -- Shown: what the looks so far give, at the next directory, at one with a suite, at `/` and at a refusal.
 -- Idea: those that were looked at lie below the next one. The hard one is `climbs_next`.
-use Rattle.std.proofs.Common.{◌≡◌, ◌≢◌, ℕ, true, false, is_some, List, [], ◌∷◌, ◌++◌, length, length-append, All, Option, Some, None, Ok, Err, ◌⊎◌, inl, inr, refl, sym, ap, ◌∙◌, subst, append_assoc, arith}
+use Rattle.std.proofs.Common.{◌≡◌, ◌≢◌, ℕ, true, List, [], ◌∷◌, ◌++◌, length, length-append, All, Option, Some, None, IfSome, Ok, Err, ◌⊎◌, inl, inr, refl, sym, ap, ◌∙◌, subst, append_assoc, arith}
 use Rattle.std.specs.List.{list_all}
 use Rattle.std.specs.Option.{option_map}
 use Rattle.std.specs.Prelude.{slice_get}
@@ -11,17 +11,17 @@ use Rattle.std.proofs.lemmas.Option.{get_or_from_slice_get, slice_get_within}
 use Rattle.lit_dirs.specs.Looks.{kind_of}
 use Rattle.lit_dirs.specs.Suites.{suite_at}
 use Rattle.lit_dirs.specs.declared.fault.DiscoverFault.{DiscoverFault}
-use Rattle.lit_dirs.specs.declared.fault.DiscoverFault.TheVariants.{Missing, PythonConfig, NoSuite, BadSuite, SuiteTooLarge, TooMany, TooManyItems, NoTests, TreeFault, NoMemory}
+use Rattle.lit_dirs.specs.declared.fault.DiscoverFault.TheVariants.{NoSuite}
 use Rattle.lit_paths.specs.Paths.{Parts, text_of}
-use Rattle.lit_suite.specs.declared.suite_file.Suite.{Suite}
 use Rattle.lit_look.proofs.DirLemmas.{above_is_dir}
-use Rattle.lit_look.proofs.FaultLemmas.{of_refused}
 use Rattle.lit_look.proofs.SeenLemmas.{further, refused_behind, same_seen}
 use Rattle.lit_look.proofs.SuiteLemmas.{nearest_above, nearest_here, nearest_nowhere}
+use Rattle.lit_look.proofs.TreeLemmas.{told}
 use Rattle.lit_look.proofs.UpLemmas.{below_next, goes_on_up, next_above, starts_up, up_to_suite}
-use Rattle.lit_look.specs.Looks.{Extends, GivesDirLook, GivesNearest, IsNearest, IsNumberOf, has_suite}
+use Rattle.lit_look.specs.Looks.{Extends, GivesDirLook, GivesNearest, HasNone, IsNumberOf, IsRefusedUp, suite_of}
 use Rattle.lit_look.specs.Seen.{AreLooks, AreSeen, Has, IsLook, Refuses}
 use Rattle.lit_look.specs.Suites.{GoesUp, IsAbove, nearest}
+use Rattle.lit_look.specs.declared.root.SuiteRoot.{SuiteRoot}
 use Rattle.lit_look.specs.declared.seen.Looked.{Looked}
 use Rattle.tt_outside.specs.TreeMap.{are_nested, is_part}
 use Rattle.tt_outside.specs.declared.tree.ItemKind.TheVariants.{Dir}
@@ -60,47 +60,21 @@ climbs_start nodes dir old looks here = record {
 
 -- ---- the suite of a directory that was looked at
 
-its_look : (nodes : List Node) (seen : List Looked) (number : ℕ) (looked : Looked) → All (IsLook nodes) seen
+pub its_look : (nodes : List Node) (seen : List Looked) (number : ℕ) (looked : Looked) → All (IsLook nodes) seen
     → slice_get seen number ≡ Some looked → IsLook nodes looked
 its_look nodes seen number looked looks is =
     subst (IsLook nodes) (get_or_from_slice_get seen number looked looked is)
     (looks number looked (slice_get_within seen number looked is))
 
-its_suite : (nodes : List Node) (seen : List Looked) (at : Parts) (number : ℕ) (looked : Looked)
-    → All (IsLook nodes) seen → slice_get seen number ≡ Some looked → looked.dir ≡ at
-    → suite_at nodes at ≡ option_map Ok looked.suite
-its_suite nodes seen at number looked looks is same =
-    ap (suite_at nodes) (sym same) ∙ (its_look nodes seen number looked looks is).suite
-
-none_there : (suite : Option Suite) → is_some suite ≡ false → suite ≡ None
-none_there None h = refl
-none_there (Some suite) h = absurd (cc)
-
-some_there : (suite : Option Suite) → is_some suite ≡ true → (one : Suite) × (suite ≡ Some one)
-some_there (Some suite) h = (suite, refl)
-some_there None h = absurd (cc)
-
-pub no_suite_there : (nodes : List Node) (seen : List Looked) (at : Parts) (number : ℕ) → All (IsLook nodes) seen
-    → IsNumberOf seen at number → has_suite (slice_get seen number) ≡ false → suite_at nodes at ≡ None
-no_suite_there nodes seen at number looks (looked, is, same) none =
-    its_suite nodes seen at number looked looks is same
-    ∙ ap (option_map Ok) (none_there looked.suite (ap has_suite (sym is) ∙ none))
-
-pub is_nearest : (nodes : List Node) (dir at : Parts) (seen : List Looked) (number : ℕ) → All (IsLook nodes) seen
-    → IsNumberOf seen at number → has_suite (slice_get seen number) ≡ true → nearest nodes dir ≡ nearest nodes at
-    → IsNearest nodes dir seen number × (suite_at nodes at ≢ None)
-is_nearest nodes dir at seen number looks (looked, is, root) some same =
-    let (suite, has) = some_there looked.suite (ap has_suite (sym is) ∙ some) in
-    let there = its_suite nodes seen at number looked looks is root ∙ ap (option_map Ok) has in (
-      record {
-        looked = looked;
-        here = is;
-        suite = suite;
-        has = has;
-        is_nearest = same ∙ nearest_here nodes at suite there
-            ∙ ap (λ d. Some (record { root = d; suite = suite })) (sym root);
-      },
-      λ none. let e = sym there ∙ none in cc,
+its_suite : (nodes : List Node) (seen : List Looked) (at : Parts) (number : ℕ) (suite : Option SuiteRoot)
+    → All (IsLook nodes) seen → IsNumberOf seen at number → suite_of (slice_get seen number) ≡ suite
+    → (suite_at nodes at ≡ option_map Ok (option_map (λ root. root.suite) suite)) × IfSome suite (λ root. root.dir ≡ at)
+its_suite nodes seen at number suite looks (looked, is, same) has =
+    let look = its_look nodes seen number looked looks is in
+    let its : looked.suite ≡ suite = ap suite_of (sym is) ∙ has in (
+      ap (suite_at nodes) (sym same) ∙ look.suite ∙ ap (λ one. option_map Ok (option_map (λ root. root.suite) one)) its,
+      subst (λ (one : Parts). IfSome suite (λ root. root.dir ≡ one)) same
+          (subst (λ (one : Option SuiteRoot). IfSome one (λ root. root.dir ≡ looked.dir)) its look.root),
     )
 
 -- ---- the next directory
@@ -181,23 +155,9 @@ refused_at nodes dir at old now fault climbs refuses = (
 pub climbs_refused : (nodes : List Node) (dir word at : Parts) (old now next new : List Looked) (fault : DiscoverFault)
     → Climbs nodes dir at old now → GivesDirLook nodes at now next (Err fault)
     → GivesNearest nodes dir word old new (Err fault)
-climbs_refused nodes dir word at old now next new (Missing path) climbs gives = gives
-climbs_refused nodes dir word at old now next new (NoSuite path) climbs gives =
-    absurd (of_refused nodes (Has now) at (NoSuite path) gives)
-climbs_refused nodes dir word at old now next new TreeFault climbs gives = tt
-climbs_refused nodes dir word at old now next new NoMemory climbs gives = tt
-climbs_refused nodes dir word at old now next new (PythonConfig path) climbs gives =
-    refused_at nodes dir at old now (PythonConfig path) climbs gives
-climbs_refused nodes dir word at old now next new (BadSuite path why) climbs gives =
-    refused_at nodes dir at old now (BadSuite path why) climbs gives
-climbs_refused nodes dir word at old now next new (SuiteTooLarge path) climbs gives =
-    refused_at nodes dir at old now (SuiteTooLarge path) climbs gives
-climbs_refused nodes dir word at old now next new TooMany climbs gives =
-    refused_at nodes dir at old now TooMany climbs gives
-climbs_refused nodes dir word at old now next new TooManyItems climbs gives =
-    refused_at nodes dir at old now TooManyItems climbs gives
-climbs_refused nodes dir word at old now next new NoTests climbs gives =
-    refused_at nodes dir at old now NoTests climbs gives
+climbs_refused nodes dir word at old now next new fault climbs gives =
+    told (Refuses nodes (Has now) at) (λ one. HasNone nodes dir word old new one ⊎ IsRefusedUp nodes dir old one) fault
+    (λ one refuses. inr (refused_at nodes dir at old now one climbs refuses)) gives
 
 -- ---- at the next directory
 
@@ -208,20 +168,22 @@ pub record Step (nodes : List Node) (dir at : Parts) (old now new : List Looked)
   pub numbered : IsNumberOf new at number
 
 pub step_to_suite : (nodes : List Node) (dir word at : Parts) (old now new : List Looked) (number : ℕ)
-    → Step nodes dir at old now new number → has_suite (slice_get new number) ≡ true
-    → GivesNearest nodes dir word old new (Ok number)
-step_to_suite nodes dir word at old now new number step some =
-    let (nearest_is, some_there) =
-    is_nearest nodes dir at new number step.seen.looks step.numbered some step.climbs.same in
-    (climbs_to_suite nodes dir at old now new step.climbs step.seen some_there, nearest_is)
+    (root : SuiteRoot) → Step nodes dir at old now new number → suite_of (slice_get new number) ≡ Some root
+    → GivesNearest nodes dir word old new (Ok root)
+step_to_suite nodes dir word at old now new number root step some =
+    let (there, here) = its_suite nodes new at number (Some root) step.seen.looks step.numbered some in (
+      climbs_to_suite nodes dir at old now new step.climbs step.seen (λ none. let e = sym there ∙ none in cc),
+      step.climbs.same ∙ nearest_here nodes at root.suite there
+          ∙ ap (λ d. Some (record { root = d; suite = root.suite })) (sym here),
+    )
 
 pub step_next : (nodes : List Node) (dir at above : Parts) (part : List ℕ) (old now new : List Looked) (number : ℕ)
-    → Step nodes dir at old now new number → has_suite (slice_get new number) ≡ false → at ≡ above ++ part ∷ []
+    → Step nodes dir at old now new number → suite_of (slice_get new number) ≡ None → at ≡ above ++ part ∷ []
     → are_nested nodes ≡ true → list_all is_part at ≡ true → Climbs nodes dir above old new
 step_next nodes dir at above part old now new number step none is nested parts =
     let here = subst (λ (x : Parts). Step nodes dir x old now new number) is step in
     climbs_next nodes dir above part old now new here.climbs here.seen
-    (no_suite_there nodes new (above ++ part ∷ []) number here.seen.looks here.numbered none) nested
+    (its_suite nodes new (above ++ part ∷ []) number None here.seen.looks here.numbered none).0 nested
     (ap (list_all is_part) (sym is) ∙ parts)
 
 no_parts : (at : Parts) → length at ≡ 0 → at ≡ []
@@ -229,13 +191,20 @@ no_parts [] h = refl
 no_parts (part ∷ at) h = absurd (omega arith)
 
 pub step_at_root : (nodes : List Node) (dir word at : Parts) (path : List ℕ) (old now new : List Looked) (number : ℕ)
-    → Step nodes dir at old now new number → has_suite (slice_get new number) ≡ false → length at ≡ 0
+    → Step nodes dir at old now new number → suite_of (slice_get new number) ≡ None → length at ≡ 0
     → path ≡ text_of word → GivesNearest nodes dir word old new (Err (NoSuite path))
 step_at_root nodes dir word at path old now new number step none empty same =
     let here = subst (λ (x : Parts). Step nodes dir x old now new number) (no_parts at empty) step in
     let (seen, nowhere) = climbs_to_root nodes dir old now new here.climbs here.seen
-    (no_suite_there nodes new [] number here.seen.looks here.numbered none) in
-    (same, seen, nowhere)
+    (its_suite nodes new [] number None here.seen.looks here.numbered none).0 in
+    inl (ap (λ text. NoSuite text) same, seen, nowhere)
+
+-- ---- whatever the tree tells
+
+pub lies_above : (dir at above rest : Parts) (part : List ℕ) → dir ≡ at ++ rest → at ≡ above ++ part ∷ []
+    → dir ≡ above ++ part ∷ rest
+lies_above dir at above rest part is same =
+    is ∙ ap (λ path. path ++ rest) same ∙ append_assoc above (part ∷ []) rest
 
 pub parts_above : (at above : Parts) (part : List ℕ) → at ≡ above ++ part ∷ [] → list_all is_part at ≡ true
     → list_all is_part above ≡ true

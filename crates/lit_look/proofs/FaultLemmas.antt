@@ -52,7 +52,7 @@ of_python dir (Some name) later fault next is =
     subst IsOfDir same tt
 of_python dir None later fault next is = next is
 
-pub of_dir : (nodes : List Node) (dir : Parts) (fault : DiscoverFault) → fault_in nodes dir ≡ Some fault → IsOfDir fault
+of_dir : (nodes : List Node) (dir : Parts) (fault : DiscoverFault) → fault_in nodes dir ≡ Some fault → IsOfDir fault
 of_dir nodes dir fault is =
     of_python dir (python_in nodes dir) (suite_fault_in nodes dir) fault
     (of_file (suite_path dir) (file_at nodes (suite_path dir)) fault) is

@@ -25,7 +25,7 @@ use Rattle.lit_paths.proofs.LawLemmas.{texts_tell_paths}
 use Rattle.lit_look.proofs.SeenLemmas.{has_at}
 use Rattle.lit_look.specs.Index.{IsAt, IsIndexed, number_at}
 use Rattle.lit_look.specs.Looks.{IsNumberOf}
-use Rattle.lit_look.specs.Seen.{Has, HasParts, HasWhole}
+use Rattle.lit_look.specs.Seen.{Has, HasParts, HasRoot}
 use Rattle.lit_look.specs.declared.seen.Looked.{Looked}
 use Rattle.tt_outside.specs.TreeMap.{is_part}
 
@@ -141,11 +141,11 @@ last_by numbers one key number other path named is last =
     ∙ ap (λ x. Some x) last
 
 pub one_more : (seen : List Looked) (numbers : List (Vec ℕ Global × ℕ)) (items now : ℕ) (one : Looked)
-    (key : Vec ℕ Global) (number : ℕ) → IsIndexed seen numbers items → HasParts one → HasWhole one
+    (key : Vec ℕ Global) (number : ℕ) → IsIndexed seen numbers items → HasParts one → HasRoot one
     → ¬ (Has seen one.dir) → key.items ≡ text_of one.dir → number ≡ length seen → now ≡ items + length one.items
     → now ≤ 1000000
     → IsIndexed (seen ++ one ∷ []) (insert_entry (λ x y. slice_cmp nat_cmp x.items y.items) numbers key number) now
-one_more seen numbers items now one key number index parts whole new named last sum room = record {
+one_more seen numbers items now one key number index parts its new named last sum room = record {
   right = λ path other is. right_by seen numbers items one key number other path (is_eq (name_cmp path key.items)) index
       named last refl (sym (put_number numbers key number path) ∙ is);
   whole = λ other path at. put_number numbers key number path ∙ elim (at_cases seen one other path at) [
@@ -154,7 +154,7 @@ one_more seen numbers items now one key number index parts whole new named last 
     | inr (end, is) ↦ last_by numbers one key number other path named is (last ∙ sym end)
   ];
   parts = All-push HasParts seen one index.parts parts;
-  suites = All-push HasWhole seen one index.suites whole;
+  roots = All-push HasRoot seen one index.roots its;
   count = omega (arith, index.count, sum_by_push (λ looked. length looked.items) seen one);
   within = room;
 }

@@ -6,3 +6,4 @@ pub mod IndexLemmas
 pub mod SeenLemmas
 pub mod SuiteLemmas
 pub mod UpLemmas
+pub mod TreeLemmas

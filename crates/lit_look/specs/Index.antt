@@ -7,7 +7,7 @@ use Rattle.std.specs.Cmp.Lexicographic.{slice_cmp}
 use Rattle.std.specs.Map.{lookup}
 use Rattle.std.specs.Ordering.{nat_cmp}
 use Rattle.lit_paths.specs.Paths.{text_of}
-use Rattle.lit_look.specs.Seen.{HasParts, HasWhole, count_items}
+use Rattle.lit_look.specs.Seen.{HasParts, HasRoot, count_items}
 use Rattle.lit_look.specs.declared.seen.Looked.{Looked}
 
 -- the number under a path
@@ -24,6 +24,6 @@ pub record IsIndexed (seen : List Looked) (numbers : List (Vec ℕ Global × ℕ
   pub right : (path : List ℕ) (number : ℕ) → number_at numbers path ≡ Some number → IsAt seen number path
   pub whole : (number : ℕ) (path : List ℕ) → IsAt seen number path → number_at numbers path ≡ Some number
   pub parts : All HasParts seen
-  pub suites : All HasWhole seen
+  pub roots : All HasRoot seen
   pub count : items ≡ count_items seen
   pub within : items ≤ 1000000

@@ -2,3 +2,4 @@ pub mod Index
 pub mod Looks
 pub mod Seen
 pub mod Suites
+pub mod Trees

@@ -1,17 +1,18 @@
 -- The directories that were looked at.
 -- Own rule: each directory is looked at once, and what all of them list has a limit.
-use Rattle.std.specs.Prelude.{◌≡◌, ◌≢◌, ℕ, ◌+◌, ◌≤◌, nat_lt, true, if◌then◌else◌, List, map, length, All, Some, None, IfSome, Ok}
+use Rattle.std.specs.Prelude.{◌≡◌, ◌≢◌, ℕ, ◌+◌, ◌≤◌, nat_lt, true, if◌then◌else◌, List, map, length, All, Option, Some, None, IfSome, Ok}
 use Rattle.std.specs.List.{AllPairs, Contains, list_all, sum_by}
 use Rattle.std.specs.Option.{option_map}
 use Rattle.tt_outside.specs.declared.tree.Node.{Node}
 use Rattle.tt_outside.specs.declared.tree.Item.{Item}
 use Rattle.tt_outside.specs.TreeMap.{Lists, is_part}
 use Rattle.lit_paths.specs.Paths.{Parts, text_of}
-use Rattle.lit_suite.specs.Whole.{IsWhole}
+use Rattle.lit_suite.specs.declared.suite_file.Suite.{Suite}
 use Rattle.lit_dirs.specs.Looks.{fault_in}
 use Rattle.lit_dirs.specs.Suites.{suite_at}
 use Rattle.lit_dirs.specs.declared.fault.DiscoverFault.{DiscoverFault}
 use Rattle.lit_dirs.specs.declared.fault.DiscoverFault.TheVariants.{TooManyItems}
+use Rattle.lit_look.specs.declared.root.SuiteRoot.{SuiteRoot}
 use Rattle.lit_look.specs.declared.seen.Looked.{Looked}
 
 -- a directory is among those that were looked at
@@ -22,15 +23,20 @@ Has seen dir = Contains (map (λ looked. looked.dir) seen) dir
 abbrev pub HasParts : Looked → Type 0
 HasParts looked = list_all is_part looked.dir ≡ true
 
--- its suite, if it has one, is whole
-abbrev pub HasWhole : Looked → Type 0
-HasWhole looked = IfSome looked.suite IsWhole
+-- it is the root of its suite, if it has one
+abbrev pub HasRoot : Looked → Type 0
+HasRoot looked = IfSome looked.suite (λ root. root.dir ≡ looked.dir)
+
+-- a suite with its directory
+abbrev pub Roots : Parts → Option Suite → Option SuiteRoot → Type 0
+Roots dir suite root = (option_map (λ one. one.suite) root ≡ suite) × IfSome root (λ one. one.dir ≡ dir)
 
 -- this is what a look at the directory gives, which nothing refuses
 pub record IsLook (nodes : List Node) (looked : Looked) : Type 0 where
   pub lists : Lists nodes (text_of looked.dir) looked.items
   pub clear : fault_in nodes looked.dir ≡ None
-  pub suite : suite_at nodes looked.dir ≡ option_map Ok looked.suite
+  pub suite : suite_at nodes looked.dir ≡ option_map Ok (option_map (λ root. root.suite) looked.suite)
+  pub root : HasRoot looked
 
 -- how many items were listed in all
 abbrev pub count_items : List Looked → ℕ

@@ -1,16 +1,22 @@
 -- The suite of a directory.
 -- Own rule: a directory's suite is the one at it, or at the nearest directory above.
-use Rattle.std.specs.Prelude.{◌≡◌, ◌≢◌, ℕ, List, [], ◌∷◌, ◌++◌, Option, None, Some, Result, Ok, Err, map, reverse}
+use Rattle.std.specs.Prelude.{◌≡◌, ◌≢◌, ℕ, true, List, [], ◌∷◌, ◌++◌, Option, None, Some, Result, Ok, Err, map, reverse}
+use Rattle.std.specs.List.{list_all}
+use Rattle.tt_outside.specs.TreeMap.{is_part}
 use Rattle.lit_paths.specs.Paths.{Parts}
 use Rattle.lit_dirs.specs.Suites.{suite_at}
 use Rattle.lit_suite.specs.declared.suite_file.Suite.{Suite}
 use Rattle.lit_suite.specs.declared.suite_file.SuiteFault.{SuiteFault}
+use Rattle.lit_look.specs.declared.root.SuiteRoot.{SuiteRoot}
 use Rattle.tt_outside.specs.declared.tree.Node.{Node}
 
 -- a suite and its directory
 pub record Rooted : Type 0 where
   pub root : Parts
   pub suite : Suite
+
+abbrev pub rooted_at : SuiteRoot → Rooted
+rooted_at root = record { root = root.dir; suite = root.suite }
 
 -- the suite that a directory is the root of
 abbrev pub rooted : Parts → Option (Result Suite SuiteFault) → Option Rooted
@@ -43,6 +49,12 @@ nearest nodes dir = first_suite nodes (upward dir)
 -- a directory lies above another
 abbrev pub IsAbove : Parts → Parts → Type 0
 IsAbove one dir = (part : List ℕ) × (rest : Parts) × (dir ≡ one ++ part ∷ rest)
+
+-- a path made of parts is a directory, or lies below it
+pub record LiesIn (dir path : Parts) : Type 0 where
+  pub rest : Parts
+  pub is : path ≡ dir ++ rest
+  pub parts : list_all is_part path ≡ true
 
 -- A directory is the one to start from or lies above it, and none from there to just below it has a suite: so it is
 -- looked at for the suite of that one.

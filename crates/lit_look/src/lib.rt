@@ -4,9 +4,11 @@
 #![tactic(auto)]
 
 mod looking;
+mod root;
 mod seen;
 mod upward;
 
 pub use looking::look;
+pub use root::{SharedRoot, SuiteRoot};
 pub use seen::{Looked, Seen};
 pub use upward::nearest;

@@ -1,21 +1,42 @@
 //! A look at a directory.
-ghost use Rattle.std.specs.Prelude.{◌≡◌, ◌≢◌, ◌≤◌, IfErr, IfOk, IfSome, List, true};
+ghost use Rattle.std.specs.Prelude.{◌≡◌, IfErr, IfOk, IfSome, List, true};
 ghost use Rattle.std.specs.List.{list_all};
+ghost use Rattle.lit_suite.specs.Whole.{IsWhole};
 ghost use Rattle.lit_dirs.specs.Looks.{IsGone, kind_of};
 ghost use Rattle.lit_paths.specs.Paths.{text_of};
 ghost use Rattle.lit_look.specs.Looks.{Extends, GivesDirLook, GivesLook, IsNumberOf};
-ghost use Rattle.lit_look.specs.Seen.{AreLooks, Has};
-ghost use Rattle.tt_outside.specs.Faults.{Rose};
+ghost use Rattle.lit_look.specs.Seen.{AreLooks, Has, Roots};
+ghost use Rattle.lit_look.specs.Trees.{Leaves, fault_of};
 ghost use Rattle.tt_outside.specs.declared.tree.ItemKind.TheVariants.{Dir};
 ghost use Rattle.tt_outside.specs.declared.tree.Node.{Node};
 ghost use Rattle.tt_outside.specs.TreeMap.{Lists, is_part};
 
+use crate::root::{SharedRoot, SuiteRoot};
 use crate::seen::{Looked, Seen};
 use lit_dirs::{DiscoverFault, list_dir, look_in};
 use lit_paths::{copied, text_of};
+use lit_suite::Suite;
 use std::alloc::Global;
-use tt_base::{Bytes, Items};
+use tt_base::{Bytes, Items, NoMemory};
 use tt_outside::{Item, Tree};
+
+/// The suite of a directory, to be shared.
+fn rooted(
+    alloc: Global,
+    dir: &[Bytes],
+    suite: Option<Suite>,
+) -> Result<Option<SharedRoot>, NoMemory>
+    requires { IfSome suite IsWhole }
+    ensures { IfOk result (Roots dir.now suite) }
+{
+    match suite {
+        Some(suite) => {
+            let dir = copied(alloc, dir)?;
+            Ok(Some(SharedRoot::new(alloc, SuiteRoot { dir, suite })?))
+        }
+        None => Ok(None),
+    }
+}
 
 /// Adds a directory that lists these items, with its suite, and gives its number; or what refuses the directory.
 fn enter<T: Tree>(
@@ -33,18 +54,14 @@ fn enter<T: Tree>(
     ensures gone { IfErr result (IsGone dir.now) }
     ensures number { IfOk result (IsNumberOf seen.new dir.now) }
     ensures extends { Extends seen.old seen.new }
-    ensures nodes { T.nodes tree.new ≡ T.nodes tree.old }
-    ensures root { T.root tree.new ≡ T.root tree.old }
-    ensures later { T.faults tree.old ≤ T.faults tree.new }
-    ensures cause { result ≡ Err DiscoverFault.TreeFault → Rose (T.faults tree.old) (T.faults tree.new) }
-    ensures calm { result ≢ Err DiscoverFault.TreeFault → T.faults tree.new ≡ T.faults tree.old }
-    ensures steady { T.steady tree.old → (result ≢ Err DiscoverFault.TreeFault) × T.steady tree.new }
+    ensures tree { Leaves T.nodes T.root T.faults T.steady tree.old tree.new (fault_of result) }
 {
     if !seen.has_room(items.len()) {
         return Err(DiscoverFault::TooManyItems);
     }
     match look_in(alloc, tree, dir, items.as_slice()) {
         Ok(suite) => {
+            let suite = rooted(alloc, dir, suite)?;
             let looked = Looked {
                 dir: copied(alloc, dir)?,
                 items,
@@ -69,12 +86,7 @@ pub fn look<T: Tree>(
     ensures gone { IfErr result (IsGone dir.now) }
     ensures number { IfOk result (λ found. IfSome found (IsNumberOf seen.new dir.now)) }
     ensures extends { Extends seen.old seen.new }
-    ensures nodes { T.nodes tree.new ≡ T.nodes tree.old }
-    ensures root { T.root tree.new ≡ T.root tree.old }
-    ensures later { T.faults tree.old ≤ T.faults tree.new }
-    ensures cause { result ≡ Err DiscoverFault.TreeFault → Rose (T.faults tree.old) (T.faults tree.new) }
-    ensures calm { result ≢ Err DiscoverFault.TreeFault → T.faults tree.new ≡ T.faults tree.old }
-    ensures steady { T.steady tree.old → (result ≢ Err DiscoverFault.TreeFault) × T.steady tree.new }
+    ensures tree { Leaves T.nodes T.root T.faults T.steady tree.old tree.new (fault_of result) }
 {
     if let Some(number) = seen.number_of(alloc, dir)? {
         return Ok(Some(number));
@@ -101,12 +113,7 @@ pub(crate) fn look_at_dir<T: Tree>(
         → kind_of nodes dir.now ≡ Some Dir → GivesDirLook nodes dir.now seen.old seen.new result }
     ensures number { IfOk result (IsNumberOf seen.new dir.now) }
     ensures extends { Extends seen.old seen.new }
-    ensures nodes { T.nodes tree.new ≡ T.nodes tree.old }
-    ensures root { T.root tree.new ≡ T.root tree.old }
-    ensures later { T.faults tree.old ≤ T.faults tree.new }
-    ensures cause { result ≡ Err DiscoverFault.TreeFault → Rose (T.faults tree.old) (T.faults tree.new) }
-    ensures calm { result ≢ Err DiscoverFault.TreeFault → T.faults tree.new ≡ T.faults tree.old }
-    ensures steady { T.steady tree.old → (result ≢ Err DiscoverFault.TreeFault) × T.steady tree.new }
+    ensures tree { Leaves T.nodes T.root T.faults T.steady tree.old tree.new (fault_of result) }
 {
     match look(alloc, tree, seen, dir) {
         Ok(Some(number)) => Ok(number),

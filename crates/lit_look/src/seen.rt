@@ -1,12 +1,12 @@
 //! The directories that a discovery has looked at.
-ghost use Rattle.std.specs.Prelude.{◌≡◌, ◌+◌, ◌≤◌, ◌++◌, ◌∷◌, ◌↔◌, [], All, IfOk, IsTrue, MatchOption, OnErr, OnOk, length, true};
+ghost use Rattle.std.specs.Prelude.{◌≡◌, ◌+◌, ◌<◌, ◌≤◌, ◌++◌, ◌∷◌, ◌↔◌, [], All, IfOk, IsTrue, MatchOption, OnErr, OnOk, Some, length, slice_get, true};
 ghost use Rattle.std.specs.List.{list_all};
 ghost use Rattle.lit_look.specs.Looks.{IsNumberOf};
-ghost use Rattle.lit_look.specs.Seen.{Has, HasParts, HasWhole, count_items};
+ghost use Rattle.lit_look.specs.Seen.{Has, HasParts, HasRoot, count_items};
 ghost use Rattle.tt_outside.specs.TreeMap.{is_part};
 
+use crate::root::SharedRoot;
 use lit_paths::text_of;
-use lit_suite::Suite;
 use std::alloc::Global;
 use std::collections::BTreeMap;
 use std::marker::Model;
@@ -21,7 +21,7 @@ pub const MAX_ITEMS: u64 = 1_000_000;
 pub struct Looked {
     pub dir: Items<Bytes>,
     pub items: Items<Item>,
-    pub suite: Option<Suite>,
+    pub suite: Option<SharedRoot>,
 }
 
 /// The directories that were looked at, in their order.
@@ -58,14 +58,14 @@ impl Seen {
         }
     }
 
-    /// The directories.
-    pub fn as_slice(&self) -> &[Looked]
-        ensures same { result.now ≡ self.now }
-        ensures parts { All HasParts self.now }
-        ensures whole { All HasWhole self.now }
+    /// The directory of a number.
+    pub fn at(&self, number: usize) -> &Looked
+        requires { number < length self.now }
+        ensures is { slice_get self.now number ≡ Some result.now }
+        ensures root { HasRoot result.now }
         ensures within { count_items self.now ≤ 1000000 }
     {
-        self.held.as_slice()
+        &self.held[number]
     }
 
     /// Whether so many further items are within the limit.
@@ -87,7 +87,7 @@ impl Seen {
     /// Adds a directory, and gives its number.
     pub(crate) fn add(&mut self, alloc: Global, looked: Looked) -> Result<usize, NoMemory>
         requires parts { HasParts looked }
-        requires whole { HasWhole looked }
+        requires root { HasRoot looked }
         requires new { ¬ (Has self.old looked.dir) }
         requires room { count_items self.old + length looked.items ≤ 1000000 }
         ensures adds { OnOk result (self.new ≡ self.old ++ looked ∷ []) }

@@ -1,33 +1,39 @@
 //! The nearest suite of a directory.
-ghost use Rattle.std.specs.Prelude.{◌≡◌, ◌≢◌, ◌≤◌, IfOk, List, slice_get, true};
+ghost use Rattle.std.specs.Prelude.{◌≡◌, ◌<◌, IfOk, IfSome, List, Some, length, slice_get, true};
 ghost use Rattle.std.specs.List.{list_all};
 ghost use Rattle.lit_dirs.specs.Looks.{kind_of};
-ghost use Rattle.lit_look.specs.Looks.{Extends, GivesNearest, has_suite};
+ghost use Rattle.lit_look.specs.Looks.{Extends, GivesNearest, IsNumberOf, suite_of};
 ghost use Rattle.lit_look.specs.Seen.{AreLooks};
-ghost use Rattle.tt_outside.specs.Faults.{Rose};
+ghost use Rattle.lit_look.specs.Suites.{LiesIn};
+ghost use Rattle.lit_look.specs.Trees.{Leaves, fault_of};
+ghost use Rattle.lit_paths.specs.Paths.{Parts};
 ghost use Rattle.tt_outside.specs.declared.tree.ItemKind.TheVariants.{Dir};
 ghost use Rattle.tt_outside.specs.declared.tree.Node.{Node};
 ghost use Rattle.tt_outside.specs.TreeMap.{are_nested, is_part};
 
 use crate::looking::look_at_dir;
+use crate::root::SharedRoot;
 use crate::seen::Seen;
 use lit_dirs::DiscoverFault;
 use lit_paths::text_of;
 use std::alloc::Global;
-use tt_base::Bytes;
+use tt_base::{Bytes, NoMemory};
 use tt_outside::Tree;
 
-/// Whether the directory of a number is the root of a suite.
-fn has_suite(seen: &Seen, number: usize) -> bool
-    ensures { result ≡ has_suite (slice_get seen.now number) }
+/// The suite that the directory of a number is the root of.
+fn suite_of(seen: &Seen, number: usize) -> Result<Option<SharedRoot>, NoMemory>
+    requires { number < length seen.now }
+    ensures suite { IfOk result (λ root. root ≡ suite_of (slice_get seen.now number)) }
+    ensures here { (dir : Parts) → IsNumberOf seen.now dir number
+        → IfOk result (λ root. IfSome root (λ one. one.dir ≡ dir)) }
 {
-    match seen.as_slice().get(number) {
-        Some(looked) => looked.suite.is_some(),
-        None => false,
+    match &seen.at(number).suite {
+        Some(root) => Ok(Some(root.share()?)),
+        None => Ok(None),
     }
 }
 
-/// The number of the nearest directory with a suite, from a directory upward. `word` is the path that is told where
+/// The suite of the nearest directory that has one, from a directory upward. `word` is the path that is told where
 /// there is none.
 pub fn nearest<T: Tree>(
     alloc: Global,
@@ -35,19 +41,14 @@ pub fn nearest<T: Tree>(
     seen: &mut Seen,
     dir: &[Bytes],
     word: &[Bytes],
-) -> Result<usize, DiscoverFault>
+) -> Result<SharedRoot, DiscoverFault>
     requires parts { list_all is_part dir.now ≡ true }
     ensures gives { (nodes : List Node) → T.nodes tree.old ≡ Some nodes → AreLooks nodes seen.old
         → are_nested nodes ≡ true → kind_of nodes dir.now ≡ Some Dir
         → GivesNearest nodes dir.now word.now seen.old seen.new result }
-    ensures suite { IfOk result (λ number. has_suite (slice_get seen.new number) ≡ true) }
+    ensures above { IfOk result (λ root. LiesIn root.dir dir.now) }
     ensures extends { Extends seen.old seen.new }
-    ensures nodes { T.nodes tree.new ≡ T.nodes tree.old }
-    ensures root { T.root tree.new ≡ T.root tree.old }
-    ensures later { T.faults tree.old ≤ T.faults tree.new }
-    ensures cause { result ≡ Err DiscoverFault.TreeFault → Rose (T.faults tree.old) (T.faults tree.new) }
-    ensures calm { result ≢ Err DiscoverFault.TreeFault → T.faults tree.new ≡ T.faults tree.old }
-    ensures steady { T.steady tree.old → (result ≢ Err DiscoverFault.TreeFault) × T.steady tree.new }
+    ensures tree { Leaves T.nodes T.root T.faults T.steady tree.old tree.new (fault_of result) }
 {
     let mut at = dir;
     loop {
@@ -55,8 +56,8 @@ pub fn nearest<T: Tree>(
             Ok(number) => number,
             Err(fault) => return Err(fault),
         };
-        if has_suite(seen, number) {
-            return Ok(number);
+        if let Some(root) = suite_of(seen, number)? {
+            return Ok(root);
         }
         match at.split_last() {
             Some((_, above)) => at = above,

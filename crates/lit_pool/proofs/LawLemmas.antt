@@ -11,7 +11,7 @@ use Rattle.test_outcome.specs.declared.outcome.Outcome.{Outcome}
 use Rattle.lit_test.specs.Trial.{ending_of}
 use Rattle.lit_test.specs.declared.trial.Trial.{Trial}
 use Rattle.lit_test.proofs.LawLemmas.{one_trial}
-use Rattle.lit_pool.specs.Pool.{AreTrials}
+use Rattle.lit_round.specs.Trials.{AreTrials}
 
 outcome_prop : (test : Test) (entries : List Entry) (result : Outcome) → IsProp ((ending_of test entries).outcome ≡ result)
 outcome_prop test entries result = Prim.hlevel props

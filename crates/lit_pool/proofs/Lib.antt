@@ -1,2 +1,3 @@
+pub mod CrewLemmas
 pub mod LawLemmas
 pub mod RunLemmas

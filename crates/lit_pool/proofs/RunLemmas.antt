@@ -1,34 +1,40 @@
 -- A run by one hand, test by test: the first tests have their trials, which were put, and the hand began just these. Each `_on` is
 -- the step to the next test; `stopped_alone` and `stopped_at` are what is promised of the two kinds of stop. None is hard: lists
 -- grow at their end, and the definitions go by their front.
-use Rattle.std.proofs.Common.{◌≡◌, ◌+◌, ◌≤◌, ◌<◌, ◌||◌, ◌∙◌, ℕ, Bool, true, false, true≢false, zero, suc, List, [], ◌∷◌, ◌++◌, get_or, length, map, take, drop, None, Some, refl, sym, ap, subst, arith}
-use Rattle.std.proofs.Math.Seq.{take-suc}
-use Rattle.std.proofs.lemmas.List.{append-nil, append_assoc, length-append, take-append-drop}
-use Rattle.std.proofs.lemmas.List.Folds.{list_any-append}
+use Rattle.std.proofs.Common.{◌≡◌, ◌+◌, ◌<◌, ◌∙◌, ℕ, zero, suc, List, [], ◌∷◌, ◌++◌, get_or, length, map, slice_get, take, drop, Option, None, Some, refl, sym, ap, subst, arith}
+use Rattle.std.proofs.Math.Seq.{take-append-add, take-suc}
+use Rattle.std.proofs.lemmas.List.{append-nil, append_assoc, drop-take, length-append, length-take-le, same_from_push, take-append-drop, take-take, take_more}
+use Rattle.std.proofs.lemmas.Option.{get_or_from_slice_get, slice_get_within}
 use Rattle.std.proofs.lemmas.List.FromFn.{length-range_with_len}
 use Rattle.std.specs.List.{range_with_len}
-use Rattle.tt_outside.specs.Faults.{Rose}
+use Rattle.std.specs.Option.{option_to_list}
 use Rattle.tt_outside.specs.Gave.{Gave, SameGave}
 use Rattle.tt_outside.specs.declared.test_data.Test.{Test}
 use Rattle.test_course.specs.Entries.{AreGiven}
-use Rattle.test_course.specs.Played.{any_broken}
 use Rattle.test_course.proofs.EntryLemmas.{AreGiven_same}
 use Rattle.lit_test.specs.Trial.{IsTrial}
 use Rattle.lit_test.specs.declared.trial.Trial.{Trial}
 use Rattle.lit_desk.specs.Desk.{PutFrom}
 use Rattle.lit_desk.specs.declared.stop.DeskStop.{DeskStop}
-use Rattle.lit_pool.specs.Pool.{AreTrials, IsStopped, IsTrialOf, any_fault, why_of}
+use Rattle.lit_round.specs.Trials.{AreTrials, IsTrialOf}
+use Rattle.lit_pool.specs.Pool.{IsStopped, RefusesAt, returned, why_of}
+use Rattle.lit_pool.specs.declared.stop.PoolStop.{PoolStop}
 use Rattle.lit_pool.specs.declared.stop.PoolWhy.{PoolWhy}
 use Rattle.lit_pool.specs.declared.stop.PoolWhy.TheVariants.{NoMemory}
 
 -- ---- desks
 
+-- lists that are put one behind the other
+pub put_both : {D X : Type 0} (Takes : D → ℕ → X → D → Type 0) (old mid new : D) (place next : ℕ) (xs ys : List X)
+    → next ≡ place + length xs → PutFrom Takes old place xs mid → PutFrom Takes mid next ys new → PutFrom Takes old place (xs ++ ys) new
+put_both Takes old mid new place next [] ys is first then =
+    rw first (subst (λ n. PutFrom Takes mid n ys new) (is ∙ (omega arith)) then)
+put_both Takes old mid new place next (x ∷ xs) ys is (one, took, first) then =
+    (one, took, put_both Takes one mid new (place + 1) next xs ys (omega (arith, is)) first then)
+
 pub put_on : {D X : Type 0} (Takes : D → ℕ → X → D → Type 0) (old mid new : D) (place : ℕ) (xs : List X) (x : X)
     → PutFrom Takes old place xs mid → Takes mid (place + length xs) x new → PutFrom Takes old place (xs ++ x ∷ []) new
-put_on Takes old mid new place [] x put took =
-    (new, subst (λ n. Takes old n x new) (omega arith) (subst (λ d. Takes d (place + 0) x new) (sym put) took), refl)
-put_on Takes old mid new place (y ∷ xs) x (next, first, put) took =
-    (next, first, put_on Takes next mid new (place + 1) xs x put (subst (λ n. Takes mid n x new) (omega arith) took))
+put_on Takes old mid new place xs x put took = put_both Takes old mid new place (place + length xs) xs (x ∷ []) refl put (new, took, refl)
 
 -- what is put on a desk is put on what is seen of it
 pub put_through : {D E X Y : Type 0} (f : D → E) (g : X → Y) (Takes : E → ℕ → Y → E → Type 0) (old new : D) (place : ℕ)
@@ -40,14 +46,51 @@ put_through f g Takes old new place (x ∷ xs) (next, took, put) =
 
 -- ---- trials
 
+pub trials_both : (gave : Gave) (place next : ℕ) (tests more : List Test) (xs ys : List Trial) → next ≡ place + length xs
+    → AreTrials gave place tests xs → AreTrials gave next more ys → AreTrials gave place (tests ++ more) (xs ++ ys)
+trials_both gave place next [] more [] ys is first then = subst (λ n. AreTrials gave n more ys) (is ∙ (omega arith)) then
+trials_both gave place next [] more (x ∷ xs) ys is first then = absurd first
+trials_both gave place next (test ∷ tests) more [] ys is first then = absurd first
+trials_both gave place next (test ∷ tests) more (x ∷ xs) ys is (one, first) then =
+    (one, trials_both gave (place + 1) next tests more xs ys (omega (arith, is)) first then)
+
 trials_on : (gave : Gave) (place : ℕ) (tests : List Test) (xs : List Trial) (test : Test) (x : Trial)
     → AreTrials gave place tests xs → IsTrialOf gave (place + length xs) test x
     → AreTrials gave place (tests ++ test ∷ []) (xs ++ x ∷ [])
-trials_on gave place [] [] test x all one = (subst (λ n. IsTrialOf gave n test x) (omega arith) one, tt)
-trials_on gave place [] (y ∷ xs) test x all one = absurd all
-trials_on gave place (t ∷ tests) [] test x all one = absurd all
-trials_on gave place (t ∷ tests) (y ∷ xs) test x (first, all) one =
-    (first, trials_on gave (place + 1) tests xs test x all (subst (λ n. IsTrialOf gave n test x) (omega arith) one))
+trials_on gave place tests xs test x all one = trials_both gave place (place + length xs) tests (test ∷ []) xs (x ∷ []) refl all (one, tt)
+
+-- the first of them
+pub trials_take : (gave : Gave) (place n : ℕ) (tests : List Test) (xs : List Trial) → AreTrials gave place tests xs
+    → AreTrials gave place (take n tests) (take n xs)
+trials_take gave place zero tests xs are = tt
+trials_take gave place (suc n) [] [] are = tt
+trials_take gave place (suc n) [] (x ∷ xs) are = absurd are
+trials_take gave place (suc n) (test ∷ tests) [] are = absurd are
+trials_take gave place (suc n) (test ∷ tests) (x ∷ xs) (first, rest) = (first, trials_take gave (place + 1) n tests xs rest)
+
+-- there are as many of them as tests
+pub trials_long : (gave : Gave) (place : ℕ) (tests : List Test) (xs : List Trial) → AreTrials gave place tests xs
+    → length xs ≡ length tests
+trials_long gave place [] [] are = refl
+trials_long gave place [] (x ∷ xs) are = absurd are
+trials_long gave place (test ∷ tests) [] are = absurd are
+trials_long gave place (test ∷ tests) (x ∷ xs) are = ap suc (trials_long gave (place + 1) tests xs are.1)
+
+-- of one crew and of another that gives the same
+pub trials_same : (one two : Gave) → SameGave one two → (place : ℕ) (tests : List Test) (trials : List Trial)
+    → AreTrials one place tests trials → AreTrials two place tests trials
+trials_same one two same place [] [] are = are
+trials_same one two same place [] (trial ∷ trials) are = are
+trials_same one two same place (test ∷ tests) [] are = are
+trials_same one two same place (test ∷ tests) (trial ∷ trials) (first, rest) = (
+  record {
+    number = first.number;
+    test = first.test;
+    shows = first.shows;
+    given = AreGiven_same one two same place [] trial.entries first.given;
+  },
+  trials_same one two same (place + 1) tests trials rest,
+)
 
 -- one test more, whose trial a hand gave
 pub are_on : (gave mid : Gave) (items tests : List Test) (index place : ℕ) (xs : List Trial) (test : Test) (x : Trial)
@@ -90,31 +133,6 @@ room_of old new n left room begun has =
     let long = ap length begun ∙ length-append old (range_with_len 0 n) in
     let count = length-range_with_len 0 n in omega (arith, long, count, has)
 
--- ---- faults
-
-any_on : (xs : List Trial) (x : Trial) → any_fault (xs ++ x ∷ []) ≡ (any_fault xs || any_broken x.entries)
-any_on xs x =
-    list_any-append (λ (t : Trial). any_broken t.entries) xs (x ∷ []) ∙ ap (λ b. any_fault xs || b) (alone (any_broken x.entries)) where
-      alone : (p : Bool) → (p || false) ≡ p
-      alone true = refl
-      alone false = refl
-
-pub broken_on : (before mid now : ℕ) (xs : List Trial) (x : Trial) → before ≤ mid → mid ≤ now
-    → (any_fault xs ≡ true → Rose before mid) → (any_broken x.entries ≡ true → Rose mid now)
-    → any_fault (xs ++ x ∷ []) ≡ true → Rose before now
-broken_on before mid now xs x first next was is any =
-    by (any_fault xs) (any_broken x.entries) was is (sym (any_on xs x) ∙ any) where
-      by : (p q : Bool) → (p ≡ true → Rose before mid) → (q ≡ true → Rose mid now) → (p || q) ≡ true → Rose before now
-      by true q was is any = let rose = was refl in omega (arith, next, rose)
-      by false q was is any = let rose = is any in omega (arith, first, rose)
-
-pub calm_on : (before mid now : ℕ) (xs : List Trial) (x : Trial) → (any_fault xs ≡ false → mid ≡ before)
-    → (any_broken x.entries ≡ false → now ≡ mid) → any_fault (xs ++ x ∷ []) ≡ false → now ≡ before
-calm_on before mid now xs x was is none = by (any_fault xs) (any_broken x.entries) was is (sym (any_on xs x) ∙ none) where
-  by : (p q : Bool) → (p ≡ false → mid ≡ before) → (q ≡ false → now ≡ mid) → (p || q) ≡ false → now ≡ before
-  by true q was is none = absurd (true≢false none)
-  by false q was is none = is none ∙ was refl
-
 -- ---- replies
 
 pub gave_both : (one two three : Gave) → SameGave one two → SameGave two three → SameGave one three
@@ -152,3 +170,75 @@ module _ {D : Type 0} (Takes : D → ℕ → Trial → D → Type 0) (Keeps : D 
     put = put;
     refused = (why, is, subst (λ n. Keeps now n other why new) (sym at) keeps);
   }
+
+-- the same of a crew that gives the same
+pub stopped_same : {D : Type 0} (Takes : D → ℕ → Trial → D → Type 0) (Keeps : D → ℕ → Trial → DeskStop → D → Type 0) (one two : Gave)
+    → SameGave one two → (tests : List Test) (old new : D) (stop : PoolStop) → IsStopped Takes Keeps one tests old new stop
+    → IsStopped Takes Keeps two tests old new stop
+stopped_same Takes Keeps one two same tests old new stop s = record {
+  done = s.done;
+  rest = s.rest;
+  all = s.all;
+  trials = trials_same one two same 0 s.done (returned stop) s.trials;
+  between = s.between;
+  put = s.put;
+  refused = s.refused;
+}
+
+-- ---- a round
+
+-- the tests of a round behind those before it
+pub part_on : (first count : ℕ) (tests : List Test) → take first tests ++ take count (drop first tests) ≡ take (first + count) tests
+part_on first count tests =
+    ap (λ l. take first tests ++ l) (sym (drop-take first count tests))
+    ∙ ap (λ l. l ++ drop first (take (first + count) tests)) (sym (take-take first (first + count) tests (omega arith)))
+    ∙ take-append-drop first (take (first + count) tests)
+
+-- the desk refused a trial of a round, where all trials before the round had been put
+pub stopped_in : {D : Type 0} (Takes : D → ℕ → Trial → D → Type 0) (Keeps : D → ℕ → Trial → DeskStop → D → Type 0) (gave : Gave)
+    (tests : List Test) (first count taken : ℕ) (xs ys : List Trial) (old mid new : D) (why : DeskStop) (stop : PoolStop)
+    → length xs ≡ first → AreTrials gave 0 (take first tests) xs → PutFrom Takes old 0 xs mid
+    → AreTrials gave first (take count (drop first tests)) ys → (r : RefusesAt Takes Keeps mid first ys taken why new)
+    → stop ≡ record { why = why_of why; trials = xs ++ take taken ys; other = Some r.other }
+    → IsStopped Takes Keeps gave tests old new stop
+stopped_in Takes Keeps gave tests first count taken xs ys old mid new why stop long are put part r is =
+    let low = slice_get_within ys taken r.other r.at in
+    let next = take_more ys taken r.other low
+    ∙ ap (λ (t : Trial). take taken ys ++ t ∷ []) (get_or_from_slice_get ys taken r.other r.other r.at) in
+    let all : (xs ++ take taken ys) ++ r.other ∷ [] ≡ xs ++ take (taken + 1) ys =
+    append_assoc xs (take taken ys) (r.other ∷ []) ∙ ap (λ l. xs ++ l) (sym next) in
+    let many = length-append xs (take taken ys) in
+    let taken_long = length-take-le taken ys (omega arith) in
+    let place : length (xs ++ take taken ys) ≡ first + taken = omega arith in
+    let behind = drop first tests in
+    let part_tests = take count behind in
+    rw is (record {
+      done = take first tests ++ take (taken + 1) part_tests;
+      rest = drop (taken + 1) part_tests ++ drop count behind;
+      all = sym (append_assoc (take first tests) (take (taken + 1) part_tests) (drop (taken + 1) part_tests ++ drop count behind)
+          ∙ ap (λ l. take first tests ++ l) (sym (append_assoc (take (taken + 1) part_tests) (drop (taken + 1) part_tests) (drop count behind))
+          ∙ ap (λ l. l ++ drop count behind) (take-append-drop (taken + 1) part_tests) ∙ take-append-drop count behind)
+          ∙ take-append-drop first tests);
+      trials = subst (λ ts. AreTrials gave 0 (take first tests ++ take (taken + 1) part_tests) ts) (sym all)
+          (trials_both gave 0 first (take first tests) (take (taken + 1) part_tests) xs (take (taken + 1) ys) (omega arith) are
+          (trials_take gave first (taken + 1) part_tests ys part));
+      between = r.between;
+      put = put_both Takes old mid r.between 0 first xs (take taken ys) (omega arith) put r.put;
+      refused = (why, refl, subst (λ n. Keeps r.between n r.other why new) (sym place) r.kept);
+    })
+
+-- the last of a list was taken off, and is this one
+pub last_taken : {A : Type 0} (rest front : List A) (last : Option A) (z o : A) → last ≡ Some z → rest ++ option_to_list last ≡ front ++ o ∷ []
+    → (rest ≡ front) × (last ≡ Some o)
+last_taken rest front last z o is all =
+    let same = same_from_push rest front z o (ap (λ l. rest ++ option_to_list l) (sym is) ∙ all) in (same.0, is ∙ ap Some same.1)
+
+-- the trials before a refused one, and it
+pub front_of : (first taken : ℕ) (xs ys : List Trial) (other : Trial) → length xs ≡ first → slice_get ys taken ≡ Some other
+    → take (first + taken + 1) (xs ++ ys) ≡ (xs ++ take taken ys) ++ other ∷ []
+front_of first taken xs ys other long at =
+    let more : first + taken + 1 ≡ length xs + (taken + 1) = omega arith in
+    ap (λ n. take n (xs ++ ys)) more ∙ take-append-add xs ys (taken + 1)
+    ∙ ap (λ l. xs ++ l) (take_more ys taken other (slice_get_within ys taken other at)
+    ∙ ap (λ t. take taken ys ++ t ∷ []) (get_or_from_slice_get ys taken other other at))
+    ∙ sym (append_assoc xs (take taken ys) (other ∷ []))

@@ -3,7 +3,7 @@ use Rattle.std.specs.Prelude.{◌≡◌, ℕ, List}
 use Rattle.tt_outside.specs.Gave.{Gave, IsSteady}
 use Rattle.tt_outside.specs.declared.test_data.Test.{Test}
 use Rattle.lit_test.specs.declared.trial.Trial.{Trial}
-use Rattle.lit_pool.specs.Pool.{AreTrials}
+use Rattle.lit_round.specs.Trials.{AreTrials}
 
 -- Law: a steady crew gives tests one list of trials at most.
 abbrev pub IsOneRun : Gave → Type 0

@@ -1,16 +1,14 @@
 -- The trials of a run, and how a run stops.
 -- Own rules: a test's number is its place among those that are run; trials are put on a desk in that order; a stopped run returns
 -- what was put, and the trial that the desk refused.
-use Rattle.std.specs.Prelude.{◌≡◌, ℕ, ◌+◌, ◌≤◌, Bool, List, [], ◌∷◌, ◌++◌, length, Option, None, Some}
-use Rattle.std.specs.List.{list_any, range_with_len, sum_by}
+use Rattle.std.specs.Prelude.{◌≡◌, ℕ, ◌+◌, ◌≤◌, List, ◌++◌, length, slice_get, take, Option, None, Some}
+use Rattle.std.specs.List.{range_with_len}
 use Rattle.std.specs.Option.{option_to_list}
 use Rattle.tt_outside.specs.Gave.{Gave}
 use Rattle.tt_outside.specs.declared.test_data.Test.{Test}
 use Rattle.test_course.specs.Bytes.{kept_behind}
-use Rattle.test_course.specs.Entries.{AreGiven}
-use Rattle.test_course.specs.Played.{any_broken}
-use Rattle.lit_test.specs.Trial.{IsTrial}
 use Rattle.lit_test.specs.declared.trial.Trial.{Trial}
+use Rattle.lit_round.specs.Trials.{AreTrials}
 use Rattle.lit_report.specs.Report.{TestReport}
 use Rattle.lit_desk.specs.Desk.{Kept, PutFrom}
 use Rattle.lit_desk.specs.declared.stop.DeskStop.{DeskStop}
@@ -29,29 +27,6 @@ told_of trial = record { name = trial.test.name; result = trial.result; text = t
 abbrev pub kept_of : Trial → Kept
 kept_of trial = record { kept = kept_behind 0 trial.entries; told = told_of trial }
 
--- a trial is that of a test under a number, from replies that were given
-pub record IsTrialOf (gave : Gave) (place : ℕ) (its : Test) (trial : Trial) : Type 0 where
-  pub number : trial.number ≡ place
-  pub test : trial.test ≡ its
-  pub shows : IsTrial its trial.entries trial.result trial.text
-  pub given : AreGiven gave place [] trial.entries
-
--- one trial for each test, in order; the first test has this number
-abbrev pub AreTrials : Gave → ℕ → List Test → List Trial → Type 0
-AreTrials gave place [] [] = Unit {0}
-AreTrials gave place [] (trial ∷ trials) = ⊥
-AreTrials gave place (test ∷ tests) [] = ⊥
-AreTrials gave place (test ∷ tests) (trial ∷ trials) =
-    IsTrialOf gave place test trial × AreTrials gave (place + 1) tests trials
-
--- how many entries trials have
-abbrev pub sum_entries : List Trial → ℕ
-sum_entries trials = sum_by (λ trial. length trial.entries) trials
-
--- whether one of their replies is a fault of the outside
-abbrev pub any_fault : List Trial → Bool
-any_fault trials = list_any (λ trial. any_broken trial.entries) trials
-
 -- ---- a stopped run
 
 -- all trials that a stopped run returns: those that were put, and behind them the other one
@@ -69,6 +44,15 @@ abbrev pub Refuses : {D : Type 0} → (D → ℕ → Trial → DeskStop → D �
 Refuses Keeps place why None old new = (why ≡ NoMemory) × (old ≡ new)
 Refuses Keeps place why (Some other) old new =
     (stop : DeskStop) × (why ≡ why_of stop) × Keeps old place other stop new
+
+-- Of trials that were put from a place on a desk took so many, and refused the next.
+pub record RefusesAt {D : Type 0} (Takes : D → ℕ → Trial → D → Type 0) (Keeps : D → ℕ → Trial → DeskStop → D → Type 0) (old : D)
+    (place : ℕ) (trials : List Trial) (taken : ℕ) (why : DeskStop) (new : D) : Type 0 where
+  pub other : Trial
+  pub at : slice_get trials taken ≡ Some other
+  pub between : D
+  pub put : PutFrom Takes old place (take taken trials) between
+  pub kept : Keeps between (place + taken) other why new
 
 -- A run stopped: what it returns are the trials of the first tests, in order. All but the other one were put on the desk, in
 -- order, and then the desk refused that one.

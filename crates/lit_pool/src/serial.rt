@@ -4,7 +4,8 @@ ghost use Rattle.std.specs.List.{range_with_len};
 ghost use Rattle.tt_outside.specs.Faults.{Rose};
 ghost use Rattle.tt_outside.specs.Gave.{SameGave};
 ghost use Rattle.lit_desk.specs.Desk.{PutFrom};
-ghost use Rattle.lit_pool.specs.Pool.{AreTrials, BeginsSome, IsStopped, any_fault, returned, sum_entries};
+ghost use Rattle.lit_round.specs.Trials.{AreTrials, any_fault, sum_entries};
+ghost use Rattle.lit_pool.specs.Pool.{BeginsSome, IsStopped, returned};
 
 use crate::desk::Desk;
 use crate::stop::{PoolStop, PoolWhy, why_of};
@@ -65,7 +66,7 @@ pub fn run_serial<R: Runner, D: Desk>(
 }
 
 /// A stop with the trials that were put.
-fn stop(why: PoolWhy, trials: Vec<Trial>, other: Option<Trial>) -> PoolStop
+pub(crate) fn stop(why: PoolWhy, trials: Vec<Trial>, other: Option<Trial>) -> PoolStop
     ensures { result ≡ record { why = why; trials = trials.items; other = other } }
 {
     PoolStop {

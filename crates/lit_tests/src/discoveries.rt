@@ -1,9 +1,8 @@
 //! Which files are tests, and what refuses a discovery.
 use crate::trees::{refusal, tree_of};
-use lit_find::discover;
+use lit_find::{Discovery, discover};
 use std::alloc::Global;
 use tt_base::{Bytes, Items, NoMemory};
-use tt_outside::Test;
 
 /// The words of a line.
 fn words_of(alloc: Global, line: &str) -> Result<Items<Bytes>, NoMemory> {
@@ -14,16 +13,28 @@ fn words_of(alloc: Global, line: &str) -> Result<Items<Bytes>, NoMemory> {
     Ok(words)
 }
 
-/// The names of tests, each but the first behind a comma.
-fn names_of(alloc: Global, tests: &[Test]) -> Result<Bytes, NoMemory> {
+/// Texts, each but the first behind a comma.
+fn told(alloc: Global, names: &[Bytes]) -> Result<Bytes, NoMemory> {
     let mut text = Bytes::new(alloc);
-    for test in tests {
+    for name in names {
         if !text.is_empty() {
             text.append(b", ".as_slice())?;
         }
-        text.append(test.name.as_slice())?;
+        text.append(name.as_slice())?;
     }
     Ok(text)
+}
+
+/// Whether the tests of a discovery have the names that it tells.
+fn are_named(alloc: Global, found: Discovery, names: &[Bytes]) -> Result<bool, NoMemory> {
+    let count = found.len();
+    let tests = found.into_tests(alloc)?;
+    let mut named = tests.as_slice().iter().zip(names);
+    Ok(
+        count == names.len()
+            && count == tests.len()
+            && named.all(|(test, name)| test.name.as_slice() == name.as_slice()),
+    )
 }
 
 /// The names of the tests that the words of a line find in a tree, or the refusal. These calls of the tree fail.
@@ -31,7 +42,15 @@ fn found(alloc: Global, files: &str, fails: &[u64], line: &str) -> Result<Bytes,
     let mut tree = tree_of(alloc, files, fails)?;
     let words = words_of(alloc, line)?;
     match discover(alloc, &mut tree, words.as_slice()) {
-        Ok(tests) => names_of(alloc, tests.as_slice()),
+        Ok(found) => {
+            let names = found.names(alloc)?;
+            let text = told(alloc, names.as_slice())?;
+            if are_named(alloc, found, names.as_slice())? {
+                Ok(text)
+            } else {
+                Bytes::from_slice(alloc, b"other names".as_slice())
+            }
+        }
         Err(fault) => refusal(alloc, &fault),
     }
 }

@@ -46,10 +46,10 @@ pub showed : (status : ℕ) (words : List (List ℕ)) (wanted : Wanted) (c : Cal
 showed status words wanted c end is show same nobody (inl lack) = lacks status words c end same nobody lack
 showed status words wanted c end is show same nobody (inr (outcome, from, tells)) =
     let at = sym (status_is status end same) in
-    let ends : ShowsOrRuns true wanted.detail outcome c.around end =
+    let ends : ShowsOrRuns true wanted.detail wanted.workers outcome c.around end =
     (nothing_ran status c.around end same nobody, subst (λ n. TellsNames outcome n c.around.out c.around.err) at tells) in
     inr (subst (λ asked. AskedEnds asked c.searched c.around end) (sym is)
-    (outcome, from, subst (λ b. ShowsOrRuns b wanted.detail outcome c.around end) (sym show) ends))
+    (outcome, from, subst (λ b. ShowsOrRuns b wanted.detail wanted.workers outcome c.around end) (sym show) ends))
 
 -- tests are run
 pub ran : (words : List (List ℕ)) (wanted : Wanted) (c : Call) (end : LitEnd) → asked_by words ≡ Ok wanted
@@ -57,7 +57,7 @@ pub ran : (words : List (List ℕ)) (wanted : Wanted) (c : Call) (end : LitEnd) 
 ran words wanted c end is show (inl lack) = inl lack
 ran words wanted c end is show (inr (outcome, from, runs)) =
     inr (subst (λ asked. AskedEnds asked c.searched c.around end) (sym is)
-    (outcome, from, subst (λ b. ShowsOrRuns b wanted.detail outcome c.around end) (sym show) runs))
+    (outcome, from, subst (λ b. ShowsOrRuns b wanted.detail wanted.workers outcome c.around end) (sym show) runs))
 
 -- why no test is run
 pub refused_run : (status : ℕ) (wanted : Wanted) (stop : Stop) (c : Call) (end : LitEnd) → end ≡ untried status

@@ -83,11 +83,11 @@ names_three (Err stop) status out err (rests, told) is =
       | inr rose ↦ inr (inr rose)
     ]
 
-ends_three : (show : Bool) (detail : Detail) (outcome : Result (List Test) Stop) (a : Around) (end : LitEnd)
-    → ShowsOrRuns show detail outcome a end → end.status ≡ 3 → IsFault outcome ⊎ StreamFailed a.out a.err
-ends_three true detail outcome a end (nothing, tells) is = names_three outcome end.status a.out a.err tells is
-ends_three false detail (Ok tests) a end runs is = inr (run_fault detail tests a end runs is)
-ends_three false detail (Err stop) a end (nothing, rests, told) is =
+ends_three : (show : Bool) (detail : Detail) (workers : ℕ) (outcome : Result (List Test) Stop) (a : Around) (end : LitEnd)
+    → ShowsOrRuns show detail workers outcome a end → end.status ≡ 3 → IsFault outcome ⊎ StreamFailed a.out a.err
+ends_three true detail workers outcome a end (nothing, tells) is = names_three outcome end.status a.out a.err tells is
+ends_three false detail workers (Ok tests) a end runs is = inr (run_fault detail workers tests a end runs is)
+ends_three false detail workers (Err stop) a end (nothing, rests, told) is =
     elim (told_three stop end.status a.err told is) [
       | inl fault ↦ inl fault
       | inr rose ↦ inr (inr rose)
@@ -96,7 +96,7 @@ ends_three false detail (Err stop) a end (nothing, rests, told) is =
 asked_three : (asked : Result Wanted WordsFault) (t : TreeRun) (a : Around) (end : LitEnd) → AskedEnds asked t a end
     → end.status ≡ 3 → Failed t ⊎ StreamFailed a.out a.err
 asked_three (Ok wanted) t a end (outcome, from, ends) is =
-    elim (ends_three wanted.show wanted.detail outcome a end ends is) [
+    elim (ends_three wanted.show wanted.detail wanted.workers outcome a end ends is) [
       | inl fault ↦ inl (fault_of_tests t wanted outcome from fault)
       | inr failed ↦ inr failed
     ]

@@ -5,7 +5,7 @@ use Rattle.std.proofs.lemmas.List.Folds.{flat_map-map}
 use Rattle.ere_tree.specs.View.{view}
 use Rattle.ere_tree.specs.declared.ere.Ere.{Ere}
 use Rattle.lit_dirs.specs.declared.fault.DiscoverFault.TheVariants.{TreeFault, NoMemory}
-use Rattle.lit_find.specs.Found.{DiscoversNames}
+use Rattle.lit_find.specs.Found.{Discovers}
 use Rattle.lit_select.specs.Selection.{selected}
 use Rattle.lit_words.specs.Asked.{Wanted, wanted}
 use Rattle.lit_words.specs.declared.asked.Asked.{Asked}
@@ -100,15 +100,15 @@ all_selected : (select drop : Option Ere) (tests : List Test) → select ≡ Non
     → tests ≡ selected (option_map view select) (option_map view drop) tests
 all_selected select drop tests no_select no_drop = rw (no_select, no_drop)
 
--- then the names found are those of all tests
-pub all_named : {E : Type 0} (t : TreeRun) (asked : Asked) (names : List (List ℕ))
+-- then the names of those found are those of all tests
+pub all_named : {E : Type 0} (t : TreeRun) (asked : Asked) (tests : List Test) (names : List (List ℕ))
     (result : Result (Result (List (List ℕ)) Stop) E) → asked.select ≡ None → asked.drop ≡ None
-    → DiscoversNames t.nodes t.base asked.paths (Ok names) → TreeRests t
+    → Discovers t.nodes t.base asked.paths (Ok tests) → TreeRests t → names ≡ names_of tests
     → IfOk result (λ kept. kept ≡ unless_none asked.shard names) → IfOk result (NamesFrom t (wanted asked))
-all_named t asked names (Err fault) no_select no_drop found rests is = tt
-all_named t asked names (Ok kept) no_select no_drop (tests, discovers, same) rests is = (
+all_named t asked tests names (Err fault) no_select no_drop found rests same is = tt
+all_named t asked tests names (Ok kept) no_select no_drop found rests same is = (
   Ok tests,
-  (discovers, λ bad. absurd (no_err tests TreeFault bad), λ _. rests, no_err tests NoMemory),
+  (found, λ bad. absurd (no_err tests TreeFault bad), λ _. rests, no_err tests NoMemory),
   is ∙ ap (unless_none asked.shard) same ∙ names_kept asked.shard tests
       ∙ ap (λ all. names_in (unless_none asked.shard all))
       (all_selected asked.select asked.drop tests no_select no_drop),

@@ -1,19 +1,13 @@
--- How many tests are kept, and that there aren't too many of a tree that tells.
-use Rattle.std.proofs.Common.{◌≡◌, ℕ, ◌+◌, ◌<◌, ◌≤◌, Bool, true, false, if◌then◌else◌, List, [], ◌∷◌, length, Option, Some, None, IfOk, Result, Ok, Err, arith, refl, subst, sym}
+-- How many tests are kept.
+use Rattle.std.proofs.Common.{◌≡◌, ℕ, ◌+◌, ◌≤◌, Bool, true, false, if◌then◌else◌, List, [], ◌∷◌, length, Option, Some, None, IfOk, Result, Ok, Err, arith, subst, sym}
 use Rattle.std.specs.List.{filter}
 use Rattle.ere_tree.specs.Tree.{Tree}
-use Rattle.lit_dirs.specs.declared.fault.DiscoverFault.{DiscoverFault}
-use Rattle.lit_dirs.specs.declared.fault.DiscoverFault.TheVariants.{NoMemory, TooMany, TreeFault}
-use Rattle.lit_find.specs.Found.{Discovers}
 use Rattle.lit_select.specs.Selection.{chooses, chosen_by, selected}
 use Rattle.lit_words.specs.Asked.{Wanted}
 use Rattle.lit_words.specs.declared.number.Shard.{Shard}
 use Rattle.tt_outside.specs.declared.test_data.Test.{Test}
-use Rattle.tt_outside.specs.declared.tree.Node.{Node}
 use Rattle.lit_tool.specs.Kept.{has_place, kept_of, shard_from, unless_none}
-use Rattle.lit_tool.specs.Run.{TestsFrom, TreeRests, TreeRun}
 use Rattle.lit_tool.specs.declared.stop.Stop.{Stop}
-use Rattle.lit_tool.specs.declared.stop.Stop.TheVariants.{Discovery}
 
 longer : {A : Type 0} (b : Bool) (x : A) (xs ys : List A) → length xs ≤ length ys
     → length (if b then x ∷ xs else xs) ≤ length (x ∷ ys)
@@ -54,29 +48,3 @@ kept_few wanted tests n (Ok kept) few is =
     subst (λ (k : Result (List Test) Stop). IfOk k (λ some. length some ≤ n)) (sym is)
     (unless_few wanted.shard (selected wanted.select wanted.drop tests) n
     (let shorter = selected_few wanted.select wanted.drop tests in omega (arith, shorter, few)))
-
--- ---- too many tests, which are of a tree that doesn't tell
-
-too_many : (nodes : Option (List Node)) (base : List ℕ) (words : List (List ℕ)) (tests : List Test)
-    → Discovers nodes base words (Ok tests) → 100000 < length tests → Discovers nodes base words (Err TooMany)
-too_many None base words tests found many = tt
-too_many (Some nodes) base words tests found many = absurd (let few = found.3 in omega (arith, few, many))
-
-no_other : (found : Result (List Test) DiscoverFault) → found ≡ Err TooMany → found ≡ Err TreeFault → ⊥
-no_other found is other = cc
-
-no_memory : (found : Result (List Test) DiscoverFault) → found ≡ Err TooMany → found ≡ Err NoMemory → ⊥
-no_memory found is other = cc
-
-pub too_many_from : (t : TreeRun) (wanted : Wanted) (tests : List Test) → Discovers t.nodes t.base wanted.paths (Ok tests)
-    → TreeRests t → 100000 < length tests → TestsFrom t wanted (Err (Discovery TooMany))
-too_many_from t wanted tests found rests many = (
-  Err TooMany,
-  (
-    too_many t.nodes t.base wanted.paths tests found many,
-    λ bad. absurd (no_other (Err TooMany) refl bad),
-    λ _. rests,
-    no_memory (Err TooMany) refl,
-  ),
-  refl,
-)

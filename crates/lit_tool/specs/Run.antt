@@ -90,19 +90,19 @@ abbrev pub Refuses : Stop → Around → LitEnd → Type 0
 Refuses stop a end = NothingRan a end × Rests a.out × TellsStop stop end.status a.err
 
 -- tests are run, or why there are none is told
-abbrev pub RunsTests : Detail → Result (List Test) Stop → Around → LitEnd → Type 0
-RunsTests detail (Ok tests) a end = RunEnds detail tests a end
-RunsTests detail (Err stop) a end = Refuses stop a end
+abbrev pub RunsTests : Detail → ℕ → Result (List Test) Stop → Around → LitEnd → Type 0
+RunsTests detail workers (Ok tests) a end = RunEnds detail workers tests a end
+RunsTests detail workers (Err stop) a end = Refuses stop a end
 
 -- their names are shown where that is asked, and else they are run
-abbrev pub ShowsOrRuns : Bool → Detail → Result (List Test) Stop → Around → LitEnd → Type 0
-ShowsOrRuns true detail outcome a end = NothingRan a end × TellsNames outcome end.status a.out a.err
-ShowsOrRuns false detail outcome a end = RunsTests detail outcome a end
+abbrev pub ShowsOrRuns : Bool → Detail → ℕ → Result (List Test) Stop → Around → LitEnd → Type 0
+ShowsOrRuns true detail workers outcome a end = NothingRan a end × TellsNames outcome end.status a.out a.err
+ShowsOrRuns false detail workers outcome a end = RunsTests detail workers outcome a end
 
 -- what the words ask for is done, or they are refused and the tree is left alone
 abbrev pub AskedEnds : Result Wanted WordsFault → TreeRun → Around → LitEnd → Type 0
 AskedEnds (Ok wanted) t a end =
-    (outcome : Result (List Test) Stop) × TestsFrom t wanted outcome × ShowsOrRuns wanted.show wanted.detail outcome a end
+    (outcome : Result (List Test) Stop) × TestsFrom t wanted outcome × ShowsOrRuns wanted.show wanted.detail wanted.workers outcome a end
 AskedEnds (Err fault) t a end = TreeRests t × Refuses (Words fault) a end
 
 -- how a call ends, by the texts of its words: memory is wanting before a byte, or what they ask for is done
@@ -123,4 +123,4 @@ ShowsFrom t wanted status out err =
 abbrev pub RunsFrom : Wanted → Call → LitEnd → Type 0
 RunsFrom wanted c end =
     (NothingRan c.around end × LacksMemory end.status c.around.out c.around.err)
-    ⊎ ((outcome : Result (List Test) Stop) × TestsFrom c.searched wanted outcome × RunsTests wanted.detail outcome c.around end)
+    ⊎ ((outcome : Result (List Test) Stop) × TestsFrom c.searched wanted outcome × RunsTests wanted.detail wanted.workers outcome c.around end)

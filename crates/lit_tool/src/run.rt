@@ -22,9 +22,9 @@ use tt_outside::{Crew, Sink, Tree};
 /// Runs lit on words, which are without the program's name. With `--show-tests` the names of the tests are shown, with status 0.
 /// Else the tests are run and reported: 0 where none failed, and 1 where one did. The status is 2 where the words are refused, the
 /// tests can't be found, none is selected or they keep too many bytes; 3 at a fault of what was handed in, and 4 for want of memory.
-/// One hand runs the tests, however many workers are asked for. It waits for programs.
+/// As many hands run the tests as workers are asked for. It waits for programs.
 pub fn lit_run<R: Threads + Wait + Sync, T: Tree, C: Crew, O: Sink, E: Sink>(
-    _rt: &R,
+    rt: &R,
     alloc: Global,
     words: &[String],
     from: &mut T,
@@ -46,11 +46,12 @@ pub fn lit_run<R: Threads + Wait + Sync, T: Tree, C: Crew, O: Sink, E: Sink>(
     ensures gave { SameGave (C.gave crew.new) (C.gave crew.old) }
     ensures ready { C.ready crew.new }
 {
-    lit_on(alloc, words, from, crew, out, err)
+    lit_on(rt, alloc, words, from, crew, out, err)
 }
 
-/// The same, where nobody asks for a runtime.
-fn lit_on<T: Tree, C: Crew, O: Sink, E: Sink>(
+/// The same, of which a fault's cause is told above.
+fn lit_on<R: Threads + Wait + Sync, T: Tree, C: Crew, O: Sink, E: Sink>(
+    rt: &R,
     alloc: Global,
     words: &[String],
     from: &mut T,
@@ -77,7 +78,7 @@ fn lit_on<T: Tree, C: Crew, O: Sink, E: Sink>(
     if asked.show {
         return LitEnd::untried(alloc, show(alloc, &asked, from, out, err));
     }
-    run(alloc, &asked, from, crew, out, err)
+    run(rt, alloc, &asked, from, crew, out, err)
 }
 
 /// Shows the names of the tests, and answers the status.
@@ -103,7 +104,8 @@ fn show<T: Tree, O: Sink, E: Sink>(
 }
 
 /// Runs the tests, and reports.
-fn run<T: Tree, C: Crew, O: Sink, E: Sink>(
+fn run<R: Threads + Wait + Sync, T: Tree, C: Crew, O: Sink, E: Sink>(
+    rt: &R,
     alloc: Global,
     asked: &Asked,
     from: &mut T,
@@ -111,6 +113,7 @@ fn run<T: Tree, C: Crew, O: Sink, E: Sink>(
     out: &mut O,
     err: &mut E,
 ) -> LitEnd
+    requires workers { (1 ≤ asked.now.workers) × (asked.now.workers ≤ 64) }
     requires shard { IfSome asked.now.shard IsShard }
     requires ready { C.ready crew.old }
     ensures runs { RunsFrom (wanted asked.now) (call T.nodes T.root T.steady T.faults C.gave C.hands O.held O.faults O.room
@@ -122,7 +125,7 @@ fn run<T: Tree, C: Crew, O: Sink, E: Sink>(
     ensures ready { C.ready crew.new }
 {
     match tests_from(alloc, asked, from) {
-        Ok(Ok(tests)) => run_and_report(alloc, asked.detail, &tests, crew, out, err),
+        Ok(Ok(tests)) => run_and_report(rt, alloc, asked, &tests, crew, out, err),
         Ok(Err(stop)) => LitEnd::untried(alloc, refuse(alloc, &stop, err)),
         Err(NoMemory) => LitEnd::untried(alloc, tell_memory(err)),
     }

@@ -7,17 +7,13 @@ ghost use Rattle.lit_tool.specs.Run.{NamesFrom, TestsFrom, tree};
 use crate::kept::{kept_of, names_in, unless_none};
 use crate::stop::Stop;
 use lit_dirs::DiscoverFault;
-use lit_find::{discover, discover_names};
+use lit_find::discover;
 use lit_words::Asked;
 use std::alloc::Global;
 use tt_base::{Bytes, Items, NoMemory};
 use tt_outside::{Test, Tree};
 
-/// How many tests a run has at most.
-const MAX_TESTS: usize = 100_000;
-
-/// The tests that are run, or why there are none. Discovery says how many there are at most of a tree that tells what stands in
-/// it; here it is looked at for each.
+/// The tests that are run, or why there are none.
 pub(crate) fn tests_from<T: Tree>(
     alloc: Global,
     asked: &Asked,
@@ -31,12 +27,7 @@ pub(crate) fn tests_from<T: Tree>(
     ensures later { T.faults from.old ≤ T.faults from.new }
 {
     match discover(alloc, from, asked.paths.as_slice()) {
-        Ok(tests) => {
-            if tests.len() > MAX_TESTS {
-                return Ok(Err(Stop::Discovery(DiscoverFault::TooMany)));
-            }
-            kept_of(alloc, asked, tests)
-        }
+        Ok(found) => kept_of(alloc, asked, found.into_tests(alloc)?),
         Err(DiscoverFault::NoMemory) => Err(NoMemory),
         Err(fault) => Ok(Err(Stop::Discovery(fault))),
     }
@@ -74,8 +65,8 @@ fn all_from<T: Tree>(
     ensures root { T.root from.new ≡ T.root from.old }
     ensures later { T.faults from.old ≤ T.faults from.new }
 {
-    match discover_names(alloc, from, asked.paths.as_slice()) {
-        Ok(names) => unless_none(alloc, asked.shard, names),
+    match discover(alloc, from, asked.paths.as_slice()) {
+        Ok(found) => unless_none(alloc, asked.shard, found.names(alloc)?),
         Err(DiscoverFault::NoMemory) => Err(NoMemory),
         Err(fault) => Ok(Err(Stop::Discovery(fault))),
     }

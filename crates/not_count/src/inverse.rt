@@ -56,6 +56,7 @@ pub fn not_run<C: Crew, I: Source, O: Sink, E: Sink>(
     ensures memory { result ≡ 4 → AtMostOneHand (C.hands crew.old) (C.hands crew.new)
         × (O.held out.new ≡ O.held out.old) × Told not_out_of_memory (stream E.held E.faults E.room err.old err.new) }
     ensures taken { TakesAtMost (I.left input.old) (I.left input.new) (2 ^ 26 + 1) }
+    ensures seats { C.seats crew.new ≡ C.seats crew.old }
     ensures gave { SameGave (C.gave crew.new) (C.gave crew.old) }
     ensures ready { C.ready crew.new }
     ensures no_other { result ≤ 4 }
@@ -83,6 +84,7 @@ fn outcome_from<C: Crew, I: Source>(
         (λ fault. AtMostOneHand (C.hands crew.old) (C.hands crew.new)) }
     ensures told { IfOk result (IsToldInverse (length words.now)) }
     ensures taken { TakesAtMost (I.left input.old) (I.left input.new) (2 ^ 26 + 1) }
+    ensures seats { C.seats crew.new ≡ C.seats crew.old }
     ensures gave { SameGave (C.gave crew.new) (C.gave crew.old) }
     ensures ready { C.ready crew.new }
 {
@@ -111,6 +113,7 @@ fn replied<C: Crew>(
     ensures hands { MatchResult result (HandsOf (C.hands crew.old) (C.hands crew.new))
         (λ fault. AtMostOneHand (C.hands crew.old) (C.hands crew.new)) }
     ensures told { IfOk result (IsToldInverse (length words.now)) }
+    ensures seats { C.seats crew.new ≡ C.seats crew.old }
     ensures gave { SameGave (C.gave crew.new) (C.gave crew.old) }
     ensures ready { C.ready crew.new }
 {
@@ -132,6 +135,7 @@ fn ask_once<C: Crew>(alloc: Global, crew: &mut C, request: &Request) -> Result<R
     ensures fit { IfOk result (λ reply. fits request.now reply ≡ true) }
     ensures hands { MatchResult result (AskedOnce (C.hands crew.old) (C.hands crew.new))
         (λ fault. AtMostOneHand (C.hands crew.old) (C.hands crew.new)) }
+    ensures seats { C.seats crew.new ≡ C.seats crew.old }
     ensures gave { SameGave (C.gave crew.new) (C.gave crew.old) }
     ensures ready { C.ready crew.new }
 {

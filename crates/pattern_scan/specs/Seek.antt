@@ -97,6 +97,12 @@ IsShown expressed text from (faulty fault) shown = Unit {0}
 IsShown expressed text from (made t gifts) shown =
     expressed ≡ true → has_refs t ≡ false → ShownForHit (length text - from) from (hit_in text t from) shown
 
+-- the same of the pattern of a directive of a line, with variables
+abbrev pub IsShownFor : Pattern → FinMap name_cmp Held → ℕ → List ℕ → ℕ → ℕ → Type 0
+IsShownFor pattern vars line text from shown =
+    IsShown (is_expressed (items_view pattern.pieces)) text from
+    (instance_of (known_of vars line pattern.fold) pattern.frame (items_view pattern.pieces)) shown
+
 -- a pattern is one piece of plain text, as it stands
 pub record IsPlain (pattern : Pattern) (text : List ℕ) : Type 0 where
   pub fold : pattern.fold ≡ false

@@ -9,5 +9,5 @@ mod sought;
 mod stored;
 
 pub use ready::{Ready, prepare};
-pub use seeking::{plain_text, seek};
+pub use seeking::{Context, plain_text, seek};
 pub use sought::Sought;

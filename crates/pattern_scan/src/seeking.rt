@@ -1,12 +1,10 @@
 //! Seeking a pattern.
 ghost use Rattle.std.specs.Prelude.{◌≡◌, ◌≤◌, ◌+◌, ◌-◌, [], ℕ, false, IfOk, IfSome, List, length};
 ghost use Rattle.ere_tree.specs.Hit.{FindsHit};
-ghost use Rattle.pattern_instance.specs.Instance.{instance_of};
-ghost use Rattle.pattern_instance.specs.Known.{known_of};
 ghost use Rattle.pattern_parse.specs.PieceView.{items_view};
 ghost use Rattle.pattern_parse.specs.Search.{IsSearchable};
 ghost use Rattle.pattern_vars.specs.Vars.{HavePlaces};
-ghost use Rattle.pattern_scan.specs.Seek.{ArePlaced, IsPlain, IsShown, IsWithin, answer_of, is_expressed, names_of, sought};
+ghost use Rattle.pattern_scan.specs.Seek.{ArePlaced, IsPlain, IsShownFor, IsWithin, answer_of, names_of, sought};
 
 use crate::ready::prepare;
 use crate::sought::Sought;
@@ -19,6 +17,14 @@ use pattern_vars::Vars;
 use std::alloc::Global;
 use std::sync::ledger::Ledger;
 use tt_base::{Items, NoMemory, Span};
+
+/// What a search sees: a text, and the variables that patterns use.
+#[derive(Drop)]
+pub struct Context<'a> {
+    pub alloc: Global,
+    pub text: &'a [u8],
+    pub vars: &'a Vars,
+}
 
 /// The bytes that a pattern stands for where it is one piece of plain text.
 pub fn plain_text(pattern: &Pattern) -> Option<&[u8]>
@@ -50,54 +56,50 @@ fn plain_answer(alloc: Global, hit: Option<Hit>) -> Sought
 /// shouldn't pay for it.
 #[inline(never)]
 fn seek_once<L: Ledger>(
-    alloc: Global,
+    context: &Context<'_>,
     pattern: &Pattern,
-    vars: &Vars,
-    text: &[u8],
-    from: usize,
     line: u32,
+    from: usize,
     steps: &mut Steps<L>,
 ) -> Result<Sought, NoMemory>
-    requires inside { from ≤ length text.now }
+    requires inside { from ≤ length context.now.text.now }
     requires searchable { IsSearchable (items_view pattern.now.pieces) }
-    ensures value { IfOk result (λ answer. answer ≡ sought pattern.now vars.now text.now from line) }
-    ensures least { IfOk result (λ answer. IsShown (is_expressed (items_view pattern.now.pieces)) text.now from
-        (instance_of (known_of vars.now line pattern.now.fold) pattern.now.frame (items_view pattern.now.pieces))
-        (steps.new - steps.old)) }
-    ensures most { steps.new ≤ steps.old + (length text.now - from) + 1 }
+    ensures value { IfOk result (λ answer. answer ≡ sought pattern.now context.now.vars.now context.now.text.now from line) }
+    ensures least { IfOk result (λ answer.
+        IsShownFor pattern.now context.now.vars.now line context.now.text.now from (steps.new - steps.old)) }
+    ensures most { steps.new ≤ steps.old + (length context.now.text.now - from) + 1 }
     ensures counted { steps.old ≤ steps.new }
 {
-    let mut ready = prepare(alloc, pattern, vars, line)?;
-    ready.seek(alloc, text, from, steps)
+    let mut ready = prepare(context.alloc, pattern, context.vars, line)?;
+    ready.seek(context.alloc, context.text, from, steps)
 }
 
 /// Seeks a pattern of a directive of this line, in the slice from `from` to the text's end. No variable changes. Whoever
 /// seeks one pattern in many slices with the same variables keeps a `Ready`.
 pub fn seek<L: Ledger>(
-    alloc: Global,
+    context: &Context<'_>,
     pattern: &Pattern,
-    vars: &Vars,
-    text: &[u8],
-    from: usize,
     line: u32,
+    from: usize,
     steps: &mut Steps<L>,
 ) -> Result<Sought, NoMemory>
-    requires inside { from ≤ length text.now }
+    requires inside { from ≤ length context.now.text.now }
     requires searchable { IsSearchable (items_view pattern.now.pieces) }
-    ensures value { IfOk result (λ answer. answer ≡ sought pattern.now vars.now text.now from line) }
-    ensures within { IfOk result (IsWithin from (length text.now)) }
-    ensures named { HavePlaces vars.now (names_of pattern.now) → IfOk result (ArePlaced vars.now) }
-    ensures least { IfOk result (λ answer. IsShown (is_expressed (items_view pattern.now.pieces)) text.now from
-        (instance_of (known_of vars.now line pattern.now.fold) pattern.now.frame (items_view pattern.now.pieces))
-        (steps.new - steps.old)) }
-    ensures most { steps.new ≤ steps.old + (length text.now - from) + 1 }
+    ensures value { IfOk result (λ answer. answer ≡ sought pattern.now context.now.vars.now context.now.text.now from line) }
+    ensures within { IfOk result (IsWithin from (length context.now.text.now)) }
+    ensures named { HavePlaces context.now.vars.now (names_of pattern.now) → IfOk result (ArePlaced context.now.vars.now) }
+    ensures least { IfOk result (λ answer.
+        IsShownFor pattern.now context.now.vars.now line context.now.text.now from (steps.new - steps.old)) }
+    ensures most { steps.new ≤ steps.old + (length context.now.text.now - from) + 1 }
     ensures counted { steps.old ≤ steps.new }
 {
+    let alloc = context.alloc;
+    let text = context.text;
     if let Some(needle) = plain_text(pattern) {
         return Ok(plain_answer(alloc, find_text(alloc, needle, text, from)));
     }
-    if let Some(needle) = stored_text(alloc, pattern, vars, line)? {
+    if let Some(needle) = stored_text(alloc, pattern, context.vars, line)? {
         return Ok(plain_answer(alloc, find_text(alloc, needle.as_slice(), text, from)));
     }
-    seek_once(alloc, pattern, vars, text, from, line, steps)
+    seek_once(context, pattern, line, from, steps)
 }

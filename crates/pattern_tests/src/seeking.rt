@@ -5,7 +5,7 @@ ghost use Rattle.pattern_parse.specs.Search.{IsSearchable};
 
 use ere_auto::Steps;
 use pattern_parse::{Formats, Frame, Kind, Pattern, parse_pattern};
-use pattern_scan::{Sought, seek};
+use pattern_scan::{Context, Sought, seek};
 use pattern_vars::{Binding, Bindings, Vars};
 use std::alloc::Global;
 use std::marker::Brand;
@@ -75,7 +75,12 @@ fn sought_by<L: Ledger>(
 {
     let vars = variables(alloc)?;
     let mut steps = Steps::<L>::new(blank);
-    seek(alloc, pattern, &vars, text, 0, 7, &mut steps)
+    let context = Context {
+        alloc,
+        text,
+        vars: &vars,
+    };
+    seek(&context, pattern, 7, 0, &mut steps)
 }
 
 /// Adds a text and a number.

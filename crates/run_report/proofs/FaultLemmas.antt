@@ -1,5 +1,5 @@
 -- Status 3 comes of a stream's fault that was counted. By cases on where a run stopped.
-use Rattle.std.proofs.Common.{◌≡◌, ◌⊎◌, ℕ, Bool, true, false, if◌then◌else◌, List, length, map, Option, ap, inl, inr}
+use Rattle.std.proofs.Common.{◌≡◌, ◌⊎◌, ℕ, Bool, true, false, if◌then◌else◌, List, length, map, Option, inl, inr}
 use Rattle.std.specs.List.{list_any}
 use Rattle.tt_outside.specs.Faults.{Rose}
 use Rattle.tt_outside.specs.declared.test_data.Test.{Test}
@@ -12,7 +12,7 @@ use Rattle.lit_report.specs.Report.{TestReport, header, running}
 use Rattle.lit_pool.specs.Pool.{told_of}
 use Rattle.lit_pool.specs.declared.stop.PoolWhy.{PoolWhy}
 use Rattle.lit_pool.specs.declared.stop.PoolWhy.TheVariants.{SinkFault, TooMuch, NoMemory}
-use Rattle.run_report.specs.Run.{Around, EndWrites, HeaderFails, RunEnds, StopTells, StopWrites, untried}
+use Rattle.run_report.specs.Run.{Around, EndWrites, HeaderFails, RunEnds, StopTells, StopWrites}
 use Rattle.run_report.specs.declared.ending.LitEnd.{LitEnd}
 
 -- a stream of a run counted a fault
@@ -43,17 +43,13 @@ end_three before text told status out err (inl (same, taken, rests)) is =
 end_three before text told status out err (inr (inl (three, stops, tells))) is = inl stops.rose
 end_three before text told status out err (inr (inr (four, taken, tells))) is = cc
 
-pub untried_status : (status : ℕ) (end : LitEnd) → end ≡ untried status → end.status ≡ status
-untried_status status end same = ap (λ (e : LitEnd). e.status) same
-
-pub run_fault : (detail : Detail) (tests : List Test) (a : Around) (end : LitEnd) → RunEnds detail tests a end
+pub run_fault : (detail : Detail) (workers : ℕ) (tests : List Test) (a : Around) (end : LitEnd) → RunEnds detail workers tests a end
     → end.status ≡ 3 → StreamFailed a.out a.err
-run_fault detail tests a end (inl (same, fails, nobody)) is =
+run_fault detail workers tests a end (inl (same, fails, nobody)) is =
     header_three (header detail (length tests)) a.out a.err end.status fails is
-run_fault detail tests a end (inr (inl (same, taken, told, nobody))) is = (let four = untried_status 4 end same in cc)
-run_fault detail tests a end (inr (inr (inl stops))) is =
+run_fault detail workers tests a end (inr (inl stops)) is =
     stop_three (header detail (length tests)) detail (length tests) stops.stop.trials stops.stop.other stops.stop.why end.status
     a.out a.err stops.stopped.wrote stops.told is
-run_fault detail tests a end (inr (inr (inr all))) is =
+run_fault detail workers tests a end (inr (inr all)) is =
     end_three (running detail (length tests) (map told_of end.trials))
     (end_of detail (length tests) (map told_of end.trials)) (map told_of end.trials) end.status a.out a.err all.wrote is

@@ -3,9 +3,8 @@
 -- desk in it. The hard one is `stopped_at`: by the desk's cause, the other trial's part is there in front.
 use Rattle.std.proofs.Common.{◌≡◌, ℕ, ◌+◌, ◌<◌, ◌≤◌, List, [], ◌∷◌, append-nil, length, map, IfErr, IfOk, Option, None, Some, Result, Ok, Err, refl, sym, ap, subst, ◌∙◌, arith}
 use Rattle.std.specs.Io.KnownBytes.{Appends}
-use Rattle.tt_outside.specs.Gave.{Gave, SameGave}
+use Rattle.tt_outside.specs.Gave.{Gave}
 use Rattle.tt_outside.specs.declared.test_data.Test.{Test}
-use Rattle.test_course.proofs.EntryLemmas.{AreGiven_same}
 use Rattle.tt_run.specs.Run.{Taken}
 use Rattle.lit_words.specs.declared.asked.Detail.{Detail}
 use Rattle.lit_test.specs.declared.trial.Trial.{Trial}
@@ -15,29 +14,12 @@ use Rattle.lit_desk.specs.declared.desk.LitDesk.{LitDesk}
 use Rattle.lit_desk.specs.declared.stop.DeskStop.{DeskStop}
 use Rattle.lit_desk.specs.declared.stop.DeskStop.TheVariants as stops
 use Rattle.lit_desk.proofs.PutLemmas.{parts_are_written, stays}
-use Rattle.lit_pool.specs.Pool.{AreTrials, IsStopped, Refuses, kept_of, returned, told_of, why_of}
+use Rattle.lit_pool.specs.Pool.{IsStopped, Refuses, kept_of, told_of, why_of}
 use Rattle.lit_pool.specs.declared.stop.PoolStop.{PoolStop}
 use Rattle.lit_pool.specs.declared.stop.PoolWhy.{PoolWhy}
 use Rattle.lit_pool.specs.declared.stop.PoolWhy.TheVariants.{SinkFault, TooMuch, NoMemory}
 use Rattle.run_report.specs.Run.{PartsWrite, StopWrites, StopsBehind, StopsTests, kept_by}
 use Rattle.run_report.proofs.PieceLemmas.{Fills, Moment, span, stops_both, stops_first, taken_both}
-
--- ---- trials of one crew and of another that gives the same
-
-pub trials_same : (one two : Gave) → SameGave one two → (place : ℕ) (tests : List Test) (trials : List Trial)
-    → AreTrials one place tests trials → AreTrials two place tests trials
-trials_same one two same place [] [] are = are
-trials_same one two same place [] (trial ∷ trials) are = are
-trials_same one two same place (test ∷ tests) [] are = are
-trials_same one two same place (test ∷ tests) (trial ∷ trials) (first, rest) = (
-  record {
-    number = first.number;
-    test = first.test;
-    shows = first.shows;
-    given = AreGiven_same one two same place [] trial.entries first.given;
-  },
-  trials_same one two same (place + 1) tests trials rest,
-)
 
 -- ---- what was put
 
@@ -198,14 +180,13 @@ write_behind head detail tests trials other TooMuch a b c first (next, is, much,
 write_behind head detail tests trials other NoMemory a b c first taken = taken_both head _ a b c first taken
 
 -- a stop behind the header, with the crew's own replies
-pub stop_behind : (head : List ℕ) (detail : Detail) (tests : List Test) (one two : Gave) (stop : PoolStop) (a b c : Moment)
-    → SameGave one two → Fills head a b → StopsTests [] detail tests one (span b c) stop
-    → StopsTests head detail tests two (span a c) stop
-stop_behind head detail tests one two stop a b c same first stopped = record {
+pub stop_behind : (head : List ℕ) (detail : Detail) (tests : List Test) (gave : Gave) (stop : PoolStop) (a b c : Moment)
+    → Fills head a b → StopsTests [] detail tests gave (span b c) stop → StopsTests head detail tests gave (span a c) stop
+stop_behind head detail tests gave stop a b c first stopped = record {
   done = stopped.done;
   rest = stopped.rest;
   all = stopped.all;
-  trials = trials_same one two same 0 stopped.done (returned stop) stopped.trials;
+  trials = stopped.trials;
   within = stopped.within;
   wrote = write_behind head detail (length tests) stop.trials stop.other stop.why a b c first stopped.wrote;
 }

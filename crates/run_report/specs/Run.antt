@@ -1,8 +1,8 @@
 -- A run of tests with its report, by where it stopped.
 -- After LLVM Command Guide, lit, for the report and its status. Own rules: the header goes before a hand is hired, a fault of the
--- report is told once on the other stream, and the hand is dismissed however the run ends.
-use Rattle.std.specs.Prelude.{◌≡◌, ◌≢◌, ◌⊎◌, ℕ, ◌+◌, ◌<◌, ◌≤◌, true, false, List, [], ◌∷◌, ◌++◌, length, map, Option, None, Some, Result, Ok, Err}
-use Rattle.std.specs.List.{range_with_len, sum_by}
+-- report is told once on the other stream, and hands are dismissed however the run ends.
+use Rattle.std.specs.Prelude.{◌≡◌, ◌≢◌, ◌⊎◌, ℕ, ◌+◌, ◌<◌, ◌≤◌, List, [], ◌++◌, length, map, Option, None, Some, Ok, Err}
+use Rattle.std.specs.List.{sum_by}
 use Rattle.std.specs.Io.KnownBytes.{Appends}
 use Rattle.tt_outside.specs.Faults.{Rose}
 use Rattle.tt_outside.specs.Gave.{Gave}
@@ -14,7 +14,9 @@ use Rattle.lit_test.specs.declared.trial.Trial.{Trial}
 use Rattle.lit_report.specs.Ending.{end_of, status_of}
 use Rattle.lit_report.specs.Report.{header, part_of, parts_from, running}
 use Rattle.lit_desk.specs.Desk.{MAX_KEPT}
-use Rattle.lit_pool.specs.Pool.{AreTrials, BeginsSome, any_fault, kept_of, returned, sum_entries, told_of}
+use Rattle.lit_round.specs.Trials.{AreTrials}
+use Rattle.lit_pool.specs.Crew.{LeavesHands}
+use Rattle.lit_pool.specs.Pool.{kept_of, returned, told_of}
 use Rattle.lit_pool.specs.declared.stop.PoolStop.{PoolStop}
 use Rattle.lit_pool.specs.declared.stop.PoolWhy.{PoolWhy}
 use Rattle.lit_pool.specs.declared.stop.PoolWhy.TheVariants.{SinkFault, TooMuch, NoMemory}
@@ -42,10 +44,6 @@ abbrev pub around : CrewRun → Stream → Stream → Around
 around hired out err = record { hired = hired; out = out; err = err }
 
 -- ---- what it leaves
-
--- what a hand leaves
-abbrev pub left : {H : Type 0} → (H → List ℕ) → (H → ℕ) → (H → ℕ) → H → Left
-left begun asked faults hand = record { begun = begun hand; asked = asked hand; faults = faults hand }
 
 -- no hand was hired and dismissed
 abbrev pub NoHand : CrewRun → Type 0
@@ -85,10 +83,6 @@ HeaderFails head out err status =
 abbrev pub LacksHeader : List ℕ → Around → LitEnd → Type 0
 LacksHeader head a end = (end ≡ untried end.status) × HeaderFails head a.out a.err end.status × NoHand a.hired
 
--- it was written, and memory was wanting for a hand
-abbrev pub LacksHand : List ℕ → Around → LitEnd → Type 0
-LacksHand head a end = (end ≡ untried 4) × Taken head a.out × Told out_of_memory a.err × NoHand a.hired
-
 -- ---- a run that stops in its midst
 
 -- what is written of it behind some bytes: the parts of the trials that were put, and where the stream failed a front of the next
@@ -118,20 +112,13 @@ StopTells SinkFault status err = (status ≡ 3) × Told cannot_write err
 StopTells TooMuch status err = Answered too_much 2 status err
 StopTells NoMemory status err = (status ≡ 4) × Told out_of_memory err
 
--- the hand was dismissed: it began the first tests and no others, and counted a fault where a reply is one
-pub record LeftAtStop (tests : ℕ) (stop : PoolStop) (left : Left) : Type 0 where
-  pub begun : BeginsSome tests [] left.begun stop
-  pub broken : any_fault (returned stop) ≡ true → Rose 0 left.faults
-
 -- a run stopped in its midst
-pub record StopsRun (detail : Detail) (tests : List Test) (a : Around) (end : LitEnd) : Type 0 where
+pub record StopsRun (detail : Detail) (workers : ℕ) (tests : List Test) (a : Around) (end : LitEnd) : Type 0 where
   pub stop : PoolStop
   pub same : (end.trials ≡ stop.trials) × (end.other ≡ stop.other)
   pub stopped : StopsTests (header detail (length tests)) detail tests a.hired.gave a.out stop
   pub told : StopTells stop.why end.status a.err
-  pub left : Left
-  pub hand : LeftAtStop (length tests) stop left
-  pub hands : a.hired.new ≡ a.hired.old ++ left ∷ []
+  pub hands : LeavesHands workers (length tests) (Err stop) a.hired.old a.hired.new
 
 -- ---- a run of which every test is reported
 
@@ -154,34 +141,18 @@ PartsWrite detail tests out room trials =
     Taken (parts_from detail tests 0 (map told_of trials)) out × (kept_by trials ≤ MAX_KEPT)
     × (out.room ≤ room + length (parts_from detail tests 0 (map told_of trials)))
 
--- the hand was dismissed: it began each test once, was asked what the trials' entries say, and counted a fault where a reply is
--- one, and else none
-pub record LeftAtEnd (tests : ℕ) (trials : List Trial) (left : Left) : Type 0 where
-  pub begun : left.begun ≡ range_with_len 0 tests
-  pub asked : left.asked ≡ sum_entries trials
-  pub broken : any_fault trials ≡ true → Rose 0 left.faults
-  pub calm : any_fault trials ≡ false → left.faults ≡ 0
-
--- what the hand left, however the tests ended
-abbrev pub HandLeft : ℕ → Result (List Trial) PoolStop → Left → Type 0
-HandLeft tests (Ok trials) left = LeftAtEnd tests trials left
-HandLeft tests (Err stop) left = LeftAtStop tests stop left
-
 -- every test was run: there is a trial of each, in order, and the report is of these
-pub record RunsAll (detail : Detail) (tests : List Test) (a : Around) (end : LitEnd) : Type 0 where
+pub record RunsAll (detail : Detail) (workers : ℕ) (tests : List Test) (a : Around) (end : LitEnd) : Type 0 where
   pub trials : AreTrials a.hired.gave 0 tests end.trials
   pub other : end.other ≡ None
   pub within : kept_by end.trials ≤ MAX_KEPT
   pub wrote : EndWrites (running detail (length tests) (map told_of end.trials))
       (end_of detail (length tests) (map told_of end.trials)) (status_of (map told_of end.trials)) end.status a.out a.err
-  pub left : Left
-  pub hand : LeftAtEnd (length tests) end.trials left
-  pub hands : a.hired.new ≡ a.hired.old ++ left ∷ []
+  pub hands : LeavesHands workers (length tests) (Ok end.trials) a.hired.old a.hired.new
 
 -- ---- a run
 
--- how tests were run and reported
-abbrev pub RunEnds : Detail → List Test → Around → LitEnd → Type 0
-RunEnds detail tests a end =
-    LacksHeader (header detail (length tests)) a end ⊎ LacksHand (header detail (length tests)) a end
-    ⊎ StopsRun detail tests a end ⊎ RunsAll detail tests a end
+-- how tests were run by so many workers, and reported
+abbrev pub RunEnds : Detail → ℕ → List Test → Around → LitEnd → Type 0
+RunEnds detail workers tests a end =
+    LacksHeader (header detail (length tests)) a end ⊎ StopsRun detail workers tests a end ⊎ RunsAll detail workers tests a end

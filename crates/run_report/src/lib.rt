@@ -1,4 +1,4 @@
-//! A run of tests with its report: the header, each test by a hand that is hired for the run, and the end. It stops where the
+//! A run of tests with its report: the header, the tests by hands that are hired for the run, and the end. It stops where the
 //! report can't be written, the tests keep too many bytes, or memory is wanting. After LLVM Command Guide, lit. Which tests are run
 //! is decided above.
 #![tactic(auto)]

@@ -1,17 +1,20 @@
 //! The pieces of a report, as they are written.
-ghost use Rattle.std.specs.Prelude.{◌≡◌, ◌≤◌, ◌+◌, [], IfErr, IfOk, OnErr, OnOk, length};
+ghost use Rattle.std.specs.Prelude.{◌≡◌, ◌≤◌, ◌+◌, ◌<◌, [], IfErr, IfOk, OnErr, OnOk, length};
 ghost use Rattle.tt_outside.specs.Gave.{SameGave};
 ghost use Rattle.tt_run.specs.Run.{Taken, stream};
-ghost use Rattle.lit_pool.specs.Pool.{AreTrials};
-ghost use Rattle.run_report.specs.Run.{HandLeft, PartsWrite, StopsBehind, StopsTests, left};
+ghost use Rattle.lit_round.specs.Trials.{AreTrials};
+ghost use Rattle.lit_pool.specs.Crew.{LeavesHands};
+ghost use Rattle.run_report.specs.Run.{PartsWrite, StopsBehind, StopsTests};
 
 use lit_desk::LitDesk;
-use lit_pool::{PoolStop, run_serial};
+use lit_pool::{PoolStop, run_all};
 use lit_test::Trial;
-use lit_words::Detail;
+use lit_words::Asked;
 use std::alloc::Global;
+use std::sync::Wait;
+use std::thread::Threads;
 use tt_base::Items;
-use tt_outside::{Failed, Runner, Sink, Test, write_all};
+use tt_outside::{Crew, Failed, Sink, Test, write_all};
 
 /// Writes a piece of a report.
 #[tactic(auto, using(crate::proofs::PieceLemmas::stops_first, crate::proofs::PieceLemmas::room_left))]
@@ -23,32 +26,32 @@ pub(crate) fn write_piece<O: Sink>(piece: &[u8], out: &mut O) -> Result<(), Fail
     write_all(out, piece)
 }
 
-/// Runs tests by a hand that has done nothing yet, and writes the part of each.
-pub(crate) fn report_each<H: Runner, O: Sink>(
+/// Runs tests by as many hands of a crew as workers are asked for, and writes the part of each.
+pub(crate) fn report_each<R: Threads + Wait + Sync, C: Crew, O: Sink>(
+    rt: &R,
     alloc: Global,
-    detail: Detail,
+    asked: &Asked,
     tests: &Items<Test>,
-    hand: &mut H,
+    from: &mut C,
     out: &mut O,
 ) -> Result<Items<Trial>, PoolStop>
     requires few { length tests.now ≤ 100000 }
-    requires room { length tests.now ≤ H.rooms hand.old }
-    requires fresh { (H.begun hand.old ≡ []) × (H.asked hand.old ≡ 0) × (H.faults hand.old ≡ 0) }
-    requires ready { H.ready hand.old }
-    ensures trials { IfOk result (AreTrials (H.gave hand.old) 0 tests.now) }
-    ensures wrote { IfOk result (PartsWrite detail (length tests.now)
+    requires workers { (0 < asked.now.workers) × (asked.now.workers ≤ 64) }
+    requires ready { C.ready from.old }
+    ensures trials { IfOk result (AreTrials (C.gave from.old) 0 tests.now) }
+    ensures wrote { IfOk result (PartsWrite asked.now.detail (length tests.now)
         (stream O.held O.faults O.room out.old out.new) (O.room out.new)) }
-    ensures stopped { IfErr result (StopsTests [] detail tests.now (H.gave hand.old)
+    ensures stopped { IfErr result (StopsTests [] asked.now.detail tests.now (C.gave from.old)
         (stream O.held O.faults O.room out.old out.new)) }
-    ensures hand { HandLeft (length tests.now) result (left H.begun H.asked H.faults hand.new) }
-    ensures gave { SameGave (H.gave hand.new) (H.gave hand.old) }
-    ensures ready { H.ready hand.new }
+    ensures hands { LeavesHands asked.now.workers (length tests.now) result (C.hands from.old) (C.hands from.new) }
+    ensures gave { SameGave (C.gave from.new) (C.gave from.old) }
+    ensures ready { C.ready from.new }
 {
     let mut desk = LitDesk {
         out,
-        detail,
+        detail: asked.detail,
         tests: tests.len() as u64,
         kept: 0,
     };
-    run_serial(alloc, tests, hand, &mut desk)
+    run_all(rt, alloc, tests, asked.workers as u32, from, &mut desk)
 }

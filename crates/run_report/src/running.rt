@@ -1,5 +1,5 @@
 //! A run of tests.
-ghost use Rattle.std.specs.Prelude.{◌≡◌, ◌≤◌, ◌+◌, IfErr, OnOk, length};
+ghost use Rattle.std.specs.Prelude.{◌≡◌, ◌<◌, ◌≤◌, ◌+◌, IfErr, OnOk, length};
 ghost use Rattle.tt_outside.specs.Gave.{SameGave};
 ghost use Rattle.tt_run.specs.Run.{Taken, stream};
 ghost use Rattle.lit_report.specs.Report.{header};
@@ -9,8 +9,10 @@ use crate::ending::{LitEnd, write_end};
 use crate::message::{tell_fault, tell_memory, tell_stop};
 use crate::parts::{report_each, write_piece};
 use lit_report::header;
-use lit_words::Detail;
+use lit_words::{Asked, Detail};
 use std::alloc::Global;
+use std::sync::Wait;
+use std::thread::Threads;
 use tt_base::Items;
 use tt_outside::{Crew, Sink, Test};
 
@@ -37,32 +39,31 @@ fn write_header<O: Sink, E: Sink>(
     }
 }
 
-/// Runs at most 100,000 tests by one hand of a crew, and reports: 0 or 1 is the report's own status; 2 where the tests keep too
-/// many bytes, 3 at a fault of a stream, and 4 for want of memory. It waits for programs.
-pub fn run_and_report<C: Crew, O: Sink, E: Sink>(
+/// Runs at most 100,000 tests by hands of a crew, as many as workers are asked for, and reports: 0 or 1 is the report's own status; 2 where
+/// the tests keep too many bytes, 3 at a fault of a stream, and 4 for want of memory. It waits for programs.
+pub fn run_and_report<R: Threads + Wait + Sync, C: Crew, O: Sink, E: Sink>(
+    rt: &R,
     alloc: Global,
-    detail: Detail,
+    asked: &Asked,
     tests: &Items<Test>,
     from: &mut C,
     out: &mut O,
     err: &mut E,
 ) -> LitEnd
     requires few { length tests.now ≤ 100000 }
+    requires workers { (0 < asked.now.workers) × (asked.now.workers ≤ 64) }
     requires ready { C.ready from.old }
-    ensures ends { RunEnds detail tests.now (around (crew C.gave C.hands from.old from.new)
+    ensures ends { RunEnds asked.now.detail asked.now.workers tests.now (around (crew C.gave C.hands from.old from.new)
         (stream O.held O.faults O.room out.old out.new) (stream E.held E.faults E.room err.old err.new)) result }
     ensures gave { SameGave (C.gave from.new) (C.gave from.old) }
     ensures ready { C.ready from.new }
 {
+    let detail = asked.detail;
     let count = tests.len() as u64;
     if let Err(status) = write_header(alloc, detail, count, out, err) {
         return LitEnd::untried(alloc, status);
     }
-    let Ok(mut hand) = from.hire(alloc, count) else {
-        return LitEnd::untried(alloc, tell_memory(err));
-    };
-    let ran = report_each(alloc, detail, tests, &mut hand, out);
-    from.dismiss(hand);
+    let ran = report_each(rt, alloc, asked, tests, from, out);
     match ran {
         Ok(trials) => LitEnd {
             status: write_end(alloc, detail, count, trials.as_slice(), out, err),

@@ -6,11 +6,9 @@ use Rattle.std.specs.Prelude.{⊤}
 use Rattle.tt_base.specs.declared.place.Span.{Span}
 use Rattle.pattern_instance.specs.Instance.{instance_of}
 use Rattle.pattern_instance.specs.Known.{known_of}
-use Rattle.pattern_parse.specs.declared.pattern.Kind.{Kind}
-use Rattle.pattern_parse.specs.declared.pattern.Kind.TheVariants.{Plain, Next, Same, Empty, Count, Not, Dag, Label}
 use Rattle.pattern_scan.specs.Seek.{sought, sought_of}
 use Rattle.pattern_vars.specs.Vars.{bound_all}
-use Rattle.check_group.specs.Alone.{began_at, came, counted, matched, met}
+use Rattle.check_group.specs.Alone.{began_at, came, counted, met}
 use Rattle.check_group.specs.Changes.{Variables, changed}
 use Rattle.check_group.specs.Group.{group, placed, placed_among, reach, tried}
 use Rattle.check_group.specs.Lines.{on_next_line, on_same_line}
@@ -19,6 +17,11 @@ use Rattle.check_group.specs.Region.{excluded_by, fault_before, region}
 use Rattle.check_group.specs.declared.answer.Matched.{Matched}
 use Rattle.check_group.specs.declared.answer.Met.{Met}
 use Rattle.check_group.specs.declared.directive.Check.{Check}
+use Rattle.check_group.specs.declared.directive.Demand.{Demand}
+use Rattle.check_group.specs.declared.directive.LineRule.{LineRule}
+use Rattle.check_group.specs.declared.directive.LineRule.TheVariants.{Any, Next, Same, Empty}
+use Rattle.check_group.specs.declared.directive.Role.{Role}
+use Rattle.check_group.specs.declared.directive.Role.TheVariants.{Sought, Excluded, Unordered, Label}
 use Rattle.check_group.specs.declared.fault.Fault.{Fault}
 use Rattle.check_group.specs.declared.fault.FaultKind.{FaultKind}
 use Rattle.check_group.specs.declared.fault.FaultKind.TheVariants.{NotFound}
@@ -38,8 +41,8 @@ module _ (c d : Check) (same : seen c ≡ seen d) where
   number_one : c.number ≡ d.number
   number_one = ap (λ (s : Seen). s.number) same
 
-  kind_one : c.kind ≡ d.kind
-  kind_one = ap (λ (s : Seen). s.kind) same
+  demand_one : c.demand ≡ d.demand
+  demand_one = ap (λ (s : Seen). s.demand) same
 
   sought_one : (text : List ℕ) (vars : Variables) (from : ℕ)
       → sought c.pattern vars text from c.line ≡ sought d.pattern vars text from d.line
@@ -58,20 +61,12 @@ module _ (c d : Check) (same : seen c ≡ seen d) where
   if_met_one (Ok m) on other each = each m
   if_met_one (Err kind) on other each = fails_one kind
 
-  matched_one : (r : Result Met FaultKind) → matched c r ≡ matched d r
-  matched_one (Ok m) = refl
-  matched_one (Err kind) = fails_one kind
-
-  met_one : (text : List ℕ) (vars : Variables) (place : ℕ) (kind : Kind)
-      → met text vars place c kind ≡ met text vars place d kind
-  met_one text vars place Plain = looked_one text vars 0 place
-  met_one text vars place Next = ap (on_next_line text place) (looked_one text vars 0 place)
-  met_one text vars place Same = ap (on_same_line text place) (looked_one text vars 0 place)
-  met_one text vars place Empty = refl
-  met_one text vars place Not = looked_one text vars 0 place
-  met_one text vars place Dag = looked_one text vars 0 place
-  met_one text vars place Label = looked_one text vars 0 place
-  met_one text vars place (Count n) = looked_one text vars 0 place
+  met_one : (text : List ℕ) (vars : Variables) (done at : ℕ) (rule : LineRule)
+      → met text vars c done at rule ≡ met text vars d done at rule
+  met_one text vars done at Any = looked_one text vars done at
+  met_one text vars done at Next = ap (on_next_line text at) (looked_one text vars done at)
+  met_one text vars done at Same = ap (on_same_line text at) (looked_one text vars done at)
+  met_one text vars done at Empty = refl
 
   counted_one : (text : List ℕ) (left done : ℕ) (vars : Variables) (first at : ℕ)
       → counted text c left done vars first at ≡ counted text d left done vars first at
@@ -80,25 +75,14 @@ module _ (c d : Check) (same : seen c ≡ seen d) where
   counted_one text (suc left) done vars first at =
       ap (λ r. if_met c r (λ m. behind m.fresh
       (counted text c left (done + 1) (bound_all vars m.fresh) (began_at done m.span.from first) m.span.to)))
-      (looked_one text vars done at)
-      ∙ if_met_one (looked text vars d done at) _ _ (λ m. ap (behind m.fresh)
+      (met_one text vars done at c.demand.rule ∙ ap (λ (w : Demand). met text vars d done at w.rule) demand_one)
+      ∙ if_met_one (met text vars d done at d.demand.rule) _ _ (λ m. ap (behind m.fresh)
       (counted_one text left (done + 1) (bound_all vars m.fresh) (began_at done m.span.from first) m.span.to))
 
-  once_one : (text : List ℕ) (vars : Variables) (place : ℕ) (kind : Kind)
-      → matched c (met text vars place c kind) ≡ matched d (met text vars place d kind)
-  once_one text vars place kind =
-      ap (matched c) (met_one text vars place kind) ∙ matched_one (met text vars place d kind)
-
-  came_one : (text : List ℕ) (vars : Variables) (place : ℕ) (kind : Kind)
-      → came text vars place c kind ≡ came text vars place d kind
-  came_one text vars place Plain = once_one text vars place Plain
-  came_one text vars place Next = once_one text vars place Next
-  came_one text vars place Same = once_one text vars place Same
-  came_one text vars place Empty = once_one text vars place Empty
-  came_one text vars place Not = once_one text vars place Not
-  came_one text vars place Dag = once_one text vars place Dag
-  came_one text vars place Label = once_one text vars place Label
-  came_one text vars place (Count n) = counted_one text n 0 vars place place
+  came_one : (text : List ℕ) (vars : Variables) (place : ℕ) → came text vars place c ≡ came text vars place d
+  came_one text vars place =
+      counted_one text c.demand.times 0 vars place place
+      ∙ ap (λ (w : Demand). counted text d w.times 0 vars place place) demand_one
 
   placed_one : (text : List ℕ) (vars : Variables) (ranges : List Span) (place : ℕ)
       → placed text vars ranges c place ≡ placed text vars ranges d place
@@ -206,16 +190,12 @@ joined_one c d (finish ∷ ps) (positive (alone b) ∷ qs) same are = absurd are
 joined_one c d (finish ∷ ps) (positive (dags gs) ∷ qs) same are = absurd are.0
 joined_one c d (finish ∷ ps) (finish ∷ qs) same are = ((same, tt), are)
 
-part_one : (c d : Check) (kind : Kind) (ps qs : List Part) → seen c ≡ seen d → AreAlikeParts ps qs
-    → AreAlikeParts (part_before c kind ps) (part_before d kind qs)
-part_one c d Not ps qs same are = (same, are)
-part_one c d Dag ps qs same are = joined_one c d ps qs same are
-part_one c d Plain ps qs same are = (same, are)
-part_one c d Next ps qs same are = (same, are)
-part_one c d Same ps qs same are = (same, are)
-part_one c d Empty ps qs same are = (same, are)
+part_one : (c d : Check) (role : Role) (ps qs : List Part) → seen c ≡ seen d → AreAlikeParts ps qs
+    → AreAlikeParts (part_before c role ps) (part_before d role qs)
+part_one c d Excluded ps qs same are = (same, are)
+part_one c d Unordered ps qs same are = joined_one c d ps qs same are
+part_one c d Sought ps qs same are = (same, are)
 part_one c d Label ps qs same are = (same, are)
-part_one c d (Count n) ps qs same are = (same, are)
 
 parts_one : (cs ds : List Check) (ps qs : List Part) → AreAlike cs ds → AreAlikeParts ps qs
     → AreAlikeParts (parts_before cs ps) (parts_before ds qs)
@@ -224,8 +204,8 @@ parts_one [] [] ps qs is are = are
 parts_one [] (d ∷ ds) ps qs is are = absurd is
 parts_one (c ∷ cs) [] ps qs is are = absurd is
 parts_one (c ∷ cs) (d ∷ ds) ps qs is are =
-    subst (λ kind. AreAlikeParts (part_before c c.kind (parts_before cs ps)) (part_before d kind (parts_before ds qs)))
-    (kind_one c d is.0) (part_one c d c.kind _ _ is.0 (parts_one cs ds ps qs is.1 are))
+    subst (λ (w : Demand). AreAlikeParts (part_before c c.demand.role (parts_before cs ps)) (part_before d w.role (parts_before ds qs)))
+    (demand_one c d is.0) (part_one c d c.demand.role _ _ is.0 (parts_one cs ds ps qs is.1 are))
 
 ending_one : (end : Bool) → AreAlikeParts (ending end) (ending end)
 ending_one true = (tt, tt)
@@ -234,7 +214,7 @@ ending_one false = tt
 came_of_one : (text : List ℕ) (vars : Variables) (place : ℕ) (p q : Positive) → IsAlikePart (positive p) (positive q)
     → came_of text vars place p ≡ came_of text vars place q
 came_of_one text vars place (alone c) (alone d) is =
-    came_one c d is text vars place c.kind ∙ ap (came text vars place d) (kind_one c d is)
+    came_one c d is text vars place
 came_of_one text vars place (dags cs) (dags ds) is =
     group_one text place cs ds vars [] (record { from = length text; to = place }) is
 came_of_one text vars place (alone c) (dags ds) is = absurd is
@@ -316,16 +296,12 @@ first_one c d (labelled cs l b) (labelled ds k other) same are = ((same, are.0),
 first_one c d (last cs) (labelled ds k other) same are = absurd are
 first_one c d (labelled cs l b) (last ds) same are = absurd are
 
-before_block_one : (c d : Check) (kind : Kind) (b other : Blocks) → seen c ≡ seen d → AreAlikeBlocks b other
-    → AreAlikeBlocks (block_before c kind b) (block_before d kind other)
+before_block_one : (c d : Check) (role : Role) (b other : Blocks) → seen c ≡ seen d → AreAlikeBlocks b other
+    → AreAlikeBlocks (block_before c role b) (block_before d role other)
 before_block_one c d Label b other same are = ((same, tt), same, are)
-before_block_one c d Plain b other same are = first_one c d b other same are
-before_block_one c d Next b other same are = first_one c d b other same are
-before_block_one c d Same b other same are = first_one c d b other same are
-before_block_one c d Empty b other same are = first_one c d b other same are
-before_block_one c d Not b other same are = first_one c d b other same are
-before_block_one c d Dag b other same are = first_one c d b other same are
-before_block_one c d (Count n) b other same are = first_one c d b other same are
+before_block_one c d Sought b other same are = first_one c d b other same are
+before_block_one c d Excluded b other same are = first_one c d b other same are
+before_block_one c d Unordered b other same are = first_one c d b other same are
 
 blocks_one : (cs ds : List Check) → AreAlike cs ds → AreAlikeBlocks (blocks_of cs) (blocks_of ds)
 unfolding blocks_of
@@ -333,8 +309,8 @@ blocks_one [] [] is = tt
 blocks_one [] (d ∷ ds) is = absurd is
 blocks_one (c ∷ cs) [] is = absurd is
 blocks_one (c ∷ cs) (d ∷ ds) is =
-    subst (λ kind. AreAlikeBlocks (block_before c c.kind (blocks_of cs)) (block_before d kind (blocks_of ds)))
-    (kind_one c d is.0) (before_block_one c d c.kind _ _ is.0 (blocks_one cs ds is.1))
+    subst (λ (w : Demand). AreAlikeBlocks (block_before c c.demand.role (blocks_of cs)) (block_before d w.role (blocks_of ds)))
+    (demand_one c d is.0) (before_block_one c d c.demand.role _ _ is.0 (blocks_one cs ds is.1))
 
 label_one : (l k : Check) (place : ℕ) (r : Result Met FaultKind) (found other : ℕ → End) → seen l ≡ seen k
     → ((to : ℕ) → found to ≡ other to) → labelled_by l place r found ≡ labelled_by k place r other

@@ -1,22 +1,24 @@
 -- Shown: NEXT, SAME and EMPTY match on their lines, a region is clear where each NOT is absent, and NOTs are tested between their
 -- neighbours. Idea: a match on another line is a fault; NOTs wait, in order, for what closes their region. The hard one is
 -- `waiting`.
-use Rattle.std.proofs.Common.{◌≡◌, ℕ, ◌==◌, Bool, true, false, cond, List, [], ◌∷◌, ◌++◌, append_assoc, append-nil, length, map, Result, Ok, Err, IfOk, refl, sym, ◌∙◌, ap}
+use Rattle.std.proofs.Common.{◌≡◌, ◌≤◌, ℕ, ◌==◌, Bool, true, false, cond, List, [], ◌∷◌, ◌++◌, append_assoc, append-nil, length, map, Result, Ok, Err, IfOk, refl, sym, ◌∙◌, ap, subst}
 use Rattle.std.specs.List.{AllByRecursion}
 use Rattle.std.proofs.lemmas.Bool.{eqb-true}
-use Rattle.pattern_parse.specs.declared.pattern.Kind.TheVariants.{Next, Same, Empty}
 use Rattle.pattern_scan.specs.Seek.{sought}
 use Rattle.pattern_scan.specs.declared.sought.Sought.{Sought}
 use Rattle.pattern_scan.specs.declared.sought.Sought.TheVariants.{Found, Absent, UndefinedNames, Range, ZeroDivisor, Unreadable}
+use Rattle.pattern_vars.specs.Vars.{bound_all}
 use Rattle.check_group.proofs.LiesLemmas.{OutcomeLies, came_lies}
-use Rattle.check_group.specs.Alone.{matched}
+use Rattle.check_group.specs.Alone.{began_at, came, counted, met}
 use Rattle.check_group.specs.Changes.{Variables, changed}
 use Rattle.check_group.specs.Lines.{behind_newline, empty_line, newlines, on_next_line, on_same_line}
-use Rattle.check_group.specs.Matches.{looked}
+use Rattle.check_group.specs.Matches.{Came, behind, if_met, looked}
 use Rattle.check_group.specs.Region.{excluded_by, fault_before, region}
 use Rattle.check_group.specs.declared.answer.Matched.{Matched}
 use Rattle.check_group.specs.declared.answer.Met.{Met}
 use Rattle.check_group.specs.declared.directive.Check.{Check}
+use Rattle.check_group.specs.declared.directive.LineRule.{LineRule}
+use Rattle.check_group.specs.declared.directive.LineRule.TheVariants.{Next, Same, Empty}
 use Rattle.check_group.specs.declared.fault.Fault.{Fault}
 use Rattle.check_group.specs.declared.fault.FaultKind.{FaultKind}
 use Rattle.check_group.specs.declared.fault.FaultKind.TheVariants.{NotSameLine, WrongLine}
@@ -26,27 +28,42 @@ use Rattle.scan_laws.specs.Steps.{IsAbsent, LiesOnLine, MatchesLieOnLines, Regio
 
 -- ---- lines
 
-next_line : (text : List ℕ) (place : ℕ) (check : Check) (r : Result Met FaultKind)
-    → IfOk (matched check (on_next_line text place r)).outcome (λ m. newlines text place m.from ≡ 1)
-next_line text place check (Err kind) = tt
-next_line text place check (Ok m) =
+-- what one match of a directive comes to
+once : List ℕ → Variables → ℕ → Check → Result Met FaultKind → Came
+once text vars place check r =
+    if_met check r (λ m. behind m.fresh
+    (counted text check 0 1 (bound_all vars m.fresh) (began_at 0 m.span.from place) m.span.to))
+
+came-once : (text : List ℕ) (vars : Variables) (place : ℕ) (check : Check) (rule : LineRule) → check.demand.rule ≡ rule
+    → check.demand.times ≡ 1 → once text vars place check (met text vars check 0 place rule) ≡ came text vars place check
+unfolding once counted
+came-once text vars place check rule is one =
+    ap (λ r. once text vars place check (met text vars check 0 place r)) (sym is)
+    ∙ ap (λ n. counted text check n 0 vars place place) (sym one)
+
+next_line : (text : List ℕ) (vars : Variables) (place : ℕ) (check : Check) (r : Result Met FaultKind)
+    → IfOk (once text vars place check (on_next_line text place r)).outcome (λ m. newlines text place m.from ≡ 1)
+unfolding once counted
+next_line text vars place check (Err kind) = tt
+next_line text vars place check (Ok m) =
     each (newlines text place m.span.from == 1) refl
   where
     each : (test : Bool) → (newlines text place m.span.from == 1) ≡ test
-        → IfOk (matched check (cond test (Ok m)
+        → IfOk (once text vars place check (cond test (Ok m)
         (Err (WrongLine m.span.from place (newlines text place m.span.from))))).outcome
         (λ (one : Matched). newlines text place one.from ≡ 1)
     each true is = eqb-true (newlines text place m.span.from) 1 is
     each false is = tt
 
-same_line : (text : List ℕ) (place : ℕ) (check : Check) (r : Result Met FaultKind)
-    → IfOk (matched check (on_same_line text place r)).outcome (λ m. newlines text place m.from ≡ 0)
-same_line text place check (Err kind) = tt
-same_line text place check (Ok m) =
+same_line : (text : List ℕ) (vars : Variables) (place : ℕ) (check : Check) (r : Result Met FaultKind)
+    → IfOk (once text vars place check (on_same_line text place r)).outcome (λ m. newlines text place m.from ≡ 0)
+unfolding once counted
+same_line text vars place check (Err kind) = tt
+same_line text vars place check (Ok m) =
     each (newlines text place m.span.from == 0) refl
   where
     each : (test : Bool) → (newlines text place m.span.from == 0) ≡ test
-        → IfOk (matched check (cond test (Ok m) (Err (NotSameLine m.span.from place)))).outcome
+        → IfOk (once text vars place check (cond test (Ok m) (Err (NotSameLine m.span.from place)))).outcome
         (λ (one : Matched). newlines text place one.from ≡ 0)
     each true is = eqb-true (newlines text place m.span.from) 0 is
     each false is = tt
@@ -58,17 +75,22 @@ both : (text : List ℕ) (place count to : ℕ) (r : Result Matched Fault)
 both text place count to (Ok m) lies lines = record { behind = lies.0; lines = lines }
 both text place count to (Err fault) lies lines = tt
 
+on-line : (text : List ℕ) (vars : Variables) (place count : ℕ) (check : Check) (rule : LineRule) → check.demand.rule ≡ rule
+    → check.demand.times ≡ 1 → place ≤ length text
+    → IfOk (once text vars place check (met text vars check 0 place rule)).outcome (λ m. newlines text place m.from ≡ count)
+    → IfOk (came text vars place check).outcome (LiesOnLine text place count)
+on-line text vars place count check rule is one inside lines =
+    both text place count (length text) _ (came_lies (λ n. Unit {0}) text vars place check inside tt)
+    (subst (λ c. IfOk c.outcome (λ m. newlines text place m.from ≡ count)) (came-once text vars place check rule is one) lines)
+
 pub matches_lie_on_lines : MatchesLieOnLines
 matches_lie_on_lines = record {
-  next = λ text vars place check inside.
-      both text place 1 (length text) _ (came_lies (λ n. Unit {0}) text vars place check Next inside tt)
-      (next_line text place check (looked text vars check 0 place));
-  same = λ text vars place check inside.
-      both text place 0 (length text) _ (came_lies (λ n. Unit {0}) text vars place check Same inside tt)
-      (same_line text place check (looked text vars check 0 place));
-  empty = λ text vars place check inside.
-      both text place 1 (length text) _ (came_lies (λ n. Unit {0}) text vars place check Empty inside tt)
-      (next_line text place check (behind_newline place (empty_line text place)));
+  next = λ text vars place check is one inside. on-line text vars place 1 check Next is one inside
+      (next_line text vars place check (looked text vars check 0 place));
+  same = λ text vars place check is one inside. on-line text vars place 0 check Same is one inside
+      (same_line text vars place check (looked text vars check 0 place));
+  empty = λ text vars place check is one inside. on-line text vars place 1 check Empty is one inside
+      (next_line text vars place check (behind_newline place (empty_line text place)));
 }
 
 -- ---- regions

@@ -2,8 +2,6 @@
 -- After LLVM Command Guide, FileCheck: CHECK-NEXT, CHECK-SAME, CHECK-EMPTY and CHECK-NOT. Own rule: an EMPTY's match has no bytes.
 use Rattle.std.specs.Prelude.{◌≡◌, ℕ, ◌≤◌, List, [], ◌∷◌, ◌++◌, length, map, take, Ok, IfOk}
 use Rattle.std.specs.List.{AllByRecursion}
-use Rattle.pattern_parse.specs.declared.pattern.Kind.{Kind}
-use Rattle.pattern_parse.specs.declared.pattern.Kind.TheVariants.{Next, Same, Empty}
 use Rattle.pattern_scan.specs.Seek.{sought}
 use Rattle.pattern_scan.specs.declared.sought.Sought.TheVariants.{Absent}
 use Rattle.check_group.specs.Alone.{came}
@@ -12,6 +10,8 @@ use Rattle.check_group.specs.Lines.{newlines}
 use Rattle.check_group.specs.Region.{region}
 use Rattle.check_group.specs.declared.answer.Matched.{Matched}
 use Rattle.check_group.specs.declared.directive.Check.{Check}
+use Rattle.check_group.specs.declared.directive.LineRule.{LineRule}
+use Rattle.check_group.specs.declared.directive.LineRule.TheVariants.{Next, Same, Empty}
 use Rattle.check_scan.specs.Block.{End, block, unless}
 use Rattle.check_scan.specs.Parts.{Part, Positive, came_of, finish, negative, positive}
 
@@ -22,11 +22,12 @@ pub record LiesOnLine (text : List ℕ) (place count : ℕ) (m : Matched) : Type
   pub behind : place ≤ m.from
   pub lines : newlines text place m.from ≡ count
 
--- what a directive of a kind comes to at a place where the match before ended has so many newlines between
-abbrev pub HasNewlines : Kind → ℕ → Type 0
-HasNewlines kind count =
-    (text : List ℕ) (vars : Variables) (place : ℕ) (check : Check) → place ≤ length text
-    → IfOk (came text vars place check kind).outcome (LiesOnLine text place count)
+-- what a directive that asks for one match on a line comes to at a place where the match before ended has so many newlines
+-- between
+abbrev pub HasNewlines : LineRule → ℕ → Type 0
+HasNewlines rule count =
+    (text : List ℕ) (vars : Variables) (place : ℕ) (check : Check) → check.demand.rule ≡ rule → check.demand.times ≡ 1
+    → place ≤ length text → IfOk (came text vars place check).outcome (LiesOnLine text place count)
 
 -- Law: a match of NEXT and EMPTY lies on the next line, and one of SAME on the same one.
 pub record MatchesLieOnLines : Type 0 where

@@ -1,10 +1,14 @@
-//! What every program does before its top call: it has the words of the command line, or tells why there are none.
+//! What every program does before its top call: it has the words of the command line, or tells why there are none, and shows
+//! the pages of its own that they ask for.
 #![tactic(auto)]
+
+mod page;
 
 ghost use Rattle.std.specs.IoError.{error_kind};
 ghost use Rattle.tt_main.specs.NoWords.{NoWords};
 ghost use Rattle.tt_run.specs.Run.{stream};
 
+pub use page::{Page, page_of, show_page};
 use std::env::{self, Env};
 use std::io::{self, ErrorKind};
 use tt_outside::Sink;

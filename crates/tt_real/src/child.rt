@@ -1,161 +1,140 @@
-//! A child program that is fed and drained at once.
-ghost use Rattle.std.specs.Prelude.{◌≡◌, ◌≤◌, IfOk, length};
-ghost use Rattle.std.specs.Vec.{vec_len};
+//! A program that is run to its end. Its two streams are read by turns, so that it never waits to be read.
+ghost use Rattle.std.specs.Prelude.{◌≡◌, ◌≤◌, IfOk, length, true};
+ghost use Rattle.tt_real.specs.Reply.{fits_program};
 
+use crate::input::{Feeder, Input, feed_at_once, input_of};
+use crate::told::{Told, finish_fed, finish_of, refused_reply, reply_of, told_of};
+use bumpalo::Bump;
 use std::alloc::Global;
-use std::io::{ErrorKind, Read, Write};
-use std::process::{Child, SystemProcess};
-use std::sync::Mutex;
-use std::sync::atomic::{AtomicBool, Ordering};
-use std::thread::{Threads, join};
-use tt_base::Bytes;
+use std::env::Env;
+use std::fs::File;
+use std::io::{Error, ErrorKind};
+use std::process::{Child, Command, OpenProcess, Processes, SystemProcess};
+use std::rt;
+use std::thread::Threads;
+use tt_base::{Bytes, NoMemory};
+use tt_outside::{Finish, Reply};
 
-/// Why a stream was not taken whole.
-#[derive(Clone, Copy, Debug, PartialEq, Eq)]
-pub enum DrainFault {
-    /// More bytes than the limit came.
-    Past,
-    /// The other stream had more.
-    Stopped,
-    Failed,
-    NoMemory,
-}
-
-/// How many bytes are asked at once.
-const PIECE: usize = 65536;
-
-/// Writes the whole input, and closes. A child that stops reading is no fault.
-fn feed<W: Write + Drop>(stdin: Option<W>, input: &[u8]) -> bool {
-    let Some(mut stdin) = stdin else {
-        return false;
-    };
-    match stdin.write_all(input) {
-        Ok(()) => true,
-        Err(error) => error.kind() == ErrorKind::BrokenPipe,
-    }
-}
-
-/// Adds a piece, if it stays within the limit.
-fn keep(taken: &mut Vec<u8>, piece: &[u8], limit: u64) -> Result<(), DrainFault>
-    requires { vec_len taken.old ≤ limit }
-    ensures { vec_len taken.new ≤ limit }
-{
-    if piece.len() as u64 > limit - taken.len() as u64 {
-        return Err(DrainFault::Past);
-    }
-    match taken.extend_from_slice(piece) {
-        Ok(()) => Ok(()),
-        Err(_) => Err(DrainFault::NoMemory),
-    }
-}
-
-/// Takes the next bytes of a stream. True at its end.
-fn take_piece<S: Read>(
-    stream: &mut S,
-    piece: &mut [u8],
-    taken: &mut Vec<u8>,
-    limit: u64,
-) -> Result<bool, DrainFault>
-    requires { vec_len taken.old ≤ limit }
-    ensures { vec_len taken.new ≤ limit }
-{
-    match stream.read(piece) {
-        Ok(0) => Ok(true),
-        Ok(count) => match keep(taken, &piece[..count], limit) {
-            Ok(()) => Ok(false),
-            Err(fault) => Err(fault),
-        },
-        Err(error) => match error.kind() {
-            ErrorKind::Interrupted => Ok(false),
-            _ => Err(DrainFault::Failed),
-        },
-    }
-}
-
-/// Takes a stream to its end, if it has at most `limit` bytes, until it is told to stop.
-fn take_stream<S: Read + Drop>(
-    alloc: Global,
-    stream: Option<S>,
-    limit: u64,
-    stop: &AtomicBool,
-) -> Result<Bytes, DrainFault>
-    ensures { IfOk result (λ bytes. length bytes ≤ limit) }
-{
-    let Some(mut stream) = stream else {
-        return Err(DrainFault::Failed);
-    };
-    let Ok(mut buffer) = Vec::from_elem(alloc, 0u8, PIECE) else {
-        return Err(DrainFault::NoMemory);
-    };
-    let piece = buffer.as_mut_slice();
-    let mut taken: Vec<u8> = Vec::new(alloc);
-    for _ in 0..u64::MAX {
-        if stop.load(Ordering::SeqCst) {
-            return Err(DrainFault::Stopped);
-        }
-        match take_piece(&mut stream, piece, &mut taken, limit) {
-            Ok(true) => return Ok(Bytes::from_vec(taken)),
-            Ok(false) => {}
-            Err(fault) => return Err(fault),
-        }
-    }
-    Err(DrainFault::Failed)
-}
-
-/// Stops the other stream, and kills the child.
-fn give_up(stop: &AtomicBool, child: &Mutex<&mut Child<SystemProcess>>) {
-    stop.store(true, Ordering::SeqCst);
-    if let Some(mut guard) = child.try_lock() {
-        let _ = guard.kill();
-    }
-}
-
-/// Takes a stream to its end. Where that fails, the child is killed.
-fn drain<S: Read + Drop>(
-    alloc: Global,
-    stream: Option<S>,
-    limit: u64,
-    stop: &AtomicBool,
-    child: &Mutex<&mut Child<SystemProcess>>,
-) -> Result<Bytes, DrainFault>
-    ensures { IfOk result (λ bytes. length bytes ≤ limit) }
-{
-    let taken = take_stream(alloc, stream, limit, stop);
-    if taken.is_err() {
-        give_up(stop, child);
-    }
-    taken
-}
-
-/// What a child's streams came to.
+/// What was read of a program's output and errors, where they were read whole.
 #[derive(Drop)]
-pub struct Drained {
-    pub fed: bool,
-    pub out: Result<Bytes, DrainFault>,
-    pub err: Result<Bytes, DrainFault>,
+struct Streams {
+    told: Told,
+    out: Bytes,
+    err: Bytes,
 }
 
-/// Feeds and drains a child, each stream by a thread of its own.
-pub fn serve<R: Threads + Sync>(
+/// Runs a program with an input. Each of its streams may have at most `limit` bytes.
+pub(crate) fn run<R>(
     rt: &R,
     alloc: Global,
-    child: &mut Child<SystemProcess>,
+    mut command: Command,
     input: &[u8],
     limit: u64,
-) -> Drained {
-    let stdin = child.stdin.take();
-    let stdout = child.stdout.take();
-    let stderr = child.stderr.take();
-    let stop = AtomicBool::new(false);
-    let child = Mutex::new(child);
-    let (out, (fed, err)) = join(
-        rt,
-        || drain(alloc, stdout, limit, &stop, &child),
-        || join(
-            rt,
-            || feed(stdin, input),
-            || drain(alloc, stderr, limit, &stop, &child),
-        ),
-    );
-    Drained { fed, out, err }
+) -> Result<Reply, NoMemory>
+where
+    R: rt::Files<File = File> + Env + Processes<Started = SystemProcess> + Threads,
+    ensures { IfOk result (λ reply. fits_program limit reply ≡ true) }
+{
+    let Input { stdin, feeder } = match input_of(rt, alloc, input) {
+        Ok(input) => input,
+        Err(error) => return not_fed(&error),
+    };
+    command.stdin(stdin);
+    let started = command.spawn(rt);
+    drop(command);
+    match started {
+        Ok(mut child) => {
+            let fault = feed_at_once(child.stdin.take(), input);
+            let streams = drain(alloc, &mut child, limit);
+            let finish = wait_for(child, streams.told);
+            let fault = ended(rt, feeder).or(fault);
+            reply_to(streams, finish_fed(fault, finish), limit)
+        }
+        Err(error) => {
+            let _ = ended(rt, feeder);
+            refused_reply(&error)
+        }
+    }
+}
+
+/// The kind of the fault with which an input was written, once its program has ended.
+fn ended<R: Threads>(rt: &R, feeder: Option<Feeder>) -> Option<ErrorKind> {
+    feeder?.end(rt)
+}
+
+/// The reply where there is no input to give.
+fn not_fed(error: &Error) -> Result<Reply, NoMemory>
+    ensures { IfOk result (λ reply. reply ≡ Reply.Broken) }
+{
+    match refused_reply(error) {
+        Ok(_) => Ok(Reply::Broken),
+        Err(NoMemory) => Err(NoMemory),
+    }
+}
+
+/// For how many bytes of a stream there is room: its bytes lie in blocks, each of at least twice the last one's length, and where
+/// the limit is passed there is none for more.
+fn room_for(limit: u64) -> usize {
+    limit.saturating_add(1 << 16).saturating_mul(8) as usize
+}
+
+/// Reads both streams of a program to their ends, or up to the first fault, and closes them.
+fn drain(alloc: Global, child: &mut Child<SystemProcess>, limit: u64) -> Streams
+    ensures { result.told ≡ Told.Whole → (length result.out ≤ limit) × (length result.err ≤ limit) }
+{
+    let (Some(mut stdout), Some(mut stderr)) = (child.stdout.take(), child.stderr.take()) else {
+        return nothing(alloc, Told::Failed);
+    };
+    let (out_room, err_room) = (Bump::new(alloc), Bump::new(alloc));
+    out_room.set_allocation_limit(Some(room_for(limit)));
+    err_room.set_allocation_limit(Some(room_for(limit)));
+    let (mut out, mut err) = (Vec::new(&out_room), Vec::new(&err_room));
+    let ended = SystemProcess::read_both(&mut stdout, &mut out, &mut stderr, &mut err);
+    let fault = ended.err().map(|error| error.kind());
+    kept(alloc, fault, out.as_slice(), err.as_slice(), limit)
+}
+
+/// No bytes.
+fn nothing(alloc: Global, told: Told) -> Streams
+    ensures { result.told ≡ told }
+{
+    Streams {
+        told,
+        out: Bytes::new(alloc),
+        err: Bytes::new(alloc),
+    }
+}
+
+/// What was read, where both streams were read whole.
+fn kept(alloc: Global, fault: Option<ErrorKind>, out: &[u8], err: &[u8], limit: u64) -> Streams
+    ensures { result.told ≡ Told.Whole → (length result.out ≤ limit) × (length result.err ≤ limit) }
+{
+    let told = told_of(fault, out, err, limit);
+    if told != Told::Whole {
+        return nothing(alloc, told);
+    }
+    match (Bytes::from_slice(alloc, out), Bytes::from_slice(alloc, err)) {
+        (Ok(out), Ok(err)) => Streams { told, out, err },
+        (_, _) => nothing(alloc, Told::NoMemory),
+    }
+}
+
+/// Waits for a program, and tells how it ended. It is killed before where its streams weren't read to their ends.
+fn wait_for(mut child: Child<SystemProcess>, told: Told) -> Option<Finish> {
+    if told != Told::Whole {
+        let _ = child.kill();
+    }
+    match child.wait() {
+        Ok(status) => finish_of(status),
+        Err(_) => None,
+    }
+}
+
+/// The reply to a program that ended so.
+fn reply_to(streams: Streams, finish: Option<Finish>, limit: u64) -> Result<Reply, NoMemory>
+    requires { streams.told ≡ Told.Whole → (length streams.out ≤ limit) × (length streams.err ≤ limit) }
+    ensures { IfOk result (λ reply. fits_program limit reply ≡ true) }
+{
+    let Streams { told, out, err } = streams;
+    reply_of(told, finish, out, err, limit)
 }

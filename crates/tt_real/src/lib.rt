@@ -4,9 +4,13 @@
 #![tactic(auto)]
 
 mod child;
+mod command;
 mod crew;
+mod disk;
 mod files;
+mod input;
 mod reader;
+mod told;
 mod tree;
 mod writer;
 

@@ -1,6 +1,7 @@
 //! The system's folders.
 ghost use Rattle.std.specs.Prelude.{◌≡◌, ◌≢◌, ◌≤◌, Err, IfOk, None, length};
-ghost use Rattle.tt_real.specs.RealTree.{tree_base, tree_faults};
+ghost use Rattle.std.specs.IoError.{error_kind};
+ghost use Rattle.tt_real.specs.RealTree.{asked_path, from_base, kept_item, tree_base, tree_fault, tree_faults};
 
 use crate::files::read_whole;
 use std::alloc::{AllocError, Global};
@@ -50,14 +51,37 @@ impl<R> StdTree<R> {
 
     /// The path by which the system is asked for another.
     fn asked<'a>(&'a self, path: &'a [u8]) -> &'a [u8] {
-        if !self.is_current {
-            return path;
+        asked_path(self.is_current, self.base.as_slice(), path)
+    }
+}
+
+/// The path by which the system is asked for another, where the base is the current directory or isn't.
+fn asked_path<'a>(is_current: bool, base: &[u8], path: &'a [u8]) -> &'a [u8]
+    ensures { result.now ≡ asked_path is_current base.now path.now }
+{
+    if !is_current {
+        return path;
+    }
+    match path.strip_prefix(base) {
+        Some(behind) => from_base(path, behind),
+        None => path,
+    }
+}
+
+/// A path from the base, by what stands behind the base in it.
+fn from_base<'a>(path: &'a [u8], behind: &'a [u8]) -> &'a [u8]
+    ensures { result.now ≡ from_base path.now behind.now }
+{
+    match behind {
+        [] => b".",
+        [byte, next, ..] => {
+            if *byte == b'/' && *next != b'/' {
+                &behind[1..]
+            } else {
+                path
+            }
         }
-        match path.strip_prefix(self.base.as_slice()) {
-            Some([]) => b".",
-            Some([b'/', next, ..]) if *next != b'/' => &path[self.base.len() + 1..],
-            _ => path,
-        }
+        _ => path,
     }
 }
 
@@ -91,6 +115,7 @@ impl<R: rt::Files> Tree for StdTree<R> {
 
 /// What an error of the system means. A path through a file isn't found.
 fn fault_of(error: &Error) -> TreeFault
+    ensures exact { result ≡ tree_fault (error_kind error.now) }
     ensures large { result ≢ TreeFault.TooLarge }
     ensures file { result ≢ TreeFault.NotDirectory }
 {
@@ -264,17 +289,25 @@ fn add_items<R: rt::Files>(
         if path.push_str(front).is_err() || path.push_str(text).is_err() {
             return Err(TreeFault::NoMemory);
         }
-        match item_of(rt, alloc, name, path.as_str()) {
-            Ok(item) => {
-                if items.push((front_of(name), item)).is_err() {
-                    return Err(TreeFault::NoMemory);
-                }
-            }
-            Err(TreeFault::Missing) => {}
-            Err(fault) => return Err(fault),
+        let Some(item) = kept_item(item_of(rt, alloc, name, path.as_str()))? else {
+            continue;
+        };
+        if items.push((front_of(name), item)).is_err() {
+            return Err(TreeFault::NoMemory);
         }
     }
     Ok(())
+}
+
+/// An item of a folder, left out where it isn't found any more.
+fn kept_item(answer: Result<Item, TreeFault>) -> Result<Option<Item>, TreeFault>
+    ensures { result ≡ kept_item answer }
+{
+    match answer {
+        Ok(item) => Ok(Some(item)),
+        Err(TreeFault::Missing) => Ok(None),
+        Err(fault) => Err(fault),
+    }
 }
 
 /// An item of a folder.

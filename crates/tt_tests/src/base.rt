@@ -75,21 +75,31 @@ fn lists_grow_as_far_as_there_is_memory(rt: HostRuntime) -> Result<(), NoMemory>
 fn is_bytes_again(alloc: Global, text: &[u8]) -> Result<bool, NoMemory> {
     let mut bytes = Bytes::with_capacity(alloc, 2)?;
     bytes.append(text)?;
-    let again = Bytes::from_vec(bytes.into_vec());
-    Ok(again.len() == text.len() && again.as_slice() == text)
+    Ok(is_text(Bytes::from_vec(bytes.into_vec()), text))
+}
+
+fn is_text(bytes: Bytes, text: &[u8]) -> bool {
+    bytes.len() == text.len() && bytes.as_slice() == text
 }
 
 /// The same of a list of one item.
 fn is_item_again(alloc: Global, item: u8) -> Result<bool, NoMemory> {
-    let again = Items::from_vec(one_item(alloc, item)?.into_vec());
-    Ok(again.len() == 1 && again.as_slice() == [item].as_slice())
+    Ok(is_one(Items::from_vec(one_item(alloc, item)?.into_vec()), item))
+}
+
+fn is_one(items: Items<u8>, item: u8) -> bool {
+    items.len() == 1 && items.as_slice() == [item].as_slice()
+}
+
+/// Whether new lists have nothing.
+fn are_empty(alloc: Global) -> bool {
+    Bytes::new(alloc).is_empty() && Items::<u8>::new(alloc).is_empty()
 }
 
 #[test]
 fn lists_come_from_vectors_and_go_back(rt: HostRuntime) -> Result<(), NoMemory> {
     let alloc = rt.alloc();
-    assert!(rt; Bytes::new(alloc).is_empty());
-    assert!(rt; Items::<u8>::new(alloc).is_empty());
+    assert!(rt; are_empty(alloc));
     assert!(rt; is_bytes_again(alloc, b"ab")?);
     assert!(rt; is_item_again(alloc, 7)?);
     let span = Span::of(3, 2);

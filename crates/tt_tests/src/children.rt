@@ -2,10 +2,20 @@
 use crate::rows::three;
 use std::alloc::{AllocError, Global};
 use tt_base::{Bytes, Items, NoMemory};
-use tt_outside::{Crew, Finish, Reply, Request, Runner, Stream};
+use tt_outside::{Crew, Finish, Pair, Reply, Request, Runner, Stream};
 use tt_real::StdCrew;
 
-/// A request to run a program: its words, with a comma and a blank between them.
+/// A variable.
+fn pair(alloc: Global) -> Result<Items<Pair>, NoMemory> {
+    let mut env = Items::new(alloc);
+    env.push(Pair {
+        name: Bytes::from_slice(alloc, b"A")?,
+        value: Bytes::from_slice(alloc, b"b c")?,
+    })?;
+    Ok(env)
+}
+
+/// A request to run a program: its words, with a comma and a blank between them. It runs in the root, with a variable more.
 fn spawn(alloc: Global, program: &str, input: &[u8], limit: u64) -> Result<Request, NoMemory> {
     let mut words = Items::new(alloc);
     for word in program.split(", ") {
@@ -13,8 +23,8 @@ fn spawn(alloc: Global, program: &str, input: &[u8], limit: u64) -> Result<Reque
     }
     Ok(Request::Spawn {
         words,
-        dir: Bytes::from_slice(alloc, b".")?,
-        env: Items::new(alloc),
+        dir: Bytes::from_slice(alloc, b"/")?,
+        env: pair(alloc)?,
         input: Bytes::from_slice(alloc, input)?,
         limit,
     })
@@ -115,8 +125,12 @@ const FED: &str = "true => 1048576 => 10 => code 0 0 0
 cat => 1048576 => 1048576 => code 0 1048576 0
 sh, -c, cat; echo e >&2 => 2 => 10 => code 0 2 2
 cat => 1048576 => 10 => too much output 0 0 0
-yes => 0 => 65536 => too much output 0 0 0
-sh, -c, exec yes >&2 => 0 => 65536 => too many errors 0 0 0
+sh, -c, head -c 4096 => 4096 => 4096 => code 0 4096 0
+sh, -c, cat >&2; echo a => 4097 => 4097 => code 0 2 4097
+sh, -c, head -c 200000 /dev/zero >&2; cat => 200000 => 200000 => code 0 200000 200000
+sh, -c, exec 3<&0; sleep 99 <&3 3<&- >&- 2>&- & echo a => 200000 => 10 => code 0 2 0
+sh, -c, head -c 11 /dev/zero >&2; head -c 11 /dev/zero => 0 => 10 => too much output 0 0 0
+sh, -c, test $(pwd) = / -a -n \"$PATH\" -a \"$A\" = 'b c' => 0 => 0 => code 0 0 0
 no-such-program => 0 => 10 => missing 0 0 0";
 
 #[test]
@@ -144,12 +158,20 @@ fn the_end_of_a_child_is_told(rt: HostRuntime) -> Result<(), NoMemory> {
     Ok(())
 }
 
-/// A child that tells whether its parent has few descriptors and few children.
-const FEW_ARE_OPEN: &str =
-    "sh, -c, test $(ls /proc/$PPID/fd | wc -l) -lt 64 -a $(cat /proc/$PPID/task/*/children 2> /dev/null | wc -w) -lt 64";
+/// A child that tells whether its parent has few descriptors and few children, once each that has ended was waited for.
+const FEW_ARE_OPEN: &str = "sh, -c, \
+for i in $(seq 100); do \
+z=$(for c in $(cat /proc/$PPID/task/*/children); do grep 'State:.Z' /proc/$c/status; done 2> /dev/null); \
+test -z \"$z\" && break; sleep 0.1; done; \
+test -z \"$z\" -a $(ls /proc/$PPID/fd | wc -l) -lt 64 -a $(cat /proc/$PPID/task/*/children 2> /dev/null | wc -w) -lt 64";
 
-/// How many programs are started: more than the descriptors that a process has by default.
-const STARTS: u64 = 10_000;
+/// How many programs are started: more than the descriptors and the children that their parent may have then.
+const STARTS: u64 = 100;
+
+/// Programs that are ended since they write too much; the last one would go on, and has a child of its own.
+const ENDED: &str = "yes => 0 => 65536 => too much output 0 0 0
+sh, -c, exec yes >&2 => 0 => 65536 => too many errors 0 0 0
+sh, -c, yes >&2 & sleep 99 => 0 => 65536 => too many errors 0 0 0";
 
 #[test]
 fn children_leave_no_descriptor_and_no_process(rt: HostRuntime) -> Result<(), NoMemory> {
@@ -158,6 +180,9 @@ fn children_leave_no_descriptor_and_no_process(rt: HostRuntime) -> Result<(), No
     for start in 0..STARTS {
         let is_fed = tells(alloc, &mut crew, "true", b"x", 10, "code 0 0 0")?;
         assert!(rt; is_fed, "start {start}");
+    }
+    for row in ENDED.lines() {
+        assert!(rt; is_told(alloc, &mut crew, row)?, "{row}");
     }
     assert!(rt; tells(alloc, &mut crew, FEW_ARE_OPEN, b"", 4096, "code 0 0 0")?);
     Ok(())

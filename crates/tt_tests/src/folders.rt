@@ -1,37 +1,39 @@
 //! The system's folders.
+use crate::paths::own_path;
 use std::alloc::{AllocError, Global};
 use std::fs::{self, Files};
-use std::io::{self, ErrorKind};
+use std::io;
 use std::os::unix;
-use std::process::Abort;
-use std::{env, process};
+use std::process::{self, Abort};
 use tt_base::Bytes;
 use tt_outside::{Item, ItemKind, Tree};
 use tt_real::StdTree;
 
-/// Makes a folder with a file `a` and a link to the folder itself.
+/// Makes a folder with a file `a`, a link to it and a link to the folder itself.
 fn make(files: &impl Files, alloc: Global, folder: &str) -> io::Result<()> {
     fs::create_dir(files, folder)?;
     let file = format!(in alloc; "{folder}/a")?;
     fs::write(files, file.as_str(), "abc")?;
+    let same = format!(in alloc; "{folder}/a.link")?;
+    unix::fs::symlink(files, "a", same.as_str())?;
     let link = format!(in alloc; "{folder}/link")?;
     unix::fs::symlink(files, folder, link.as_str())
 }
 
-/// Whether an item is the file `a`, or of neither kind and named otherwise: a link to a folder is neither.
+/// Whether an item is the file `a` or the link to it, or of neither kind and named otherwise: a link to a folder is neither.
 fn has_its_kind(item: &Item) -> bool {
     match item.kind {
-        ItemKind::File => item.name.as_slice() == b"a".as_slice(),
-        ItemKind::Other => item.name.as_slice() != b"a".as_slice(),
+        ItemKind::File => item.name.as_slice().starts_with(b"a"),
+        ItemKind::Other => item.name.as_slice() == b"link".as_slice(),
         ItemKind::Dir => false,
     }
 }
 
-/// Whether a folder lists two items of their kinds.
-fn lists_two<T: Tree>(alloc: Global, tree: &mut T, folder: &str) -> bool {
+/// Whether a folder lists three items of their kinds.
+fn lists_three<T: Tree>(alloc: Global, tree: &mut T, folder: &str) -> bool {
     match tree.list(alloc, folder.as_bytes()) {
         Ok(items) => match items.as_slice() {
-            [one, other] => has_its_kind(one) && has_its_kind(other),
+            [one, same, other] => has_its_kind(one) && has_its_kind(same) && has_its_kind(other),
             _ => false,
         },
         Err(_) => false,
@@ -54,9 +56,14 @@ fn is_refused<T: Tree>(
     Ok(format!(in alloc; "{listed:?} {read:?}")?.as_str() == due)
 }
 
-/// Whether the file `a` has three bytes, which are read up to a limit of as many.
-fn is_read<T: Tree>(alloc: Global, tree: &mut T, folder: &str) -> Result<bool, AllocError> {
-    let path = format!(in alloc; "{folder}/a")?;
+/// Whether a file has three bytes, which are read up to a limit of as many.
+fn is_read<T: Tree>(
+    alloc: Global,
+    tree: &mut T,
+    folder: &str,
+    name: &str,
+) -> Result<bool, AllocError> {
+    let path = format!(in alloc; "{folder}/{name}")?;
     match tree.read_all(alloc, path.as_str().as_bytes(), 3) {
         Ok(bytes) => Ok(bytes.as_slice() == b"abc".as_slice()),
         Err(_) => Ok(false),
@@ -78,24 +85,36 @@ fn see<T: Tree>(
     folder: &str,
 ) -> Result<(), AllocError> {
     assert!(rt; tree.base() == folder.as_bytes());
-    assert!(rt; lists_two(alloc, tree, folder));
+    assert!(rt; lists_three(alloc, tree, folder));
     for row in REFUSED.lines() {
         assert!(rt; is_refused(alloc, tree, folder, row)?, "{row:?}");
     }
-    assert!(rt; is_read(alloc, tree, folder)?);
+    for name in ["a", "a.link", "link/a"] {
+        assert!(rt; is_read(alloc, tree, folder, name)?, "{name}");
+    }
     Ok(())
+}
+
+/// Whether the link is read where the path that words are joined to, as if it were the current directory, is a front of its path.
+fn is_beside<R: Files>(rt: R, alloc: Global, folder: &str) -> Result<bool, AllocError>
+where
+    R: Drop,
+{
+    let base = format!(in alloc; "{folder}/a")?;
+    let base = Bytes::from_slice(alloc, base.as_str().as_bytes()).or(Err(AllocError))?;
+    let mut tree = StdTree::current(rt, base);
+    is_read(alloc, &mut tree, folder, "a.link")
 }
 
 #[test]
 fn folders_are_listed_and_files_are_read(rt: HostRuntime) -> io::Result<()> {
     let alloc = rt.alloc();
-    let mut folder = env::temp_dir(&rt)?;
-    let name = format!(in alloc; "tt_real_tree_{}", process::id(rt.process()))?;
-    folder.push(name.as_str())?;
-    let folder = folder.to_str().ok_or(ErrorKind::InvalidData)?;
+    let folder = own_path(&rt, "tt_real_tree_", process::id(rt.process()), "")?;
+    let folder = folder.as_str();
     make(&rt, alloc, folder)?;
     let base = Bytes::from_slice(alloc, folder.as_bytes()).or(Err(AllocError))?;
     let mut tree = StdTree::new(rt, base);
     see(&rt, alloc, &mut tree, folder)?;
+    assert!(rt; is_beside(rt, alloc, folder)?);
     fs::remove_dir_all(&rt, folder)
 }

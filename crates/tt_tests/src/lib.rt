@@ -15,6 +15,8 @@ mod options;
 #[cfg(test)]
 mod outside;
 #[cfg(test)]
+mod paths;
+#[cfg(test)]
 mod plain;
 #[cfg(test)]
 mod rows;
@@ -28,3 +30,5 @@ mod streams;
 mod tree;
 #[cfg(test)]
 mod words;
+#[cfg(test)]
+mod written;

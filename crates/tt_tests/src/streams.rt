@@ -1,7 +1,8 @@
 //! The system's streams and files, and a reader that fails in mid-stream.
+use crate::paths::own_path;
 use std::alloc::{AllocError, Global};
 use std::io::{self, ErrorKind, Read};
-use std::{env, fs, process};
+use std::{fs, process};
 use tt_outside::{Failed, Files, Sink, Source, TakeFault, take_all, write_all};
 use tt_real::{ReaderSource, StdErr, StdFiles, StdOut, StdSource, WriterSink};
 
@@ -22,10 +23,8 @@ fn is_read<F: Files>(
 #[test]
 fn files_are_read_up_to_the_limit(rt: HostRuntime) -> io::Result<()> {
     let alloc = rt.alloc();
-    let mut path = env::temp_dir(&rt)?;
-    let name = format!(in alloc; "tt_real_{}", process::id(rt.process()))?;
-    path.push(name.as_str())?;
-    let path = path.to_str().ok_or(ErrorKind::InvalidData)?;
+    let path = own_path(&rt, "tt_real_", process::id(rt.process()), "")?;
+    let path = path.as_str();
     fs::write(&rt, path, "abc")?;
     let mut files = StdFiles::new(rt);
     let is_whole = is_read(alloc, &mut files, path, 3, b"abc")?;
@@ -39,10 +38,8 @@ fn files_are_read_up_to_the_limit(rt: HostRuntime) -> io::Result<()> {
 #[test]
 fn a_name_with_blanks_at_its_ends_is_that_name(rt: HostRuntime) -> io::Result<()> {
     let alloc = rt.alloc();
-    let mut path = env::temp_dir(&rt)?;
-    let name = format!(in alloc; " tt_real_blank_{} ", process::id(rt.process()))?;
-    path.push(name.as_str())?;
-    let path = path.to_str().ok_or(ErrorKind::InvalidData)?;
+    let path = own_path(&rt, " tt_real_blank_", process::id(rt.process()), " ")?;
+    let path = path.as_str();
     fs::write(&rt, path, "abc")?;
     let mut files = StdFiles::new(rt);
     let is_whole = is_read(alloc, &mut files, path, 3, b"abc")?;

@@ -8,7 +8,7 @@ use Rattle.check_group.specs.Changes.{IsReady}
 use Rattle.check_group.specs.Continues.{Continues, LiesIn}
 use Rattle.check_group.specs.Matches.{Fits}
 use Rattle.check_group.specs.Near.{AreFirstsOf}
-use Rattle.check_group.proofs.ContinuesLemmas.{continues_part_way, continues_ready, continues_whole, part_way_any}
+use Rattle.check_group.proofs.ContinuesLemmas.{comes_told, continues_part_way, continues_ready, continues_whole, part_way_any}
 use Rattle.check_group.proofs.GroupLemmas.{group_goes_on, group_ends_failed, group_ends, reach_lies}
 use Rattle.check_group.proofs.OrderLemmas.{order_placed}
 use Rattle.check_group.proofs.PlacedLemmas.{ends_placed}
@@ -60,9 +60,10 @@ pub returns-in-Err-clause-value : goal.returns-in-Err-clause-value
 returns-in-Err-clause-value g c =
     let a = c.args in
     let l = c.loop-index in
-    group_ends_failed a.text.now a.place l.vars l.ranges.items l.reached a.checks.now l.index
+    comes_told _ a.vars.now l.vars c.fault.result _ c.fault.ensures
+    (group_ends_failed a.text.now a.place l.vars l.ranges.items l.reached a.checks.now l.index
     (group_at a.text.now a.place a.vars.now a.checks.now) a.vars.now c.index-checks-index.result c.in-Err.kind c.loop-index-test.true
-    c.index-checks-index.is (sym c.in-Err.is ∙ c.in_ok-m.ensures.value) l.invariant.rest
+    c.index-checks-index.is (sym c.in-Err.is ∙ c.in_ok-m.ensures.value) l.invariant.rest)
 
 pub loop-index-preserved : goal.loop-index-preserved
 loop-index-preserved g c =
@@ -108,5 +109,5 @@ returns-in_err-known-clause-part_way g c =
     (continues_part_way _ _ a.vars.now a.vars.now
     (continues_whole (group_at a.text.now a.place a.vars.now a.checks.now) a.vars.now))
 
-pub earliest-requires-clause-known : goal.earliest-requires-clause-known
-earliest-requires-clause-known g c = c.loop-index.invariant.known
+pub earliest-earliest-requires-clause-known : goal.earliest-earliest-requires-clause-known
+earliest-earliest-requires-clause-known g c = c.loop-index.invariant.known

@@ -26,7 +26,7 @@ pub returns-in-None-clause-value : goal.returns-in-None-clause-value
 returns-in-None-clause-value g c =
     let a = c.args in
     let chain = c.loop-tries.invariant.chain in
-    tried_free (looked a.text.now a.vars.now a.check.now 0) a.ranges.now.items c.loop-tries.from chain.0 c.passed-at.result c.in-Ok.m
+    tried_free (looked a.context.now.text.now a.context.now.vars.now a.check.now 0) a.ranges.now.items c.loop-tries.from chain.0 c.passed-at.result c.in-Ok.m
     (sym c.in-Ok.is ∙ c.in_ok-kind.ensures.value) c.passed-at.ensures.before
     c.in-None.ensures.value
     ∙ chain.2
@@ -36,10 +36,10 @@ loop-tries-smaller g c =
     let a = c.args in
     let m = c.in-Ok.m in
     let range = c.in-Some.range in
-    let fits : Fits a.vars.now c.loop-tries.from (length a.text.now) m =
-    subst (λ met. IfOk met (Fits a.vars.now c.loop-tries.from (length a.text.now))) c.in-Ok.is c.in_ok-kind.ensures.fits in
-    let ends : range.to ≤ length a.text.now =
-    c.in-Some.ensures.within (length a.text.now) c.requires.ranges in
+    let fits : Fits a.context.now.vars.now c.loop-tries.from (length a.context.now.text.now) m =
+    subst (λ met. IfOk met (Fits a.context.now.vars.now c.loop-tries.from (length a.context.now.text.now))) c.in-Ok.is c.in_ok-kind.ensures.fits in
+    let ends : range.to ≤ length a.context.now.text.now =
+    c.in-Some.ensures.within (length a.context.now.text.now) c.requires.ranges in
     omega (arith, fits.low, c.in-Some.ensures.behind, ends)
 
 pub loop-tries-preserved : goal.loop-tries-preserved
@@ -48,12 +48,12 @@ loop-tries-preserved g c =
     let m = c.in-Ok.m in
     let range = c.in-Some.range in
     let chain = c.loop-tries.invariant.chain in
-    let fits : Fits a.vars.now c.loop-tries.from (length a.text.now) m =
-    subst (λ met. IfOk met (Fits a.vars.now c.loop-tries.from (length a.text.now))) c.in-Ok.is c.in_ok-kind.ensures.fits in
-    let ends : range.to ≤ length a.text.now =
-    c.in-Some.ensures.within (length a.text.now) c.requires.ranges in
-    let on = tried_on (looked a.text.now a.vars.now a.check.now 0) a.ranges.now.items c.loop-tries.from chain.0 c.passed-at.result
-    (length a.text.now) m range (sym c.in-Ok.is ∙ c.in_ok-kind.ensures.value) c.passed-at.ensures.before
+    let fits : Fits a.context.now.vars.now c.loop-tries.from (length a.context.now.text.now) m =
+    subst (λ met. IfOk met (Fits a.context.now.vars.now c.loop-tries.from (length a.context.now.text.now))) c.in-Ok.is c.in_ok-kind.ensures.fits in
+    let ends : range.to ≤ length a.context.now.text.now =
+    c.in-Some.ensures.within (length a.context.now.text.now) c.requires.ranges in
+    let on = tried_on (looked a.context.now.text.now a.context.now.vars.now a.check.now 0) a.ranges.now.items c.loop-tries.from chain.0 c.passed-at.result
+    (length a.context.now.text.now) m range (sym c.in-Ok.is ∙ c.in_ok-kind.ensures.value) c.passed-at.ensures.before
     c.in-Some.ensures.value (omega (arith, fits.low, c.in-Some.ensures.behind)) ends chain.1 in
     record {
       behind = omega (arith, c.loop-tries.invariant.behind, fits.low, c.in-Some.ensures.behind);

@@ -4,7 +4,7 @@ use Rattle.check_group.proofs.region.test_region.Given as goal
 
 abbrev pub invariant-loop-check : goal.invariant-loop-check
 invariant-loop-check g l = record {
-  told : l.faults ++ region l.text l.from l.vars (drop l.check-index l.nots)
-      ≡ l.fn.faults ++ region l.text l.from l.vars l.nots;
-  known : AreOf (drop l.from l.text) l.known;
+  told : l.faults ++ region l.context.text.now l.from l.context.vars.now (drop l.check-index l.nots)
+      ≡ l.fn.faults ++ region l.context.text.now l.from l.context.vars.now l.nots;
+  known : AreOf (drop l.from l.context.text.now) l.known;
 }

@@ -1,20 +1,10 @@
-use Rattle.std.proofs.Common.{◌≡◌, ◌++◌, sym, subst}
-use Rattle.check_scan.specs.Block.{block}
-use Rattle.check_scan.specs.Parts.{ending}
-use Rattle.check_scan.proofs.ClosingLemmas.{end_none, end_told}
+use Rattle.check_scan.proofs.ClosingLemmas.{ends_last, ends_there}
 use Rattle.check_scan.proofs.closing.end_block.Goals as goal
 
-pub returns-in_ok-test_region-2 : goal.returns-in_ok-test_region-2
-returns-in_ok-test_region-2 g c =
+pub returns-in_ok-test_nots : goal.returns-in_ok-test_nots
+returns-in_ok-test_nots g c =
     let a = c.args in
-    subst (λ last. c.test_region-then-last.new.faults
-    ≡ a.faults.now ++ (block a.text.now a.always.now (ending last) a.place a.pending.now a.vars.now).faults) (sym c.if-last.true)
-    (end_told a.text.now a.always.now a.pending.now a.place a.vars.now a.faults.now _ _ c.in_ok-test_region.ensures
-    c.in_ok-test_region-2.ensures)
+    ends_last a.subject.now a.pending.now a.last a.progress.now _ c.if-last.true c.in_ok-test_nots.ensures.told c.test_nots.ensures.vars
 
 pub returns-else-last : goal.returns-else-last
-returns-else-last g c =
-    let a = c.args in
-    subst (λ last. a.faults.now
-    ≡ a.faults.now ++ (block a.text.now a.always.now (ending last) a.place a.pending.now a.vars.now).faults) (sym c.if-last.false)
-    (end_none a.text.now a.always.now a.pending.now a.place a.vars.now a.faults.now)
+returns-else-last g c = ends_there c.args.subject.now c.args.pending.now c.args.last c.args.progress.now c.if-last.false

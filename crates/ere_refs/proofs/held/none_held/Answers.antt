@@ -1,4 +1,4 @@
-use Rattle.std.proofs.Common.{◌≡◌, ℕ, ◌+◌, ◌++◌, ◌∷◌, [], None, List, Option, sym, ap, ◌∙◌, arith}
+use Rattle.std.proofs.Common.{◌≡◌, ◌+◌, ◌++◌, ◌∷◌, [], None, List, Option, sym, ap, ◌∙◌, arith}
 use Rattle.std.specs.FinMap.{empty}
 use Rattle.ere_tree.specs.Captures.{caps_of}
 use Rattle.ere_tree.specs.declared.hit.Cap.{Cap}

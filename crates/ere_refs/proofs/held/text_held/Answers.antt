@@ -1,4 +1,4 @@
-use Rattle.std.proofs.Common.{◌≡◌, ℕ, Some, None, sym, ap, ◌∙◌}
+use Rattle.std.proofs.Common.{Some, None, sym, ap, ◌∙◌}
 use Rattle.ere_tree.specs.Derivation.{part}
 use Rattle.ere_refs.proofs.HeldLemmas.{at_held, set_to, unset}
 use Rattle.ere_refs.proofs.held.text_held.Goals as goal

@@ -1,7 +1,7 @@
 -- Down a tree: a group's inside, parts one behind the other, alternatives in order.
 -- Each return turns what is answered of a part into what it is of the whole, by a lemma of OverLemmas.
 -- The hard one is `over_parts-loop-back-preserved`: an end that was tried leads nowhere.
-use Rattle.std.proofs.Common.{◌≡◌, ℕ, ◌+◌, ◌-◌, ◌*◌, ◌<◌, ◌≤◌, Option, Some, None, IfSome, List, Vec, Global, length, map, false, true, true≢false, sym, ap, ◌∙◌, subst, arith}
+use Rattle.std.proofs.Common.{◌≡◌, ℕ, ◌+◌, ◌-◌, Option, Some, None, IfSome, List, length, map, true≢false, sym, ap, ◌∙◌, subst, arith}
 use Rattle.std.proofs.lemmas.List.{drop_all, length-map}
 use Rattle.std.proofs.lemmas.Result.{IfOk-weaker}
 use Rattle.std.specs.FinMap.{insert}
@@ -10,12 +10,12 @@ use Rattle.ere_places.proofs.TreesLemmas.{trees_in_map}
 use Rattle.ere_tree.proofs.ViewLemmas.{view_Cat, view_Group, view_Ref}
 use Rattle.ere_tree.specs.Captures.{Captures, caps_of}
 use Rattle.ere_tree.specs.Shape.{greatest_group_of}
-use Rattle.ere_tree.specs.Tree.{Tree, Trees, cat, alt, group, back, none, then, trees_of}
+use Rattle.ere_tree.specs.Tree.{Tree, Trees, cat, group, back, then, trees_of}
 use Rattle.ere_tree.specs.View.{view}
 use Rattle.ere_tree.specs.declared.ere.Ere.{Ere}
 use Rattle.ere_tree.specs.declared.hit.Cap.{Cap}
-use Rattle.ere_refs.proofs.OverLemmas.{Tried, both_left, both_right, first_none, held_end, nodes, nodes_at, nodes_of, not_end, not_true, one_found, one_more, one_none, over_back, over_cat, over_free, over_group, over_group_none, over_nowhere, parts_done, parts_found, parts_none, rest_none, settled_at, tried_more}
-use Rattle.ere_refs.specs.Over.{GoesOver, GoOver, HasEnds, Holding}
+use Rattle.ere_refs.proofs.OverLemmas.{both_left, both_right, first_none, held_end, nodes_at, nodes_of, not_end, not_true, one_found, one_more, one_none, over_back, over_cat, over_free, over_group, over_group_none, over_nowhere, parts_done, parts_found, parts_none, rest_none, settled_at, tried_more, tried_none, tried_past}
+use Rattle.ere_refs.specs.Over.{GoesOver, GoOver, Holding}
 use Rattle.ere_refs.specs.Settled.{all_settled, read_inside, settled}
 use Rattle.ere_refs.proofs.over.+over.Goals as goal
 use Rattle.ere_refs.proofs.over.+over.Goals.{over-in-Some, over-in-None, over_parts-in-Some-2+in_ok-found+in_default-3, over_parts-in_default-2}
@@ -102,13 +102,13 @@ over_first-returns-then-not-may_be-clause-goes t c =
 pub over_first-held_behind-requires-clause-no_refs : goal.over_first-held_behind-requires-clause-no_refs
 over_first-held_behind-requires-clause-no_refs t c =
     (held_end c.args.text.now (view c.args.ere.now) c.args.part.start c.args.part.from c.args.part.to
-    (length c.args.caps.now) c.args.caps.now c.args.ends.now c.in-Held.field-0 c.requires.ends c.in-Held.is
+    (length c.args.caps.now) c.args.caps.now c.args.ends.now c.in-Held.field-0 c.in-Held.field-1 c.requires.ends c.in-Held.is
     (sym c.may_be.ensures ∙ c.if-not-may_be.false)).0
 
 pub over_first-held_behind-requires-clause-span : goal.over_first-held_behind-requires-clause-span
 over_first-held_behind-requires-clause-span t c =
     (held_end c.args.text.now (view c.args.ere.now) c.args.part.start c.args.part.from c.args.part.to
-    (length c.args.caps.now) c.args.caps.now c.args.ends.now c.in-Held.field-0 c.requires.ends c.in-Held.is
+    (length c.args.caps.now) c.args.caps.now c.args.ends.now c.in-Held.field-0 c.in-Held.field-1 c.requires.ends c.in-Held.is
     (sym c.may_be.ensures ∙ c.if-not-may_be.false)).1
 
 pub over_first-returns-in_ok-held_behind-in-Held-clause-goes :
@@ -279,6 +279,26 @@ over_parts-loop-back-preserved t c =
           ]);
     }
 
+-- what lies past the places that are looked at is no end
+pub over_parts-loop-back-init : goal.over_parts-loop-back-init
+over_parts-loop-back-init t c =
+    let s = c.args.text.now in
+    let part = c.args.part in
+    let old = c.args.caps.now in
+    let first = view c.in-Some.first.now in
+    let others = trees_of (map view c.in-Some.others.now) in
+    record {
+      ends = c.in_ok-ends.ensures.are;
+      tried = tried_past s first others part.start part.from part.to (length old) old c.in_ok-ends.ends 0 _
+          c.in_ok-ends.ensures.are (tried_none s first others part.start part.from part.to (length old) old)
+          (λ k left low may.
+          let low' = c.between-low.ensures.low in
+          let order = c.between-low.ensures.order in
+          let high = c.between-low.ensures.high in
+          let is = c.between-low.ensures.holds k (omega (arith, left, low, low', order, high)) (omega (arith, left)) may in
+          absurd (omega (arith, low, is.1, high)));
+    }
+
 pub over_parts-returns-clause-goes : goal.over_parts-returns-clause-goes
 over_parts-returns-clause-goes t c =
     let s = c.args.text.now in
@@ -289,6 +309,13 @@ over_parts-returns-clause-goes t c =
     let others = trees_of (map view c.in-Some.others.now) in
     let trees : trees_of (map view c.args.parts.now) ≡ then first others =
     ap (λ (xs : List Ere). trees_of (map view xs)) c.in-Some.ensures.cases.0 in
+    let back = c.loop-back.back in
+    let all = part.to + 1 - part.from in
     subst (λ (us : Trees). GoOver s us part.start part.from part.to count old None) (sym trees)
-    (parts_none s first others part.start part.from part.to count old c.loop-back.back c.loop-back.invariant.tried
-    (omega (arith, c.requires.order, c.loop-back-test.false)))
+    (parts_none s first others part.start part.from part.to count old all
+    (tried_past s first others part.start part.from part.to count old c.in_ok-ends.ends back all
+    c.in_ok-ends.ensures.are c.loop-back.invariant.tried
+    (λ k left low may.
+    let is = c.between-low.ensures.holds k (omega (arith, low, c.requires.order)) (omega (arith, left)) may in
+    absurd (omega (arith, left, is.0, c.loop-back-test.false, c.between-low.ensures.order, c.between-low.ensures.high))))
+    (omega (arith, c.requires.order)))

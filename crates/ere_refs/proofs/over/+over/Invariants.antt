@@ -1,5 +1,5 @@
-use Rattle.std.proofs.Common.{◌≡◌, ◌+◌, ◌*◌, length, map}
-use Rattle.ere_tree.specs.Tree.{Tree, trees_of}
+use Rattle.std.proofs.Common.{◌+◌, ◌*◌, length, map}
+use Rattle.ere_tree.specs.Tree.{trees_of}
 use Rattle.ere_tree.specs.View.{view}
 use Rattle.ere_refs.proofs.OverLemmas.{Tried, TriedOne, nodes, nodes_of}
 use Rattle.ere_refs.specs.Over.{AreEnds}

@@ -5,7 +5,6 @@ use Rattle.std.specs.FinMap.{empty}
 use Rattle.ere_tree.proofs.CapturesLemmas.{length-caps_of}
 use Rattle.ere_tree.proofs.DerivationLemmas.{is_part}
 use Rattle.ere_tree.specs.Captures.{caps_of}
-use Rattle.ere_tree.specs.Shape.{greatest_group}
 use Rattle.ere_tree.specs.View.{view}
 use Rattle.ere_tree.specs.declared.hit.Cap.{Cap}
 use Rattle.ere_refs.specs.Over.{GoesOver}
@@ -68,8 +67,8 @@ loop-back-preserved c =
           (none_is c.in_ok-none.none.items old c.groups.result c.args.start w.as_slice.ensures.value
           c.in_ok-none.ensures)
       | else-has w ↦
-          no_end s t (view c.args.free.now) span.from span.to (span.to - back) c.in_ok-ends.ends
-          (λ i low. omega (arith, c.type_inv.slice i)) c.requires.spans c.in_ok-ends.ensures
+          no_end s t (view c.args.free.now) span.from span.to (span.to - back) c.in_ok-ends.ends.seen
+          (λ i low. omega (arith, c.type_inv.slice i)) c.requires.spans c.in_ok-ends.ensures.are
           (sym c.has.ensures ∙ w.if-has.false) (omega arith)
     ])
 

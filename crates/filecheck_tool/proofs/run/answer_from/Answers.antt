@@ -7,8 +7,7 @@ use Rattle.filecheck_tool.proofs.run.answer_from.Goals as goal
 
 pub returns-clause-answer : goal.returns-clause-answer
 returns-clause-answer g c =
-    let found = c.in_ok-outcome.ensures.value in
-    (found.0, found.1, c.in_ok-outcome.outcome, found.2, found.3, found.4, c.in_ok-answer.ensures.value)
+    (c.in_ok-outcome.outcome, c.in_ok-outcome.ensures.value, c.in_ok-answer.ensures.value)
 
 pub returns-clause-fault : goal.returns-clause-fault
 returns-clause-fault g c =

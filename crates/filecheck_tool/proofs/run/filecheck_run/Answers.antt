@@ -1,13 +1,10 @@
-use Rattle.std.proofs.Common.{sym}
 use Rattle.tt_run.specs.Run.{stream}
 use Rattle.filecheck_messages.specs.Message.{cannot_write}
 use Rattle.filecheck_tool.proofs.FaultLemmas.{fault_of_run, fault_of_streams}
 use Rattle.filecheck_tool.proofs.run.filecheck_run.Goals as goal
 
 pub returns-clause-answer : goal.returns-clause-answer
-returns-clause-answer g c =
-    let told = c.in-Ok.ensures.answer in
-    λ status. (told.0, told.1, told.2, told.3, told.4, told.5, rw (sym told.6) c.write_answer.ensures.written)
+returns-clause-answer g c status = (c.in-Ok.answer, c.in-Ok.ensures.answer, c.write_answer.ensures.written)
 
 pub returns-clause-fault : goal.returns-clause-fault
 returns-clause-fault g c =

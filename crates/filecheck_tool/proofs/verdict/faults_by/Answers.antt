@@ -4,8 +4,6 @@ use Rattle.check_group.specs.Lies.{numbers_of}
 use Rattle.filecheck_tool.proofs.LieLemmas.{offsets_lie}
 use Rattle.filecheck_tool.proofs.verdict.faults_by.Goals as goal
 
-pub returns-clause-value : goal.returns-clause-value
-returns-clause-value g c = c.in_ok-verdict.ensures.verdict.faults
-
 pub returns-clause-lie : goal.returns-clause-lie
-returns-clause-lie g c = offsets_lie (Contains (numbers_of (c.args.checks.now ++ c.args.always.now))) _ _ c.in_ok-verdict.ensures.lie
+returns-clause-lie g c =
+    offsets_lie (Contains (numbers_of (c.args.checks.now ++ c.args.subject.now.always.now))) _ _ c.in_ok-verdict.ensures.lie

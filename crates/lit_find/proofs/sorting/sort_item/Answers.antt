@@ -1,25 +1,14 @@
-use Rattle.std.proofs.Common.{ap, sym, ◌∙◌}
-use Rattle.lit_paths.specs.Paths.{path_in, text_of}
-use Rattle.lit_dirs.specs.Passing.{has_suffix, is_passed}
-use Rattle.lit_find.proofs.PathLemmas.{kept_file, left_file, name_told}
+use Rattle.std.proofs.Common.{sym, ap, subst, ◌∙◌}
+use Rattle.tt_outside.specs.TreeMap.{is_part}
+use Rattle.lit_look.specs.declared.root.SuiteRoot.{SuiteRoot}
+use Rattle.lit_find.specs.Files.{IsFiled}
+use Rattle.lit_find.proofs.FileLemmas.{filed}
 use Rattle.lit_find.proofs.sorting.sort_item.Goals as goal
 
 pub put-requires : goal.put-requires
 put-requires c =
-    let is = c.in_ok-text-in-File.ensures c.args.dir.now c.requires in
-    record { path = ap (λ text. text_of (path_in text)) is ∙ name_told c.args.dir.now c.args.item.now.name ∙ sym is }
-
-pub returns-in_ok-put-in-File-clause-files : goal.returns-in_ok-put-in-File-clause-files
-returns-in_ok-put-in-File-clause-files c =
-    c.in_ok-put-in-File.ensures
-    ∙ sym (kept_file c.args.suite.now c.args.number c.args.dir.now c.args.item.now c.in_ok-text-in-File.text
-    c.args.found.now (c.in_ok-text-in-File.ensures c.args.dir.now c.requires)
-    (c.if-is_passed.ensures ∙ ap (is_passed c.args.suite.now) c.as_slice.ensures) c.in-File.is
-    (ap (has_suffix c.args.suite.now) (sym c.as_slice-in-File.ensures) ∙ sym c.if-has_suffix.ensures))
-
-pub returns-else-has_suffix-clause-files : goal.returns-else-has_suffix-clause-files
-returns-else-has_suffix-clause-files c =
-    sym (left_file c.args.suite.now c.args.number c.args.dir.now c.args.item.now c.in_ok-text-in-File.text
-    c.args.found.now (c.in_ok-text-in-File.ensures c.args.dir.now c.requires)
-    (c.if-is_passed.ensures ∙ ap (is_passed c.args.suite.now) c.as_slice.ensures) c.in-File.is
-    (ap (has_suffix c.args.suite.now) (sym c.as_slice-in-File.ensures) ∙ sym c.if-has_suffix.ensures))
+    subst (λ (root : SuiteRoot). IsFiled (record { path = c.in_ok-path-in-File.path; suite = root }))
+    (sym c.in_ok-suite-in-File.ensures)
+    (filed c.args.root.now c.args.dir.now c.args.item.now.name c.in_ok-path-in-File.path c.requires.inside
+    (ap is_part (sym c.as_slice-then-has_suffix.ensures) ∙ sym c.is_part.ensures ∙ c.if-is_part.true)
+    (c.in_ok-path-in-File.ensures c.args.dir.now c.requires.front))

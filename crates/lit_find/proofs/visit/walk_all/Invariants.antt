@@ -1,16 +1,14 @@
-use Rattle.std.proofs.Common.{◌≡◌, List, Some}
+use Rattle.std.proofs.Common.{◌≡◌, List, Some, None}
 use Rattle.tt_outside.specs.declared.tree.Node.{Node}
 use Rattle.lit_paths.specs.Paths.{Parts}
+use Rattle.lit_look.specs.Trees.{Leaves}
 use Rattle.lit_look.specs.declared.seen.Looked.{Looked}
 use Rattle.lit_find.specs.Walk.{IsWalk, room}
 use Rattle.lit_find.proofs.visit.walk_all.Given as goal
 
 abbrev pub invariant-loop-place : goal.invariant-loop-place
 invariant-loop-place g l = record {
-  nodes : g.T.Tree.nodes l.tree ≡ g.T.Tree.nodes l.fn.tree;
-  root : g.T.Tree.root l.tree ≡ g.T.Tree.root l.fn.tree;
-  calm : g.T.Tree.faults l.tree ≡ g.T.Tree.faults l.fn.tree;
-  steady : g.T.Tree.steady l.fn.tree → g.T.Tree.steady l.tree;
+  tree : Leaves g.T.Tree.nodes g.T.Tree.root g.T.Tree.faults g.T.Tree.steady l.fn.tree l.tree None;
   walk : (nodes : List Node) (words : List Parts) (word : Parts) (first : List Looked)
       → g.T.Tree.nodes l.fn.tree ≡ Some nodes → IsWalk nodes words word first l.fn.seen l.fn.walk
       → IsWalk nodes words word first l.seen l.walk;

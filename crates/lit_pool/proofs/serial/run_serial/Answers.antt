@@ -1,12 +1,11 @@
 -- The four ways out of a run: no room for a trial, a test that met want of memory, a trial that the desk refused, and the end of the
 -- tests. Lemmas of RunLemmas give each; what is left here is which of the names holds what.
-use Rattle.std.proofs.Common.{◌≡◌, ◌+◌, ◌≤◌, ◌++◌, ◌∷◌, ◌∙◌, [], length, take, sym, ap, subst, arith}
+use Rattle.std.proofs.Common.{◌≡◌, ◌+◌, ◌++◌, ◌∷◌, ◌∙◌, [], length, ap, subst, arith}
 use Rattle.std.proofs.lemmas.List.{length-append}
 use Rattle.std.proofs.lemmas.List.Sums.{sum_by_push}
 use Rattle.lit_test.specs.declared.trial.Trial.{Trial}
-use Rattle.lit_desk.specs.Desk.{PutFrom}
-use Rattle.lit_pool.specs.Pool.{AreTrials, any_fault, sum_entries}
-use Rattle.lit_pool.proofs.RunLemmas.{are_on, begun_on, broken_on, calm_on, gave_both, put_on, room_of, stopped_alone, stopped_at}
+use Rattle.lit_round.proofs.TrialLemmas.{broken_on, calm_on}
+use Rattle.lit_pool.proofs.RunLemmas.{are_on, begun_on, gave_both, put_on, room_of, stopped_alone, stopped_at}
 use Rattle.lit_pool.proofs.serial.run_serial.Goals as goal
 
 pub returns-then-is_err-clause-stopped : goal.returns-then-is_err-clause-stopped

@@ -3,7 +3,7 @@ use Rattle.std.specs.List.{range_with_len}
 use Rattle.tt_outside.specs.Faults.{Rose}
 use Rattle.tt_outside.specs.Gave.{SameGave}
 use Rattle.lit_desk.specs.Desk.{PutFrom}
-use Rattle.lit_pool.specs.Pool.{AreTrials, any_fault, sum_entries}
+use Rattle.lit_round.specs.Trials.{AreTrials, any_fault, sum_entries}
 use Rattle.lit_pool.proofs.serial.run_serial.Given as goal
 
 abbrev pub invariant-loop-test : goal.invariant-loop-test

@@ -1,4 +1,4 @@
-use Rattle.std.proofs.Common.{◌≡◌, ◌+◌, ◌≤◌, ◌∙◌, drop, eqb, length, length-drop, take, ap, subst, sym, w8, arith}
+use Rattle.std.proofs.Common.{◌≡◌, ◌∙◌, drop, eqb, length, length-drop, take, ap, w8, arith}
 use Rattle.std.proofs.lemmas.List.{length-take}
 use Rattle.std.proofs.lemmas.Simd.{bitmask_splat, ones-mask_l}
 use Rattle.std.specs.Prelude.{count_ones}

@@ -13,6 +13,6 @@ invariant_of-self-in-Ok c =
     let named : c.into_vec.result.items ≡ text_of c.args.looked.dir = search rules in
     rw (c.push_reserved.ensures.items, c.reserve.ensures.items, c.in-Ok.ensures.entries)
     (one_more fields.held.items fields.numbers.entries fields.items (fields.items + c.len-more.result) c.args.looked
-    c.into_vec.result c.len-number.result c.self.invariant c.requires.parts c.requires.whole
+    c.into_vec.result c.len-number.result c.self.invariant c.requires.parts c.requires.root
     (subst N (sym c.self.view_is) c.requires.new) named (search rules) (ap (λ n. fields.items + n) (search rules))
     (omega (arith, count)))

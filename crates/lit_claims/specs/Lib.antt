@@ -1,0 +1,4 @@
+pub mod Claimed
+pub mod Counted
+pub mod Laws
+pub mod Seats

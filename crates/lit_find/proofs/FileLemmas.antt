@@ -1,0 +1,81 @@
+-- The tests of files.
+-- Shown: a file in a directory of a suite lies below the suite's root, and its test is right. Idea: a text tells its path.
+-- The hard one is `filed`.
+use Rattle.std.proofs.Common.{◌≡◌, ◌≢◌, true, ℕ, List, [], ◌∷◌, ◌++◌, drop, length, Some, refl, sym, ap, ◌∙◌, subst, append_assoc}
+use Rattle.std.specs.List.{list_all}
+use Rattle.std.proofs.Math.Seq.{drop-append_seam}
+use Rattle.tt_outside.specs.TreeMap.{is_part}
+use Rattle.tt_outside.specs.declared.test_data.Test.{Test}
+use Rattle.tt_outside.specs.declared.tree.Node.{Node}
+use Rattle.tt_outside.proofs.EqualLemmas.{equal_tests}
+use Rattle.lit_paths.specs.Paths.{Parts, dir_of, path_in, text_of}
+use Rattle.lit_dirs.specs.Tests.{IsTestOf}
+use Rattle.lit_look.specs.Suites.{LiesIn, nearest, rooted_at}
+use Rattle.lit_look.specs.declared.root.SuiteRoot.{SuiteRoot}
+use Rattle.lit_find.specs.Discovery.{IsTest}
+use Rattle.lit_find.specs.Files.{IsFiled, below_of, test_in}
+use Rattle.lit_find.specs.Found.{IsRight}
+use Rattle.lit_find.specs.Walk.{IsTestFile}
+use Rattle.lit_find.specs.declared.place.TestFile.{TestFile}
+use Rattle.lit_find.proofs.PathLemmas.{name_behind, path_in_word}
+use Rattle.lit_find.proofs.ReachLemmas.{one_part, parts_both}
+
+-- a name in a directory that lies in that of a suite
+pub filed : (root : SuiteRoot) (dir : Parts) (name text : List ℕ) → LiesIn root.dir dir → is_part name ≡ true
+    → text ≡ text_of (dir ++ name ∷ []) → IsFiled (record { path = text; suite = root })
+filed root dir name text lies named is =
+    subst (λ (one : List ℕ). IsFiled (record { path = one; suite = root })) (sym is) (record {
+      is = ap text_of (sym whole);
+      parts = ap (list_all is_part) whole ∙ parts;
+      some = λ none. name_behind lies.rest name (sym below ∙ none);
+    })
+  where
+    parts : list_all is_part (dir ++ name ∷ []) ≡ true
+    parts = parts_both dir (name ∷ []) lies.parts (one_part name named)
+
+    split : dir ++ name ∷ [] ≡ root.dir ++ (lies.rest ++ name ∷ [])
+    split = ap (λ path. path ++ name ∷ []) lies.is ∙ append_assoc root.dir lies.rest (name ∷ [])
+
+    below : drop (length root.dir) (path_in (text_of (dir ++ name ∷ []))) ≡ lies.rest ++ name ∷ []
+    below =
+        ap (drop (length root.dir)) (path_in_word (dir ++ name ∷ []) parts (name_behind dir name) ∙ split)
+        ∙ drop-append_seam root.dir (lies.rest ++ name ∷ [])
+
+    whole : root.dir ++ drop (length root.dir) (path_in (text_of (dir ++ name ∷ []))) ≡ dir ++ name ∷ []
+    whole = ap (λ path. root.dir ++ path) below ∙ sym split
+
+pub test_is : (file : TestFile) (test : Test) → IsFiled file
+    → IsTestOf file.suite.dir file.suite.suite (below_of file) test → test ≡ test_in file
+test_is file test is made =
+    equal_tests test (test_in file) made.named (made.file ∙ sym is.is) made.source made.work made.temps made.temporary
+    made.features made.substitutions made.tools made.environment
+
+not_behind : (xs ys : Parts) → ys ≢ [] → xs ++ ys ≢ []
+not_behind [] ys some none = some none
+not_behind (x ∷ xs) ys some none = absurd (cc)
+
+pub right_test : (nodes : List Node) (words : List Parts) (file : TestFile) → IsFiled file → IsTestFile nodes words file
+    → IsRight nodes words (test_in file)
+right_test nodes words file is tests =
+    let below = below_of file in
+    let same : path_in file.path ≡ file.suite.dir ++ below =
+    ap path_in is.is ∙ path_in_word (file.suite.dir ++ below) is.parts (not_behind file.suite.dir below is.some) in
+    record {
+      rooted = rooted_at file.suite;
+      below = below;
+      parts = is.parts;
+      suite = subst (λ path. nearest nodes (dir_of path) ≡ Some (rooted_at file.suite)) same tests.suite;
+      passes = subst (IsTest nodes words) same tests.test;
+      made = record {
+        named = refl;
+        file = is.is;
+        source = refl;
+        work = refl;
+        temps = refl;
+        temporary = refl;
+        features = refl;
+        substitutions = refl;
+        tools = refl;
+        environment = refl;
+      };
+    }

@@ -1,0 +1,97 @@
+-- Places under keys: what a map of them holds when one is put in, and what is left behind its first.
+-- Idea: a key is the parts of a path, and keys are compared as paths are.
+-- The hard one is `inserted`.
+use Rattle.std.proofs.Common.{◌≡◌, ℕ, List, [], ◌∷◌, map, Result, Ok, Err, OnOk, OnErr, refl, sym, ap, ◌∙◌, subst, All, arith}
+use Rattle.std.proofs.lemmas.List.Elements.{All-cons, All-head, All-tail}
+use Rattle.std.specs.Prelude.{Vec}
+use Rattle.std.specs.declared.alloc.Global.{Global}
+use Rattle.std.specs.BTreeMap.{insert_entry}
+use Rattle.std.specs.Cmp.Lexicographic.{slice_cmp}
+use Rattle.std.specs.Ordering.{match_ordering, nat_cmp, ordering_then}
+use Rattle.std.specs.declared.cmp.Ordering.{Ordering}
+use Rattle.std.specs.declared.cmp.Ordering.TheVariants.{Less, Equal, Greater}
+use Rattle.std.proofs.lemmas.Map.Lookups.{exact_bytes}
+use Rattle.lit_look.specs.declared.root.SuiteRoot.{SuiteRoot}
+use Rattle.lit_paths.specs.Paths.{Parts}
+use Rattle.lit_find.specs.Places.{IsBefore, IsInside, parts_cmp, parts_of, path_order, place_of_entry, put}
+
+abbrev pub Key : Type 0
+Key = Vec (Vec ℕ Global) Global
+
+abbrev pub vec_cmp : Key → Key → Ordering
+vec_cmp x y = slice_cmp (λ x y. slice_cmp nat_cmp x.items y.items) x.items y.items
+
+cmp_items : (xs ys : List (Vec ℕ Global))
+    → slice_cmp (λ x y. slice_cmp nat_cmp x.items y.items) xs ys
+    ≡ parts_cmp (map (λ part. part.items) xs) (map (λ part. part.items) ys)
+cmp_items [] [] = refl
+cmp_items [] (y ∷ ys) = refl
+cmp_items (x ∷ xs) [] = refl
+cmp_items (x ∷ xs) (y ∷ ys) = ap (ordering_then (slice_cmp nat_cmp x.items y.items)) (cmp_items xs ys)
+
+vec_cmp_is : vec_cmp ≡ (λ x y. parts_cmp (parts_of x) (parts_of y))
+vec_cmp_is = λ i x y. cmp_items x.items y.items i
+
+both_equal : (o p : Ordering) → ordering_then o p ≡ Equal → (o ≡ Equal) × (p ≡ Equal)
+both_equal Less p h = absurd (cc)
+both_equal Equal p h = (refl, h)
+both_equal Greater p h = absurd (cc)
+
+pub exact_parts : (xs ys : Parts) → parts_cmp xs ys ≡ Equal → xs ≡ ys
+exact_parts [] [] h = refl
+exact_parts [] (y ∷ ys) h = absurd (cc)
+exact_parts (x ∷ xs) [] h = absurd (cc)
+exact_parts (x ∷ xs) (y ∷ ys) h =
+    let both = both_equal (slice_cmp nat_cmp x y) (parts_cmp xs ys) h in
+    λ i. exact_bytes x y both.0 i ∷ exact_parts xs ys both.1 i
+
+put_in : (entries : List (Key × SuiteRoot)) (key : Key) (suite : SuiteRoot)
+    → map place_of_entry (insert_entry (λ x y. parts_cmp (parts_of x) (parts_of y)) entries key suite)
+    ≡ put path_order (place_of_entry (key, suite)) (map place_of_entry entries)
+put_in [] key suite = refl
+put_in (e ∷ entries) key suite = by_order (parts_cmp (parts_of key) (parts_of e.0)) refl (put_in entries key suite)
+  where
+    by_order : (o : Ordering) → parts_cmp (parts_of key) (parts_of e.0) ≡ o
+        → map place_of_entry (insert_entry (λ x y. parts_cmp (parts_of x) (parts_of y)) entries key suite)
+        ≡ put path_order (place_of_entry (key, suite)) (map place_of_entry entries)
+        → map place_of_entry (match_ordering o ((key, suite) ∷ e ∷ entries) ((e.0, suite) ∷ entries)
+        (e ∷ insert_entry (λ x y. parts_cmp (parts_of x) (parts_of y)) entries key suite))
+        ≡ match_ordering o (place_of_entry (key, suite) ∷ place_of_entry e ∷ map place_of_entry entries)
+        (place_of_entry (key, suite) ∷ map place_of_entry entries)
+        (place_of_entry e ∷ put path_order (place_of_entry (key, suite)) (map place_of_entry entries))
+    by_order Less is later = refl
+    by_order Equal is later =
+        ap (λ path. record { path = path; suite = suite } ∷ map place_of_entry entries)
+        (sym (exact_parts (parts_of key) (parts_of e.0) is))
+    by_order Greater is later = ap (λ places. place_of_entry e ∷ places) later
+
+pub inserted : (entries : List (Key × SuiteRoot)) (key : Key) (suite : SuiteRoot)
+    → map place_of_entry (insert_entry vec_cmp entries key suite)
+    ≡ put path_order (place_of_entry (key, suite)) (map place_of_entry entries)
+inserted entries key suite =
+    ap (λ cmp. map place_of_entry (insert_entry cmp entries key suite)) vec_cmp_is ∙ put_in entries key suite
+
+-- the first entry's place stands before the others
+pub least : (entries : List (Key × SuiteRoot)) (key : Key)
+    → All (λ other. vec_cmp key other ≡ Less) (map (λ e. e.0) entries)
+    → All (λ other. IsBefore (parts_of key) other.path) (map place_of_entry entries)
+least [] key low = λ k d less. absurd (omega arith)
+least (e ∷ entries) key low =
+    All-cons (λ other. IsBefore (parts_of key) other.path) (place_of_entry e) (map place_of_entry entries)
+    (sym (λ i. vec_cmp_is i key e.0) ∙ All-head (λ other. vec_cmp key other ≡ Less) e.0 (map (λ e. e.0) entries) low)
+    (least entries key (All-tail (λ other. vec_cmp key other ≡ Less) e.0 (map (λ e. e.0) entries) low))
+
+-- what is left behind the first entry
+pub first_inside : (old new : List (Key × SuiteRoot)) (key : Key) (suite : SuiteRoot) → old ≡ (key, suite) ∷ new
+    → All IsInside (map place_of_entry old)
+    → IsInside (place_of_entry (key, suite)) × All IsInside (map place_of_entry new)
+first_inside old new key suite is all =
+    let both = subst (λ entries. All IsInside (map place_of_entry entries)) is all in (
+      All-head IsInside (place_of_entry (key, suite)) (map place_of_entry new) both,
+      All-tail IsInside (place_of_entry (key, suite)) (map place_of_entry new) both,
+    )
+
+-- what holds behind a call that was done, and behind one that left all as it was
+pub either_way : {A E P Q R : Type 0} (result : Result A E) → OnOk result P → OnErr result Q → (P → R) → (Q → R) → R
+either_way (Ok value) p q from_p from_q = from_p p
+either_way (Err fault) p q from_p from_q = from_q q

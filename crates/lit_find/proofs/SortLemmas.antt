@@ -1,0 +1,78 @@
+-- Files in byte order of their paths, each once.
+-- Idea: files that are sorted and of which equal neighbours are dropped ascend, and have the paths that there were.
+-- The hard one is `in_order`.
+use Rattle.std.proofs.Common.{◌≡◌, Bool, true, List, [], ◌∷◌, map, All, refl, sym}
+use Rattle.std.specs.List.{Any, Contains, dedup}
+use Rattle.std.specs.List.Sorted.{IsPermutation, IsSortedBy, IsStrictlySortedBy}
+use Rattle.std.specs.List.{AllByRecursion}
+use Rattle.std.specs.Cmp.{eq_by_cmp_equiv}
+use Rattle.std.specs.Cmp.Lexicographic.{on_texts, slice_cmp}
+use Rattle.std.specs.Ordering.{is_eq, is_lt, nat_cmp}
+use Rattle.std.specs.declared.cmp.Ordering.{Ordering}
+use Rattle.std.specs.declared.cmp.Ordering.TheVariants.{Less, Equal, Greater}
+use Rattle.std.proofs.lemmas.List.Elements.{All-contains_itself, All-map, All-weaker}
+use Rattle.std.proofs.lemmas.List.Filters.{All-dedup}
+use Rattle.std.proofs.lemmas.List.Kept.{Any-dedup, IsStrictlySortedBy-dedup}
+use Rattle.std.proofs.lemmas.List.Sorted.{All-permutation, Contains-permutation}
+use Rattle.std.proofs.lemmas.Map.Lookups.{exact_bytes}
+use Rattle.lit_find.specs.Files.{IsFiled, test_in}
+use Rattle.lit_find.specs.Found.{IsInOrder}
+use Rattle.lit_find.specs.declared.place.TestFile.{TestFile}
+use Rattle.lit_find.proofs.ListLemmas.{any_one, contains_map, its_one}
+
+abbrev pub file_cmp : TestFile → TestFile → Ordering
+file_cmp one other = slice_cmp nat_cmp one.path other.path
+
+abbrev pub same_path : TestFile → TestFile → Bool
+same_path one other = is_eq (file_cmp one other)
+
+below_mapped : {A B : Type 0} (f : A → B) (cmp : B → B → Ordering) (x : A) (xs : List A)
+    → AllByRecursion (λ y. cmp (f x) (f y) ≡ Less) xs → AllByRecursion (λ y. cmp (f x) y ≡ Less) (map f xs)
+below_mapped f cmp x [] below = tt
+below_mapped f cmp x (y ∷ ys) (first, rest) = (first, below_mapped f cmp x ys rest)
+
+sorted_mapped : {A B : Type 0} (f : A → B) (cmp : B → B → Ordering) (xs : List A)
+    → IsStrictlySortedBy (λ x y. cmp (f x) (f y)) xs → IsStrictlySortedBy cmp (map f xs)
+unfolding IsStrictlySortedBy
+sorted_mapped f cmp [] sorted = tt
+sorted_mapped f cmp (x ∷ xs) (below, rest) = (below_mapped f cmp x xs below, sorted_mapped f cmp xs rest)
+
+equal : (o : Ordering) → is_eq o ≡ true → o ≡ Equal
+equal Equal is = refl
+equal Less is = absurd (cc)
+equal Greater is = absurd (cc)
+
+pub all_filed : (files sorted : List TestFile) → IsPermutation files sorted → All IsFiled files
+    → All IsFiled (dedup same_path sorted)
+all_filed files sorted moved filed =
+    All-dedup same_path IsFiled sorted (All-permutation IsFiled files sorted moved filed)
+
+pub in_order : (files sorted : List TestFile) → IsPermutation files sorted
+    → IsSortedBy (λ one other. is_lt (file_cmp one other)) sorted → All IsFiled files
+    → IsInOrder files (map test_in (dedup same_path sorted))
+in_order files sorted moved up filed = record {
+  ascending = sorted_mapped (λ test. test.path) (slice_cmp nat_cmp) (map test_in ordered)
+      (sorted_mapped test_in (λ one other. slice_cmp nat_cmp one.path other.path) ordered
+      (IsStrictlySortedBy-dedup {R = file_cmp} (on_texts (λ file. file.path)) (λ one other. refl) sorted up));
+  right = All-map (λ test. Any (λ file. IsFiled file × (test ≡ test_in file)) files) test_in ordered
+      (All-weaker (λ file. Contains files file × IsFiled file)
+      (λ one. Any (λ file. IsFiled file × (test_in one ≡ test_in file)) files)
+      (λ one is. any_one (λ file. IsFiled file × (test_in one ≡ test_in file)) files one is.0 (is.1, refl)) ordered
+      (All-dedup same_path (λ file. Contains files file × IsFiled file) sorted
+      (All-permutation (λ file. Contains files file × IsFiled file) files sorted moved
+      (λ k d within. (All-contains_itself files k d within, filed k d within)))));
+  whole = All-weaker (Contains files) (λ file. Any (λ test. test.path ≡ file.path) (map test_in ordered))
+      (λ file within. kept file (its_one (λ other. same_path file other ≡ true) ordered
+      (Any-dedup (eq_by_cmp_equiv {R = file_cmp} (on_texts (λ one. one.path))) sorted file
+      (Contains-permutation files sorted file moved within)))) files (All-contains_itself files);
+}
+  where
+    ordered : List TestFile
+    ordered = dedup same_path sorted
+
+    kept : (file : TestFile) → (other : TestFile) × Contains ordered other × (same_path file other ≡ true)
+        → Any (λ test. test.path ≡ file.path) (map test_in ordered)
+    kept file (other, within, same) =
+        any_one (λ test. test.path ≡ file.path) (map test_in ordered) (test_in other)
+        (contains_map test_in ordered other within)
+        (sym (exact_bytes file.path other.path (equal (file_cmp file other) same)))

@@ -1,0 +1,4 @@
+pub mod OrderLemmas
+pub mod RoundLemmas
+pub mod TrialLemmas
+pub mod WorkLemmas

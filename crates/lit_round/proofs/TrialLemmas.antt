@@ -1,0 +1,74 @@
+-- Lists of trials that grow, and what they tell of entries, numbers and faults.
+use Rattle.std.proofs.Common.{◌≡◌, ◌+◌, ◌*◌, ◌^◌, ◌≤◌, ◌||◌, ◌∙◌, ℕ, Bool, true, false, true≢false, List, [], ◌∷◌, ◌++◌, length, refl, sym, ap, arith}
+use Rattle.std.proofs.lemmas.List.{map-append}
+use Rattle.std.proofs.lemmas.List.Elements.{All-weaker}
+use Rattle.std.proofs.lemmas.List.Folds.{list_any-append}
+use Rattle.std.proofs.lemmas.List.Sums.{sum_by-append, sum_by-le}
+use Rattle.std.specs.List.{All}
+use Rattle.tt_outside.specs.Faults.{Rose}
+use Rattle.tt_outside.specs.Gave.{Gave, SameGave}
+use Rattle.tt_outside.specs.declared.test_data.Test.{Test}
+use Rattle.test_course.specs.Played.{any_broken}
+use Rattle.test_course.proofs.EntryLemmas.{AreGiven_same}
+use Rattle.lit_test.specs.declared.trial.Trial.{Trial}
+use Rattle.lit_round.specs.Trials.{IsTrialAmong, any_fault, sum_entries}
+use Rattle.lit_round.specs.Work.{numbers_of}
+
+pub numbers_both : (one other : List Trial) → numbers_of (one ++ other) ≡ numbers_of one ++ numbers_of other
+numbers_both one other = map-append (λ (t : Trial). t.number) one other
+
+pub entries_both : (one other : List Trial) → sum_entries (one ++ other) ≡ sum_entries one + sum_entries other
+entries_both one other = sum_by-append (λ (t : Trial). length t.entries) one other
+
+-- trials of the tests of a round have few entries
+pub few_entries : (gave : Gave) (first : ℕ) (tests : List Test) (trials : List Trial) → All (IsTrialAmong gave first tests) trials
+    → sum_entries trials ≤ length trials * 2 ^ 24
+few_entries gave first tests trials among =
+    sum_by-le (λ (t : Trial). length t.entries) (2 ^ 24) trials
+    (All-weaker (IsTrialAmong gave first tests) (λ t. length t.entries ≤ 2 ^ 24) (λ t is. is.few) trials among)
+
+-- of a crew that gives the same
+pub among_same : (one two : Gave) → SameGave one two → (first : ℕ) (tests : List Test) (trial : Trial)
+    → IsTrialAmong one first tests trial → IsTrialAmong two first tests trial
+among_same one two same first tests trial t = record {
+  place = t.place;
+  its = t.its;
+  at = t.at;
+  is = record {
+    number = t.is.number;
+    test = t.is.test;
+    shows = t.is.shows;
+    given = AreGiven_same one two same (first + t.place) [] trial.entries t.is.given;
+  };
+  few = t.few;
+}
+
+-- ---- faults
+
+pub fault_either : (one other : List Trial) → any_fault (one ++ other) ≡ (any_fault one || any_fault other)
+fault_either one other = list_any-append (λ (t : Trial). any_broken t.entries) one other
+
+fault_on : (xs : List Trial) (x : Trial) → any_fault (xs ++ x ∷ []) ≡ (any_fault xs || any_broken x.entries)
+fault_on xs x = fault_either xs (x ∷ []) ∙ ap (λ b. any_fault xs || b) (alone (any_broken x.entries)) where
+  alone : (p : Bool) → (p || false) ≡ p
+  alone true = refl
+  alone false = refl
+
+-- neither of two, where not one of them
+pub neither : (p q : Bool) → (p || q) ≡ false → (p ≡ false) × (q ≡ false)
+neither true q none = absurd (true≢false none)
+neither false q none = (refl, none)
+
+pub broken_on : (before mid now : ℕ) (xs : List Trial) (x : Trial) → before ≤ mid → mid ≤ now
+    → (any_fault xs ≡ true → Rose before mid) → (any_broken x.entries ≡ true → Rose mid now)
+    → any_fault (xs ++ x ∷ []) ≡ true → Rose before now
+broken_on before mid now xs x first next was is any =
+    by (any_fault xs) (any_broken x.entries) was is (sym (fault_on xs x) ∙ any) where
+      by : (p q : Bool) → (p ≡ true → Rose before mid) → (q ≡ true → Rose mid now) → (p || q) ≡ true → Rose before now
+      by true q was is any = let rose = was refl in omega (arith, next, rose)
+      by false q was is any = let rose = is any in omega (arith, first, rose)
+
+pub calm_on : (before mid now : ℕ) (xs : List Trial) (x : Trial) → (any_fault xs ≡ false → mid ≡ before)
+    → (any_broken x.entries ≡ false → now ≡ mid) → any_fault (xs ++ x ∷ []) ≡ false → now ≡ before
+calm_on before mid now xs x was is none =
+    let both = neither (any_fault xs) (any_broken x.entries) (sym (fault_on xs x) ∙ none) in is both.1 ∙ was both.0

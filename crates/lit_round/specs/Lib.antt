@@ -1,0 +1,4 @@
+pub mod Hands
+pub mod Round
+pub mod Trials
+pub mod Work

@@ -1,0 +1,74 @@
+//! A round, from hands to hands.
+ghost use Rattle.std.specs.Prelude.{◌≡◌, ◌<◌, ◌≤◌, ◌^◌, IfSome, length, map, vec_len};
+ghost use Rattle.std.specs.List.{All};
+ghost use Rattle.lit_claims.specs.Claimed.{SHARES};
+ghost use Rattle.lit_round.specs.Hands.{CanRun, IsHandOf, MAX_FIRST, MAX_ROUND, all_left, asked_by, room_of};
+ghost use Rattle.lit_round.specs.Round.{BeginsUpTo, RunsRound};
+
+use crate::team::{Team, all_work};
+use crate::worker::Shared;
+use lit_claims::{ClaimSet, Claims};
+use lit_test::Trial;
+use std::alloc::Global;
+use std::thread::Threads;
+use tt_outside::{Crew, Test};
+
+/// A round that was run: the hands, and the trials in the order of their tests, unless memory was wanting.
+#[derive(Drop)]
+pub struct Ran<H> {
+    pub hands: Vec<H>,
+    pub trials: Option<Vec<Trial>>,
+}
+
+/// Runs at most 256 tests by hands of a crew, each by one of them, the first test under the number `first`. It waits for programs.
+pub fn run_round<R: Threads + Sync, C: Crew>(
+    rt: &R,
+    alloc: Global,
+    crew: &C,
+    first: u64,
+    tests: &[Test],
+    hands: Vec<C::Hand>,
+) -> Ran<C::Hand>
+    requires workers { (0 < vec_len hands) × (vec_len hands ≤ SHARES) }
+    requires few { length tests.now ≤ MAX_ROUND }
+    requires first { first ≤ MAX_FIRST }
+    requires ready { All (CanRun C.Hand.rooms C.Hand.gave C.Hand.ready (C.gave crew.now) (length tests.now)) hands.items }
+    requires asked { asked_by C.Hand.asked hands.items < 2 ^ 62 }
+    ensures hands { All (IsHandOf C.Hand.gave C.Hand.ready (C.gave crew.now)) result.hands.items }
+    ensures rooms { map (room_of C.Hand.begun C.Hand.rooms) result.hands.items ≡ map (room_of C.Hand.begun C.Hand.rooms) hands.items }
+    ensures begun { BeginsUpTo first (length tests.now) (all_left C.Hand.begun C.Hand.asked C.Hand.faults hands.items)
+        (all_left C.Hand.begun C.Hand.asked C.Hand.faults result.hands.items) }
+    ensures trials { IfSome result.trials (λ trials. RunsRound (C.gave crew.now) first tests.now
+        (all_left C.Hand.begun C.Hand.asked C.Hand.faults hands.items)
+        (all_left C.Hand.begun C.Hand.asked C.Hand.faults result.hands.items) trials.items) }
+{
+    let Ok(ClaimSet { claims, seats }) = Claims::new(alloc, hands.len() as u32) else {
+        return Ran {
+            hands,
+            trials: None,
+        };
+    };
+    let shared = Shared {
+        claims: &claims,
+        first,
+        tests,
+    };
+    let Team {
+        hands,
+        seat,
+        mut trials,
+        whole,
+    } = all_work(rt, alloc, crew, &shared, hands, seats.into_vec());
+    claims.close(seat);
+    if !whole {
+        return Ran {
+            hands,
+            trials: None,
+        };
+    }
+    trials.sort_unstable_by_key(|trial| trial.number);
+    Ran {
+        hands,
+        trials: Some(trials),
+    }
+}

@@ -1,0 +1,122 @@
+//! All workers of a round.
+ghost use Rattle.std.specs.Prelude.{◌≡◌, ◌⊎◌, ◌+◌, ◌<◌, ◌≤◌, ◌++◌, ◌∷◌, ◌^◌, [], length, true, vec_capacity, vec_len};
+ghost use Rattle.std.specs.List.{All, sum_by};
+ghost use Rattle.std.specs.Thread.{IsSync};
+ghost use Rattle.lit_claims.specs.Seats.{IsFresh, claims_id, drawn_by, seat_id, share_of};
+ghost use Rattle.lit_round.specs.Hands.{CanRun, MAX_FIRST, MAX_ROUND, asked_by};
+ghost use Rattle.lit_round.specs.Work.{Works};
+
+use crate::worker::{Shared, Worked, work};
+use lit_claims::{ClaimSeat, Claims};
+use lit_test::Trial;
+use std::alloc::Global;
+use std::thread::{Threads, join};
+use tt_outside::Crew;
+
+/// Workers behind their round: their hands, one seat that took over what all drew, all their trials, and whether none met want of
+/// memory.
+#[derive(Drop)]
+pub(crate) struct Team<H> {
+    pub hands: Vec<H>,
+    pub seat: ClaimSeat,
+    pub trials: Vec<Trial>,
+    pub whole: bool,
+}
+
+/// A worker joins others. For want of memory its trials are let go.
+fn add<H: Drop>(claims: &Claims, mut team: Team<H>, worked: Worked<H>) -> Team<H>
+    requires own { (seat_id team.seat ≡ claims_id claims.now) × (seat_id worked.seat ≡ claims_id claims.now) }
+    requires space { vec_len team.hands < vec_capacity team.hands }
+    ensures seat { seat_id result.seat ≡ seat_id team.seat }
+    ensures share { share_of result.seat ≡ share_of team.seat + share_of worked.seat }
+    ensures drawn { drawn_by result.seat ≡ drawn_by team.seat ++ drawn_by worked.seat }
+    ensures hands { result.hands.items ≡ team.hands.items ++ worked.hand ∷ [] }
+    ensures space { vec_capacity result.hands ≡ vec_capacity team.hands }
+    ensures trials { (result.trials.items ≡ team.trials.items ++ worked.trials.items) ⊎ (result.trials.items ≡ team.trials.items) }
+    ensures whole { result.whole ≡ true → (team.whole ≡ true) × (worked.whole ≡ true)
+        × (result.trials.items ≡ team.trials.items ++ worked.trials.items) }
+{
+    let Worked {
+        hand,
+        seat,
+        mut trials,
+        whole,
+    } = worked;
+    team.hands.push_reserved(hand);
+    claims.join(&mut team.seat, seat);
+    let taken = team.trials.append(&mut trials).is_ok();
+    team.whole = team.whole & whole & taken;
+    team
+}
+
+/// A worker for each hand of a crew. One works in this thread, and each other in one of its own, or in this one where none can be had.
+pub(crate) fn all_work<R: Threads + Sync, C: Crew>(
+    rt: &R,
+    alloc: Global,
+    crew: &C,
+    shared: &Shared<'_>,
+    mut hands: Vec<C::Hand>,
+    mut seats: Vec<ClaimSeat>,
+) -> Team<C::Hand>
+    requires own { All (IsFresh (claims_id shared.now.claims.now)) seats.items }
+    requires same { length seats.items ≡ length hands.items }
+    requires some { 0 < length hands.items }
+    requires few { length shared.now.tests.now ≤ MAX_ROUND }
+    requires first { shared.now.first ≤ MAX_FIRST }
+    requires ready { All (CanRun C.Hand.rooms C.Hand.gave C.Hand.ready (C.gave crew.now) (length shared.now.tests.now)) hands.items }
+    requires asked { asked_by C.Hand.asked hands.items < 2 ^ 62 }
+    ensures seat { seat_id result.seat ≡ claims_id shared.now.claims.now }
+    ensures share { share_of result.seat ≡ sum_by share_of seats.items }
+    ensures works { Works C.Hand.begun C.Hand.asked C.Hand.faults C.Hand.rooms C.Hand.gave C.Hand.ready (C.gave crew.now)
+        shared.now.first shared.now.tests.now hands.items result.hands.items (drawn_by result.seat) result.trials.items result.whole }
+    ensures space { (vec_len result.hands ≡ vec_len hands) × (vec_capacity result.hands ≡ vec_capacity hands) }
+{
+    let Some(hand) = hands.pop() else {
+        unreachable!()
+    };
+    let Some(seat) = seats.pop() else {
+        unreachable!()
+    };
+    if hands.is_empty() {
+        let Worked {
+            hand,
+            seat,
+            trials,
+            whole,
+        } = work(alloc, shared, hand, seat);
+        hands.push_reserved(hand);
+        return Team {
+            hands,
+            seat,
+            trials,
+            whole,
+        };
+    }
+    let (worked, team) = join(
+        rt,
+        || -> Worked<C::Hand>
+            requires { (seat_id seat ≡ claims_id shared.now.claims.now) × (drawn_by seat ≡ [])
+                × (length shared.now.tests.now ≤ MAX_ROUND) × (shared.now.first ≤ MAX_FIRST)
+                × CanRun C.Hand.rooms C.Hand.gave C.Hand.ready (C.Hand.gave hand) (length shared.now.tests.now) hand
+                × (C.Hand.asked hand < 2 ^ 62) }
+            ensures { (seat_id result.seat ≡ seat_id seat) × (share_of result.seat ≡ share_of seat)
+                × Works C.Hand.begun C.Hand.asked C.Hand.faults C.Hand.rooms C.Hand.gave C.Hand.ready (C.Hand.gave hand)
+                shared.entry.now.first shared.entry.now.tests.now
+                (hand ∷ []) (result.hand ∷ []) (drawn_by result.seat) result.trials.items result.whole }
+        { work(alloc, shared, hand, seat) },
+        || -> Team<C::Hand>
+            requires { IsSync R.row × All (IsFresh (claims_id shared.now.claims.now)) seats.items
+                × (length seats.items ≡ length hands.items) × (0 < length hands.items)
+                × (length shared.now.tests.now ≤ MAX_ROUND) × (shared.now.first ≤ MAX_FIRST)
+                × All (CanRun C.Hand.rooms C.Hand.gave C.Hand.ready (C.gave crew.now) (length shared.now.tests.now)) hands.items
+                × (asked_by C.Hand.asked hands.items < 2 ^ 62) }
+            ensures { (seat_id result.seat ≡ claims_id shared.entry.now.claims.now)
+                × (share_of result.seat ≡ sum_by share_of seats.items)
+                × Works C.Hand.begun C.Hand.asked C.Hand.faults C.Hand.rooms C.Hand.gave C.Hand.ready (C.gave crew.entry.now)
+                shared.entry.now.first shared.entry.now.tests.now
+                hands.items result.hands.items (drawn_by result.seat) result.trials.items result.whole
+                × (vec_len result.hands ≡ vec_len hands) × (vec_capacity result.hands ≡ vec_capacity hands) }
+        { all_work(rt, alloc, crew, shared, hands, seats) },
+    );
+    add(shared.claims, team, worked)
+}

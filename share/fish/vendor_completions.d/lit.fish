@@ -1,0 +1,12 @@
+# Completion of lit for fish. Made by tools/pages.
+complete -c lit -s q -d 'show only what failed, without transcripts'
+complete -c lit -s v -d 'show the transcripts of tests that failed'
+complete -c lit -s a -d 'show all transcripts'
+complete -c lit -s j -l workers -x -d 'how many tests may run side by side, 1 to 64; 1 by default'
+complete -c lit -l select -x -d 'keep the tests in whose name REGEX is found'
+complete -c lit -l drop -x -d 'of those, drop the tests in whose name REGEX is found'
+complete -c lit -l num-shards -x -d 'split the tests into N parts'
+complete -c lit -l run-shard -x -d 'and run part N of them, from 1 on'
+complete -c lit -l show-tests -d 'show the names of the tests, and run none'
+complete -c lit -s h -l help -d 'print this, where it is the only word'
+complete -c lit -l version -d 'print the version, where it is the only word'
