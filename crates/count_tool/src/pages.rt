@@ -27,4 +27,4 @@ More: man count
 ";
 
 /// What `--version` writes.
-pub(crate) const VERSION: &str = "count 0.1.0 (Lubyarko, rattle-kit-13b)\n";
+pub(crate) const VERSION: &str = "count 0.1.0 (Lubyarko, rattle-kit-13f)\n";

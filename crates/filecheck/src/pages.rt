@@ -6,7 +6,8 @@ pub(crate) const HELP: &str = "usage: filecheck FILE [OPTION..] < INPUT
 Tells whether a text has what the directives of a check file ask for. The
 directives of FILE, CHECK: and its kin, are matched one after the other with
 standard input, or with the file that --input-file names. What doesn't match is
-reported on standard error, with its places in both.
+reported on standard error, with its places in both. Words in the variable
+FILECHECK_OPTS come before those of the command line.
 
 Options:
   --input-file=FILE           the file with the input; - is standard input
@@ -50,4 +51,4 @@ More: man filecheck
 ";
 
 /// What `--version` writes.
-pub(crate) const VERSION: &str = "filecheck 0.1.0 (Lubyarko, rattle-kit-13b)\n";
+pub(crate) const VERSION: &str = "filecheck 0.1.0 (Lubyarko, rattle-kit-13f)\n";

@@ -10,10 +10,23 @@ use std::env::{self, Env};
 use std::io::{self, ErrorKind};
 use std::process::ExitCode;
 use tt_base::Bytes;
-use tt_main::{Page, no_words, page_of, show_page, words};
+use tt_main::{Page, no_words, page_of, show_page, with_variable, words};
 use tt_outside::Sink;
 use tt_real::{StdCrew, StdErr, StdOut, StdTree};
 use tt_run::{answer_on, tell};
+
+/// The variable of the environment whose words stand before those of the command line.
+const VARIABLE: &str = "LIT_OPTS";
+
+/// Tells why there are no words.
+fn refused<E: Sink>(error: &io::Error, err: &mut E) -> ExitCode {
+    ExitCode::from(no_words(
+        error,
+        b"lit: error: a word isn't text\n",
+        b"lit: error: out of memory\n",
+        err,
+    ))
+}
 
 /// The path that words are joined to: that of the current directory.
 fn base<R: Env + AllocGlobal>(rt: &R) -> io::Result<Bytes> {
@@ -40,14 +53,7 @@ fn main(rt: HostRuntime) -> ExitCode {
     let mut err = StdErr::new(rt.stderr());
     let words = match words(&rt) {
         Ok(words) => words,
-        Err(error) => {
-            return ExitCode::from(no_words(
-                &error,
-                b"lit: error: a word isn't text\n",
-                b"lit: error: out of memory\n",
-                &mut err,
-            ));
-        }
+        Err(error) => return refused(&error, &mut err),
     };
     if let Some(page) = page_of(words.as_slice()) {
         let text = match page {
@@ -58,6 +64,10 @@ fn main(rt: HostRuntime) -> ExitCode {
         let fault = b"lit: error: cannot write\n";
         return ExitCode::from(show_page(text.as_bytes(), fault, &mut out, &mut err));
     }
+    let words = match with_variable(&rt, VARIABLE, words) {
+        Ok(words) => words,
+        Err(error) => return refused(&error, &mut err),
+    };
     let base = match base(&rt) {
         Ok(base) => base,
         Err(error) => return ExitCode::from(no_base(&error, &mut err)),

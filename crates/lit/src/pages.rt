@@ -5,7 +5,8 @@ pub(crate) const HELP: &str = "usage: lit PATH.. [OPTION..]
 
 Finds the tests of suites, runs their commands, and reports. A test is a file
 with RUN: lines, below a directory with a suite file lit.suite.toml. PATH is a
-directory or a test. The report is written to standard output.
+directory or a test. The report is written to standard output. Words in the
+variable LIT_OPTS come before those of the command line.
 
 Options:
   -q                          show only what failed, without transcripts
@@ -39,4 +40,4 @@ More: man lit
 ";
 
 /// What `--version` writes.
-pub(crate) const VERSION: &str = "lit 0.1.0 (Lubyarko, rattle-kit-13b)\n";
+pub(crate) const VERSION: &str = "lit 0.1.0 (Lubyarko, rattle-kit-13f)\n";

@@ -29,4 +29,4 @@ More: man not
 ";
 
 /// What `--version` writes.
-pub(crate) const VERSION: &str = "not 0.1.0 (Lubyarko, rattle-kit-13b)\n";
+pub(crate) const VERSION: &str = "not 0.1.0 (Lubyarko, rattle-kit-13f)\n";

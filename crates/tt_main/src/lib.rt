@@ -2,12 +2,14 @@
 //! the pages of its own that they ask for.
 #![tactic(auto)]
 
+mod environment;
 mod page;
 
 ghost use Rattle.std.specs.IoError.{error_kind};
 ghost use Rattle.tt_main.specs.NoWords.{NoWords};
 ghost use Rattle.tt_run.specs.Run.{stream};
 
+pub use environment::{put_before, with_variable};
 pub use page::{Page, page_of, show_page};
 use std::env::{self, Env};
 use std::io::{self, ErrorKind};
