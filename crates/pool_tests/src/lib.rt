@@ -9,6 +9,8 @@ mod demo;
 #[cfg(test)]
 mod desks;
 #[cfg(test)]
+mod gates;
+#[cfg(test)]
 mod pools;
 #[cfg(test)]
 mod reports;

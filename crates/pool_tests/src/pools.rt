@@ -1,11 +1,10 @@
 //! Tests that are run by several workers.
 use crate::demo::{Demo, demo_of};
 use crate::rows::{add, add_number, both};
-use crate::shown::add_end;
+use crate::shown::end_text;
 use lit_desk::LitDesk;
-use lit_pool::{PoolStop, run_all};
+use lit_pool::run_all;
 use lit_report::header;
-use lit_test::Trial;
 use lit_words::Detail;
 use std::alloc::Global;
 use std::sync::Wait;
@@ -83,13 +82,6 @@ fn ran<R: Threads + Wait + Sync>(
     let text = end_text(alloc, &end);
     drop(end);
     text
-}
-
-/// The trials that were put, or the stop.
-fn end_text(alloc: Global, end: &Result<Items<Trial>, PoolStop>) -> Result<Bytes, NoMemory> {
-    let mut out = Bytes::new(alloc);
-    add_end(&mut out, end)?;
-    Ok(out)
 }
 
 /// The same, and how many hands there were, and what they began and asked.
