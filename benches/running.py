@@ -35,12 +35,14 @@ config.excludes = ["inputs"]
 config.environment["PATH"] = "{path}"
 """
 
-# The floor: `floor TIMES WORD .. [| WORD ..] ..` runs a pipe so many times.
+# The floor: `floor THREADS TIMES WORD .. [| WORD ..] ..` runs a pipe so many times, in as many threads, each of which takes the next.
 FLOOR = r"""
 #define _GNU_SOURCE
 #include <fcntl.h>
 #include <poll.h>
+#include <pthread.h>
 #include <spawn.h>
+#include <stdatomic.h>
 #include <stdio.h>
 #include <stdlib.h>
 #include <string.h>
@@ -50,7 +52,10 @@ FLOOR = r"""
 
 extern char **environ;
 enum { ROOM = 5 << 20 };
-static char buffers[3][ROOM];
+static _Thread_local char *buffers[3];
+static int times, count;
+static char **words;
+static atomic_int next;
 
 // Runs a command with an input; its output goes to `out`, of which the length is the answer.
 static size_t stage(char **words, const char *in, size_t size, char *out) {
@@ -89,12 +94,13 @@ static size_t stage(char **words, const char *in, size_t size, char *out) {
     return had;
 }
 
-int main(int count, char **words) {
-    signal(SIGPIPE, SIG_IGN);
-    for (int times = atoi(words[1]); times > 0; times--) {
+static void *work(void *unused) {
+    for (int at = 0; at < 3; at++)
+        if (!(buffers[at] = malloc(ROOM))) exit(2);
+    while (atomic_fetch_add(&next, 1) < times) {
         size_t had = 0;
         int which = 0;
-        for (int at = 2; at < count;) {
+        for (int at = 0; at < count;) {
             char *command[32] = {0};
             for (int word = 0; at < count && strcmp(words[at], "|") != 0 && word < 31; word++) command[word] = words[at++];
             at++;
@@ -102,6 +108,19 @@ int main(int count, char **words) {
             which = 1 - which;
         }
     }
+    return unused;
+}
+
+int main(int given, char **all) {
+    pthread_t others[64];
+    int threads = atoi(all[1]);
+    if (threads < 1 || threads > 64) exit(2);
+    signal(SIGPIPE, SIG_IGN);
+    times = atoi(all[2]), words = all + 3, count = given - 3;
+    for (int at = 1; at < threads; at++)
+        if (pthread_create(&others[at], NULL, work, NULL)) exit(2);
+    work(NULL);
+    for (int at = 1; at < threads; at++) pthread_join(others[at], NULL);
     return 0;
 }
 """
@@ -142,7 +161,7 @@ def floor_program(top):
         return None
     source, made = os.path.join(top, "floor.c"), os.path.join(top, "floor")
     write(source, FLOOR)
-    subprocess.run([compiler, "-O2", "-o", made, source], check=True)
+    subprocess.run([compiler, "-O2", "-pthread", "-o", made, source], check=True)
     return made
 
 
@@ -185,7 +204,7 @@ def main():
         def case(title, goals, where, times, pipe):
             ours = [program, "-q", os.path.join("ours", where)]
             llvm = [sys.executable, found[0], "-q", "-j1", os.path.join("llvm", where)] if found else None
-            table_row(title, goals, [ours, [floor, str(times), *pipe] if floor else None, llvm], given.rounds)
+            table_row(title, goals, [ours, [floor, "1", str(times), *pipe] if floor else None, llvm], given.rounds)
 
         large = os.path.join("ours", "inputs", "large")
         case(f"{given.tests:,} tests `RUN: true`", ("0.35", "0.25"), "true", given.tests, ["true"])

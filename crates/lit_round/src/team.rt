@@ -1,10 +1,8 @@
 //! All workers of a round.
-ghost use Rattle.std.specs.Prelude.{◌≡◌, ◌⊎◌, ◌+◌, ◌<◌, ◌≤◌, ◌++◌, ◌∷◌, ◌^◌, [], length, true, vec_capacity, vec_len};
-ghost use Rattle.std.specs.List.{All, sum_by};
+ghost use Rattle.std.specs.Prelude.{◌≡◌, ◌⊎◌, ◌+◌, ◌<◌, ◌++◌, ◌∷◌, [], true, vec_capacity, vec_len};
 ghost use Rattle.std.specs.Thread.{IsSync};
-ghost use Rattle.lit_claims.specs.Seats.{IsFresh, claims_id, drawn_by, seat_id, share_of};
-ghost use Rattle.lit_round.specs.Hands.{CanRun, MAX_FIRST, MAX_ROUND, asked_by};
-ghost use Rattle.lit_round.specs.Work.{Works};
+ghost use Rattle.lit_claims.specs.Seats.{claims_id, drawn_by, seat_id, share_of};
+ghost use Rattle.lit_round.specs.Work.{DidJobs, HasJob, HaveJobs};
 
 use crate::worker::{Shared, Worked, work};
 use lit_claims::{ClaimSeat, Claims};
@@ -58,17 +56,9 @@ pub(crate) fn all_work<R: Threads + Sync, C: Crew>(
     mut hands: Vec<C::Hand>,
     mut seats: Vec<ClaimSeat>,
 ) -> Team<C::Hand>
-    requires own { All (IsFresh (claims_id shared.now.claims.now)) seats.items }
-    requires same { length seats.items ≡ length hands.items }
-    requires some { 0 < length hands.items }
-    requires few { length shared.now.tests.now ≤ MAX_ROUND }
-    requires first { shared.now.first ≤ MAX_FIRST }
-    requires ready { All (CanRun C.Hand.rooms C.Hand.gave C.Hand.ready (C.gave crew.now) (length shared.now.tests.now)) hands.items }
-    requires asked { asked_by C.Hand.asked hands.items < 2 ^ 62 }
-    ensures seat { seat_id result.seat ≡ claims_id shared.now.claims.now }
-    ensures share { share_of result.seat ≡ sum_by share_of seats.items }
-    ensures works { Works C.Hand.begun C.Hand.asked C.Hand.faults C.Hand.rooms C.Hand.gave C.Hand.ready (C.gave crew.now)
-        shared.now.first shared.now.tests.now hands.items result.hands.items (drawn_by result.seat) result.trials.items result.whole }
+    requires jobs { HaveJobs C.Hand.asked C.Hand.rooms C.Hand.gave C.Hand.ready (C.gave crew.now) shared.now hands.items seats.items }
+    ensures did { DidJobs C.Hand.begun C.Hand.asked C.Hand.faults C.Hand.rooms C.Hand.gave C.Hand.ready (C.gave crew.now) shared.now
+        hands.items seats.items result.hands.items result.seat result.trials.items result.whole }
     ensures space { (vec_len result.hands ≡ vec_len hands) × (vec_capacity result.hands ≡ vec_capacity hands) }
 {
     let Some(hand) = hands.pop() else {
@@ -95,26 +85,15 @@ pub(crate) fn all_work<R: Threads + Sync, C: Crew>(
     let (worked, team) = join(
         rt,
         || -> Worked<C::Hand>
-            requires { (seat_id seat ≡ claims_id shared.now.claims.now) × (drawn_by seat ≡ [])
-                × (length shared.now.tests.now ≤ MAX_ROUND) × (shared.now.first ≤ MAX_FIRST)
-                × CanRun C.Hand.rooms C.Hand.gave C.Hand.ready (C.Hand.gave hand) (length shared.now.tests.now) hand
-                × (C.Hand.asked hand < 2 ^ 62) }
-            ensures { (seat_id result.seat ≡ seat_id seat) × (share_of result.seat ≡ share_of seat)
-                × Works C.Hand.begun C.Hand.asked C.Hand.faults C.Hand.rooms C.Hand.gave C.Hand.ready (C.Hand.gave hand)
-                shared.entry.now.first shared.entry.now.tests.now
-                (hand ∷ []) (result.hand ∷ []) (drawn_by result.seat) result.trials.items result.whole }
+            requires { HasJob C.Hand.asked C.Hand.rooms C.Hand.gave C.Hand.ready shared.now hand seat }
+            ensures { DidJobs C.Hand.begun C.Hand.asked C.Hand.faults C.Hand.rooms C.Hand.gave C.Hand.ready (C.Hand.gave hand) shared.entry.now
+                (hand ∷ []) (seat ∷ []) (result.hand ∷ []) result.seat result.trials.items result.whole }
         { work(alloc, shared, hand, seat) },
         || -> Team<C::Hand>
-            requires { IsSync R.row × All (IsFresh (claims_id shared.now.claims.now)) seats.items
-                × (length seats.items ≡ length hands.items) × (0 < length hands.items)
-                × (length shared.now.tests.now ≤ MAX_ROUND) × (shared.now.first ≤ MAX_FIRST)
-                × All (CanRun C.Hand.rooms C.Hand.gave C.Hand.ready (C.gave crew.now) (length shared.now.tests.now)) hands.items
-                × (asked_by C.Hand.asked hands.items < 2 ^ 62) }
-            ensures { (seat_id result.seat ≡ claims_id shared.entry.now.claims.now)
-                × (share_of result.seat ≡ sum_by share_of seats.items)
-                × Works C.Hand.begun C.Hand.asked C.Hand.faults C.Hand.rooms C.Hand.gave C.Hand.ready (C.gave crew.entry.now)
-                shared.entry.now.first shared.entry.now.tests.now
-                hands.items result.hands.items (drawn_by result.seat) result.trials.items result.whole
+            requires { IsSync R.row
+                × HaveJobs C.Hand.asked C.Hand.rooms C.Hand.gave C.Hand.ready (C.gave crew.now) shared.now hands.items seats.items }
+            ensures { DidJobs C.Hand.begun C.Hand.asked C.Hand.faults C.Hand.rooms C.Hand.gave C.Hand.ready (C.gave crew.entry.now)
+                shared.entry.now hands.items seats.items result.hands.items result.seat result.trials.items result.whole
                 × (vec_len result.hands ≡ vec_len hands) × (vec_capacity result.hands ≡ vec_capacity hands) }
         { all_work(rt, alloc, crew, shared, hands, seats) },
     );

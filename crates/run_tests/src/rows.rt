@@ -23,28 +23,3 @@ pub(crate) fn bytes_of(alloc: Global, field: &str) -> Result<Bytes, NoMemory> {
     }
     Ok(bytes)
 }
-
-/// Adds a text.
-pub(crate) fn add(bytes: &mut Bytes, text: &str) -> Result<(), NoMemory> {
-    for byte in text.bytes() {
-        let byte = if byte == b'~' { b'\n' } else { byte };
-        bytes.append(&[byte])?;
-    }
-    Ok(())
-}
-
-/// The bytes of a text, and of another behind it.
-pub(crate) fn both(alloc: Global, first: &str, second: &str) -> Result<Bytes, NoMemory> {
-    let mut bytes = Bytes::new(alloc);
-    add(&mut bytes, first)?;
-    add(&mut bytes, second)?;
-    Ok(bytes)
-}
-
-/// Adds a number of two digits; a greater one ends so.
-pub(crate) fn add_number(bytes: &mut Bytes, number: u64) -> Result<(), NoMemory> {
-    if number >= 10 {
-        bytes.append(&[b'0' + (number / 10 % 10) as u8])?;
-    }
-    bytes.append(&[b'0' + (number % 10) as u8])
-}

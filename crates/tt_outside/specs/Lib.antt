@@ -1,5 +1,6 @@
 pub mod Faults
 pub mod Fits
+pub mod Gate
 pub mod Gave
 pub mod GivesFile
 pub mod Listing

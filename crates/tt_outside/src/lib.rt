@@ -6,6 +6,7 @@
 mod crew;
 mod equal;
 mod files;
+mod gate_crew;
 mod listing;
 mod mem_crew;
 mod mem_files;
@@ -26,6 +27,7 @@ mod tree;
 pub use crew::{Crew, Left, Runner};
 pub use equal::{pairs, texts};
 pub use files::{Files, FilesFault};
+pub use gate_crew::{GateCrew, GateHand};
 pub use listing::are_nested;
 pub use mem_crew::{MemCrew, MemHand};
 pub use mem_files::{MemFiles, Named};

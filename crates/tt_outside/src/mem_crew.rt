@@ -15,9 +15,9 @@ use tt_base::{Items, NoMemory};
 /// A hand of a crew in memory.
 #[derive(Drop)]
 pub struct MemHand {
-    plan: Arc<Items<Planned>>,
-    work: Work,
-    test: u64,
+    pub(crate) plan: Arc<Items<Planned>>,
+    pub(crate) work: Work,
+    pub(crate) test: u64,
     ghost last: { test ≡ last_of 0 (begun_by work) },
 }
 
@@ -59,7 +59,7 @@ impl Runner for MemHand {
 #[derive(Drop)]
 pub struct MemCrew {
     plan: Shared,
-    seats: Seats,
+    pub(crate) seats: Seats,
 }
 
 impl MemCrew {

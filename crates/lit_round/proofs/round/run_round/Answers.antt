@@ -6,7 +6,7 @@ use Rattle.lit_round.proofs.round.run_round.Goals as goal
 
 pub returns-clause-trials : goal.returns-clause-trials
 returns-clause-trials g c =
-    let works = c.all_work-hands.ensures.works in
+    let works = c.all_work-hands.ensures.did.works in
     let ran = c.all_work-hands.result.trials.items in
     runs_round c.args.first c.args.tests.now _ _ c.close.result _ works.begins c.close.ensures (g.C.Crew.gave c.args.crew.now) ran
     c.sort_unstable_by_key.new.self.items works.given (works.runs c.if-not-whole.false) c.sort_unstable_by_key.ensures.permutation

@@ -1,5 +1,5 @@
 //! What a report says of the results of tests, and what a desk writes of it.
-use crate::rows::{bytes_of, three};
+use crate::rows::{both, three};
 use lit_desk::{DeskStop, LitDesk, MAX_KEPT};
 use lit_report::{Reported, end_of, header, part_of, status_of};
 use lit_words::Detail;
@@ -60,7 +60,7 @@ fn test_of(alloc: Global, field: &str) -> Result<Option<Ended>, NoMemory> {
     Ok(Some(Ended {
         name,
         outcome,
-        text: bytes_of(alloc, text)?,
+        text: both(alloc, text, "")?,
     }))
 }
 
@@ -112,7 +112,7 @@ fn is_reported(alloc: Global, row: &str) -> Result<bool, NoMemory> {
     let told = report(alloc, detail_of(option), tests.as_slice())?;
     Ok(
         status_of(tests.as_slice()) == status_due
-            && told.as_slice() == bytes_of(alloc, due)?.as_slice(),
+            && told.as_slice() == both(alloc, due, "")?.as_slice(),
     )
 }
 

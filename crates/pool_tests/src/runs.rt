@@ -2,7 +2,7 @@
 use crate::demo::{Demo, demo_of};
 use crate::desks::Noted;
 use crate::rows::{add_number, both, three};
-use crate::shown::{add_end, add_left, add_status};
+use crate::shown::{add_left, add_status, end_text};
 use lit_desk::{LitDesk, MAX_KEPT};
 use lit_pool::{Desk, PoolStop, run_serial};
 use lit_report::header;
@@ -13,9 +13,8 @@ use tt_base::{Bytes, Items, NoMemory};
 use tt_outside::{Crew, MemCrew, MemSink, Test, write_all};
 
 /// The trials that were put, and the status of a run that wasn't stopped.
-fn end_text(alloc: Global, end: &Result<Items<Trial>, PoolStop>) -> Result<Bytes, NoMemory> {
-    let mut out = Bytes::new(alloc);
-    add_end(&mut out, end)?;
+fn status_text(alloc: Global, end: &Result<Items<Trial>, PoolStop>) -> Result<Bytes, NoMemory> {
+    let mut out = end_text(alloc, end)?;
     if let Ok(trials) = end {
         add_status(alloc, &mut out, trials.as_slice())?;
     }
@@ -36,7 +35,7 @@ fn ran<D: Desk>(
     let mut hand = crew.hire(alloc, room)?;
     let end = run_serial(alloc, tests, &mut hand, desk);
     crew.dismiss(hand);
-    let text = end_text(alloc, &end);
+    let text = status_text(alloc, &end);
     drop(end);
     text
 }

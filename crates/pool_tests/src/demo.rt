@@ -98,7 +98,7 @@ pub(crate) fn demo_of(alloc: Global, line: &str) -> Result<Demo, NoMemory> {
     };
     let mut number = 0;
     for field in line.split("; ") {
-        if !field.is_empty() && number < 100 {
+        if !field.is_empty() && number < 1000 {
             add_test(alloc, &mut demo, number, field)?;
             number += 1;
         }

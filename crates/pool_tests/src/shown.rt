@@ -31,10 +31,7 @@ fn why_text(why: PoolWhy) -> &'static str {
 }
 
 /// The trials that were put; of a stop, why it was, and the trial that was refused.
-pub(crate) fn add_end(
-    out: &mut Bytes,
-    end: &Result<Items<Trial>, PoolStop>,
-) -> Result<(), NoMemory> {
+fn add_end(out: &mut Bytes, end: &Result<Items<Trial>, PoolStop>) -> Result<(), NoMemory> {
     match end {
         Ok(trials) => add_trials(out, trials.as_slice()),
         Err(stop) => {
@@ -49,6 +46,16 @@ pub(crate) fn add_end(
             }
         }
     }
+}
+
+/// The trials that were put, or the stop.
+pub(crate) fn end_text(
+    alloc: Global,
+    end: &Result<Items<Trial>, PoolStop>,
+) -> Result<Bytes, NoMemory> {
+    let mut out = Bytes::new(alloc);
+    add_end(&mut out, end)?;
+    Ok(out)
 }
 
 /// The status of a run with these trials.

@@ -1,0 +1,24 @@
+//! Tests of runs: reports, what comes to a desk of a run, the numbers that workers draw, tests that are run by one hand and by several
+//! workers, and whole runs of `lit` of which a call fails.
+#![tactic(auto)]
+
+#[cfg(test)]
+mod claimed;
+#[cfg(test)]
+mod demo;
+#[cfg(test)]
+mod desks;
+#[cfg(test)]
+mod gates;
+#[cfg(test)]
+mod pools;
+#[cfg(test)]
+mod reports;
+#[cfg(test)]
+mod rows;
+#[cfg(test)]
+mod runs;
+#[cfg(test)]
+mod shown;
+#[cfg(test)]
+mod whole;
