@@ -8,8 +8,8 @@ use Rattle.check_group.specs.Lines.{behind_newline, empty_line, on_next_line, on
 use Rattle.check_group.specs.Matches.{Came, behind, if_met, looked}
 use Rattle.check_group.specs.declared.answer.Met.{Met}
 use Rattle.check_group.specs.declared.directive.Check.{Check}
-use Rattle.check_group.specs.declared.directive.LineRule.{LineRule}
-use Rattle.check_group.specs.declared.directive.LineRule.TheVariants.{Any, Next, Same, Empty}
+use Rattle.pattern_parse.specs.declared.demand.LineRule.{LineRule}
+use Rattle.pattern_parse.specs.declared.demand.LineRule.TheVariants.{Any, Next, Same, Empty}
 use Rattle.check_group.specs.declared.fault.FaultKind.{FaultKind}
 
 -- the first match of a directive behind an offset, on the line of a rule; `done` matches of it are done

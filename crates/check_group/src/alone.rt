@@ -7,11 +7,12 @@ ghost use Rattle.check_group.specs.Matches.{Fits};
 ghost use Rattle.check_group.specs.Tries.{AreFor};
 
 use crate::answer::{Matched, Met};
-use crate::directive::{Check, LineRule};
+use crate::directive::Check;
 use crate::fault::{Fault, FaultKind};
 use crate::lines::{behind_newline, empty_line, on_next_line, on_same_line};
 use crate::tries::Tries;
 use ere_auto::Steps;
+use pattern_parse::LineRule;
 use pattern_scan::Context;
 use pattern_vars::Vars;
 use std::alloc::Global;

@@ -2,39 +2,7 @@
 ghost use Rattle.std.specs.Prelude.{◌≡◌};
 
 use crate::fault::{Fault, FaultKind};
-use pattern_parse::Pattern;
-
-/// What a directive is for.
-#[derive(Clone, Copy, Debug, PartialEq, Eq)]
-pub enum Role {
-    /// It has to be met behind the match before it.
-    Sought,
-    /// It may not be met up to the next match, as a NOT.
-    Excluded,
-    /// It has to be met beside those of its role next to it, in any order, as a DAG.
-    Unordered,
-    /// It ends a block, and is sought first.
-    Label,
-}
-
-/// On which line a match has to begin, counted from the end of the match before.
-#[derive(Clone, Copy, Debug, PartialEq, Eq)]
-pub enum LineRule {
-    Any,
-    Next,
-    Same,
-    /// On the next line, which has to be empty.
-    Empty,
-}
-
-/// What a directive asks for. Each role goes with each rule and each number.
-#[derive(Clone, Copy, Debug, PartialEq, Eq)]
-pub struct Demand {
-    pub role: Role,
-    pub rule: LineRule,
-    /// How many matches it has to have, one behind the other.
-    pub times: u32,
-}
+use pattern_parse::{Demand, Pattern};
 
 /// A directive with its pattern.
 #[derive(Drop, Debug)]

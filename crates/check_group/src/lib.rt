@@ -17,7 +17,7 @@ mod tries;
 
 pub use alone::match_alone;
 pub use answer::{Matched, Met, look};
-pub use directive::{Check, Demand, LineRule, Role};
+pub use directive::Check;
 pub use fault::{Fault, FaultKind};
 pub use group::place_group;
 pub use laws::{members_apart, tries_are_a_chain};

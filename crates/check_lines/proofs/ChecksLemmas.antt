@@ -16,7 +16,8 @@ use Rattle.tt_base.specs.Place.{is_newline, line_end, place_at}
 use Rattle.tt_base.specs.declared.place.Place.{Place}
 use Rattle.check_lines.specs.Checks.{AddsLine, BeginsLine, FailIsPlaced, IsPlaced, IsRefusalOf, earlier_at, earlier_behind, join_reading}
 use Rattle.check_lines.specs.Checks.{AreDirectives as AreDirectivesBy, FailIsFirst as FailIsFirstBy, HoldBefore as HoldBeforeBy, HoldsAt as HoldsAtBy, line_at as line_at_by, read_lines as read_lines_by, read_lines_from as read_lines_from_by}
-use Rattle.check_lines.specs.Line.{IsOnLine, LiesAmong, LiesOnLine, is_earlier, read_line as read_line_by}
+use Rattle.check_lines.specs.Kind.{is_earlier}
+use Rattle.check_lines.specs.Line.{IsOnLine, LiesAmong, LiesOnLine, read_line as read_line_by}
 use Rattle.check_lines.specs.declared.directive.Directive.{Directive}
 use Rattle.check_lines.specs.declared.fault.CheckFail.{CheckFail}
 use Rattle.check_lines.specs.declared.fault.CheckFail.TheVariants.{Bad, NoMemory}

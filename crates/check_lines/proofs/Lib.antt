@@ -3,6 +3,7 @@ pub mod ChecksLemmas
 pub mod ChunkLemmas
 pub mod CutLemmas
 pub mod DecisionLemmas
+pub mod KindLemmas
 pub mod LineLemmas
 pub mod SuffixLemmas
 pub mod UnusedLemmas

@@ -5,7 +5,7 @@ use Rattle.tt_base.specs.declared.place.Place.{Place}
 use Rattle.check_lines.specs.Line.{IsOnLine, LiesOnLine}
 use Rattle.check_lines.specs.declared.directive.Directive.{Directive}
 use Rattle.check_lines.specs.declared.fault.CheckFault.{CheckFault}
-use Rattle.check_lines.specs.declared.fault.CheckKind.{CheckKind}
+use Rattle.check_lines.specs.declared.fault.LineFault.{LineFault}
 
 on_later : (number start end most at : ℕ) (place : Place) → end ≤ most → IsOnLine number start end at place
     → IsOnLine number start most at place
@@ -24,7 +24,7 @@ lies_later number start end most (Ok (Some one)) more lies = (
 lies_later number start end most (Err fault) more lies = on_later number start end most fault.at fault.place more lies
 
 -- an offset of the line is one of the text
-pub mistake_within : (mistake : Option (ℕ × CheckKind)) (start length most : ℕ) → start + length ≤ most
+pub mistake_within : (mistake : Option (ℕ × LineFault)) (start length most : ℕ) → start + length ≤ most
     → IfSome mistake (λ mistake. mistake.0 ≤ length) → IfSome mistake (λ mistake. start + mistake.0 ≤ most)
 mistake_within None start length most fits within = tt
 mistake_within (Some mistake) start length most fits within = omega (arith, fits, within)

@@ -5,13 +5,16 @@
 use Rattle.std.specs.Prelude.{◌≡◌, ◌⊎◌, ◌<◌, ◌≤◌, ⊤, ◌++◌, ℕ, zero, suc, ◌+◌, ◌-◌, ◌==◌, nat_lt, Bool, true, false, ◌&&◌, ◌||◌, not, if◌then◌else◌, List, [], ◌∷◌, take, drop, length, slice_index, All, AllPairs, Contains, Option, None, Some, Result, Ok, Err}
 use Rattle.std.specs.List.{list_any, slice_split}
 use Rattle.tt_base.specs.Place.{is_newline, line_end, place_at}
-use Rattle.check_lines.specs.Line.{fault_at, is_earlier, read_line}
+use Rattle.check_lines.specs.Kind.{is_earlier}
+use Rattle.check_lines.specs.Line.{fault_at, read_line}
+use Rattle.check_lines.specs.declared.checks.FileRules.{FileRules}
 use Rattle.check_lines.specs.declared.directive.Directive.{Directive}
 use Rattle.check_lines.specs.declared.fault.CheckFail.{CheckFail}
 use Rattle.check_lines.specs.declared.fault.CheckFail.TheVariants.{Bad, NoMemory}
 use Rattle.check_lines.specs.declared.fault.CheckFault.{CheckFault}
 use Rattle.check_lines.specs.declared.fault.CheckKind.{CheckKind}
 use Rattle.check_lines.specs.declared.fault.CheckKind.TheVariants.{NoChecks, UnusedPrefix}
+use Rattle.check_lines.specs.declared.line.Rules.{Rules}
 
 -- a line begins at an offset: at the front of the text, or behind a newline
 pub record BeginsLine (text : List ℕ) (start : ℕ) : Type 0 where
@@ -171,3 +174,38 @@ abbrev pub AddsLine : List Directive → List Directive → Bool → Result (Opt
 AddsLine old new found (Ok None) = (new ≡ old) × (found ≡ false)
 AddsLine old new found (Ok (Some one)) = (new ≡ old ++ one ∷ []) × (found ≡ is_earlier one.kind)
 AddsLine old new found (Err fault) = ⊥
+
+-- ---- the same by the code's rules
+
+abbrev pub LinesHold : Rules → List ℕ → List Directive → Type 0
+LinesHold rules text directives =
+    AreDirectives rules.prefixes.checks.prefixes.now rules.prefixes.comments.prefixes.now rules.keep_blanks text directives
+
+abbrev pub IsFirstBy : Rules → List ℕ → CheckFail → Type 0
+IsFirstBy rules text fail =
+    FailIsFirst rules.prefixes.checks.prefixes.now rules.prefixes.comments.prefixes.now rules.keep_blanks text fail
+
+abbrev pub lines_by : Rules → List ℕ → Result (List Directive) CheckFault
+lines_by rules text =
+    read_lines rules.prefixes.checks.prefixes.now rules.prefixes.comments.prefixes.now rules.keep_blanks text
+
+abbrev pub HoldBy : FileRules → List ℕ → List Directive → Type 0
+HoldBy rules text directives = AreDirectives rules.checks.now rules.comments.now rules.keep_blanks text directives
+
+abbrev pub IsDueBy : FileRules → List ℕ → CheckFail → Type 0
+IsDueBy rules text fail =
+    IsDueRefusal rules.checks.now rules.comments.now rules.allow_unused rules.keep_blanks rules.may_lack text fail
+
+abbrev pub checks_by : FileRules → List ℕ → Result (List Directive) CheckFault
+checks_by rules text =
+    read_checks rules.checks.now rules.comments.now rules.allow_unused rules.keep_blanks rules.may_lack text
+
+-- a result is that of a reading, unless memory was wanting
+abbrev pub Answers : Result (List Directive) CheckFault → Result (List Directive) CheckFail → Type 0
+Answers reading (Ok directives) = reading ≡ Ok directives
+Answers reading (Err fail) = IsRefusalOf reading fail
+
+-- the same where directives are complete as they are
+abbrev pub Completes : Result (List Directive) CheckFault → List Directive → Result (List Directive) CheckFail → Type 0
+Completes reading directives (Ok same) = (same ≡ directives) × (reading ≡ Ok directives)
+Completes reading directives (Err fail) = IsRefusalOf reading fail

@@ -4,5 +4,6 @@ pub mod Chunk
 pub mod Class
 pub mod Cut
 pub mod Decision
+pub mod Kind
 pub mod Line
 pub mod Suffix

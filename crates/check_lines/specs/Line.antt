@@ -7,16 +7,20 @@ use Rattle.tt_base.specs.Place.{span_of}
 use Rattle.tt_base.specs.declared.place.Place.{Place}
 use Rattle.check_lines.specs.Class.{has}
 use Rattle.check_lines.specs.Decision.{decide}
+use Rattle.check_lines.specs.Kind.{demand_of}
 use Rattle.check_lines.specs.declared.class.Class.TheVariants.{Blank}
 use Rattle.check_lines.specs.declared.decision.Decision.{Decision}
 use Rattle.check_lines.specs.declared.decision.Mark.{Mark}
 use Rattle.check_lines.specs.declared.decision.Mark.TheVariants.{Comment, Check}
 use Rattle.check_lines.specs.declared.directive.Directive.{Directive}
-use Rattle.pattern_parse.specs.declared.pattern.Kind.{Kind}
-use Rattle.pattern_parse.specs.declared.pattern.Kind.TheVariants.{Plain, Next, Same, Empty, Not, Dag, Label, Count}
+use Rattle.pattern_parse.specs.Demand.{asks_line, takes_none}
 use Rattle.check_lines.specs.declared.fault.CheckFault.{CheckFault}
 use Rattle.check_lines.specs.declared.fault.CheckKind.{CheckKind}
-use Rattle.check_lines.specs.declared.fault.CheckKind.TheVariants.{EmptyPattern, NonEmptyForEmpty, NoEarlierCheck}
+use Rattle.check_lines.specs.declared.fault.CheckKind.TheVariants.{Line}
+use Rattle.check_lines.specs.declared.fault.LineFault.{LineFault}
+use Rattle.check_lines.specs.declared.fault.LineFault.TheVariants.{EmptyPattern, NonEmptyForEmpty, NoEarlierCheck}
+use Rattle.check_lines.specs.declared.line.LineAt.{LineAt}
+use Rattle.check_lines.specs.declared.line.Rules.{Rules}
 use Rattle.check_lines.specs.declared.suffix.Spelling.TheVariants.{Good, Bad}
 use Rattle.check_lines.specs.declared.suffix.Spelled.{Spelled}
 
@@ -34,41 +38,6 @@ body_start keep line behind =
 -- how long the rest of a line is, without the blanks at its end unless they are kept
 abbrev pub body_length : Bool → List ℕ → ℕ
 body_length keep rest = if keep then length rest else length rest - suffix_len (has Blank) rest
-
--- ---- the kinds
-
--- whether a kind takes no body
-abbrev pub takes_none : Kind → Bool
-takes_none Empty = true
-takes_none Plain = false
-takes_none Next = false
-takes_none Same = false
-takes_none Not = false
-takes_none Dag = false
-takes_none Label = false
-takes_none (Count n) = false
-
--- whether a kind asks for an earlier match
-abbrev pub asks_earlier : Kind → Bool
-asks_earlier Next = true
-asks_earlier Same = true
-asks_earlier Empty = true
-asks_earlier Plain = false
-asks_earlier Not = false
-asks_earlier Dag = false
-asks_earlier Label = false
-asks_earlier (Count n) = false
-
--- whether a kind counts as an earlier match: each but NOT and DAG
-abbrev pub is_earlier : Kind → Bool
-is_earlier Not = false
-is_earlier Dag = false
-is_earlier Plain = true
-is_earlier Next = true
-is_earlier Same = true
-is_earlier Empty = true
-is_earlier Label = true
-is_earlier (Count n) = true
 
 -- ---- a line with a directive
 
@@ -91,16 +60,17 @@ directive number start head from count suffix index = record {
 }
 
 -- the first thing that is wrong with a directive, and where: its prefix is at `head`, its body behind `behind` at `from`
-abbrev pub mistake : Bool → Spelled → List ℕ → ℕ → ℕ → ℕ → Option (ℕ × CheckKind)
+abbrev pub mistake : Bool → Spelled → List ℕ → ℕ → ℕ → ℕ → Option (ℕ × LineFault)
 mistake earlier suffix body head behind from =
-    if not (takes_none suffix.kind) && length body == 0 then Some (behind, EmptyPattern)
-    else if takes_none suffix.kind && not (length body == 0) then Some (from, NonEmptyForEmpty)
-    else if asks_earlier suffix.kind && not earlier then Some (head, NoEarlierCheck)
+    let rule = (demand_of suffix.kind).rule in
+    if not (takes_none rule) && length body == 0 then Some (behind, EmptyPattern)
+    else if takes_none rule && not (length body == 0) then Some (from, NonEmptyForEmpty)
+    else if asks_line rule && not earlier then Some (head, NoEarlierCheck)
     else None
 
-abbrev pub unless_mistaken : ℕ → ℕ → Option (ℕ × CheckKind) → Directive → Result (Option Directive) CheckFault
+abbrev pub unless_mistaken : ℕ → ℕ → Option (ℕ × LineFault) → Directive → Result (Option Directive) CheckFault
 unless_mistaken number start None one = Ok (Some one)
-unless_mistaken number start (Some mistake) one = Err (fault_at number start mistake.0 mistake.1)
+unless_mistaken number start (Some mistake) one = Err (fault_at number start mistake.0 (Line mistake.1))
 
 -- a line with a good suffix behind the prefix at `head`, whose colon ends at `behind`
 abbrev pub checked : Bool → Bool → ℕ → ℕ → List ℕ → ℕ → ℕ → Spelled → ℕ → Result (Option Directive) CheckFault
@@ -115,7 +85,7 @@ abbrev pub marked : Bool → Bool → ℕ → ℕ → List ℕ → ℕ → Mark 
 marked keep earlier number start line head Comment = Ok None
 marked keep earlier number start line head (Check prefix (Good spelled)) =
     checked keep earlier number start line head (head + prefix.length + spelled.count) spelled prefix.index
-marked keep earlier number start line head (Check prefix (Bad kind)) = Err (fault_at number start head kind)
+marked keep earlier number start line head (Check prefix (Bad fault)) = Err (fault_at number start head (Line fault))
 
 abbrev pub decided : Bool → Bool → ℕ → ℕ → List ℕ → Option Decision → Result (Option Directive) CheckFault
 decided keep earlier number start line None = Ok None
@@ -125,6 +95,12 @@ decided keep earlier number start line (Some found) = marked keep earlier number
 abbrev pub read_line : List (List ℕ) → List (List ℕ) → Bool → Bool → ℕ → ℕ → List ℕ → Result (Option Directive) CheckFault
 read_line checks comments keep earlier number start line =
     decided keep earlier number start line (decide checks comments line)
+
+-- the same by the code's rules
+abbrev pub line_by : Rules → Bool → LineAt → List ℕ → Result (Option Directive) CheckFault
+line_by rules earlier place line =
+    read_line rules.prefixes.checks.prefixes.now rules.prefixes.comments.prefixes.now rules.keep_blanks earlier
+    place.number place.start line
 
 -- ---- where it stands
 

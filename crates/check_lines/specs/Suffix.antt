@@ -1,41 +1,17 @@
 -- What is spelled behind a check prefix.
--- After LLVM Command Guide, FileCheck, the suffixes -NEXT, -SAME, -EMPTY, -NOT, -DAG, -LABEL and -COUNT-n, and the modifier
--- {LITERAL}. Own rules: how many a COUNT may ask for, and which misspellings are refused; any other text is no directive.
+-- After LLVM Command Guide, FileCheck: the suffixes of kinds, and the modifier {LITERAL}. Own rules: how many a COUNT may ask for, and which misspellings are refused; any other text is no directive.
 use Rattle.std.specs.Prelude.{◌≤◌, ⊤, ℕ, ◌+◌, ◌-◌, ◌*◌, nat_le, Bool, true, false, ◌&&◌, ◌||◌, not, if◌then◌else◌, List, take, drop, length, fold, codes, Option, None, Some}
 use Rattle.std.specs.List.{prefix_len, suffix_len}
 use Rattle.std.specs.Str.{bytes_eq}
 use Rattle.tt_base.specs.Occurrence.{begins_with}
 use Rattle.check_lines.specs.Class.{has}
 use Rattle.check_lines.specs.declared.class.Class.TheVariants.{Blank, Digit, Modifier}
-use Rattle.pattern_parse.specs.declared.pattern.Kind.{Kind}
-use Rattle.pattern_parse.specs.declared.pattern.Kind.TheVariants.{Plain, Next, Same, Empty, Not, Dag, Label, Count}
-use Rattle.check_lines.specs.declared.fault.CheckKind.TheVariants.{BadCount, NotCombination, BadModifier}
+use Rattle.check_lines.specs.Kind.{is_not, is_other, named, suffix_of}
+use Rattle.check_lines.specs.declared.kind.Kind.{Kind}
+use Rattle.check_lines.specs.declared.kind.Kind.TheVariants.{Plain, Count}
+use Rattle.check_lines.specs.declared.fault.LineFault.TheVariants.{BadCount, NotCombination, BadModifier}
 use Rattle.check_lines.specs.declared.suffix.Spelling.{Spelling}
 use Rattle.check_lines.specs.declared.suffix.Spelling.TheVariants.{Good, Bad}
-
--- ---- its kind
-
--- the kind that is named at the front of a text, if one is
-abbrev pub named : List ℕ → Option Kind
-named text =
-    if begins_with text (codes "-NEXT") then Some Next
-    else if begins_with text (codes "-SAME") then Some Same
-    else if begins_with text (codes "-EMPTY") then Some Empty
-    else if begins_with text (codes "-NOT") then Some Not
-    else if begins_with text (codes "-DAG") then Some Dag
-    else if begins_with text (codes "-LABEL") then Some Label
-    else None
-
--- how many bytes name a kind
-abbrev pub name_length : Kind → ℕ
-name_length Plain = 0
-name_length Next = 5
-name_length Same = 5
-name_length Empty = 6
-name_length Not = 4
-name_length Dag = 4
-name_length Label = 6
-name_length (Count n) = 0
 
 -- ---- its modifier
 
@@ -91,33 +67,12 @@ counted text =
 
 -- ---- two kinds
 
--- whether a NOT can't be combined with a kind
-abbrev pub is_other : Kind → Bool
-is_other Plain = false
-is_other Next = true
-is_other Same = true
-is_other Empty = true
-is_other Not = false
-is_other Dag = true
-is_other Label = false
-is_other (Count n) = false
-
-abbrev pub is_not : Kind → Bool
-is_not Plain = false
-is_not Next = false
-is_not Same = false
-is_not Empty = false
-is_not Not = true
-is_not Dag = false
-is_not Label = false
-is_not (Count n) = false
-
 -- a kind and another behind it, and a colon
 abbrev pub combined : Kind → Option Kind → List ℕ → Option Spelling
 combined first None rest = None
 combined first (Some second) rest =
     if ((is_not first && is_other second) || (is_other first && is_not second))
-    && begins_with (drop (name_length second) rest) (codes ":")
+    && begins_with (drop (length (suffix_of second)) rest) (codes ":")
     then Some (Bad NotCombination)
     else None
 
@@ -129,8 +84,8 @@ closed_or_combined kind rest None = combined kind (named rest) rest
 abbrev pub named_suffix : Option Kind → List ℕ → Option Spelling
 named_suffix None text = closed Plain 0 text
 named_suffix (Some kind) text =
-    let rest = drop (name_length kind) text in
-    closed_or_combined kind rest (closed kind (name_length kind) rest)
+    let rest = drop (length (suffix_of kind)) text in
+    closed_or_combined kind rest (closed kind (length (suffix_of kind)) rest)
 
 -- ---- the whole
 

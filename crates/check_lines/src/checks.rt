@@ -2,60 +2,67 @@
 ghost use Rattle.std.specs.Prelude.{◌≡◌, ◌+◌, ◌<◌, ◌≤◌, ◌^◌, All, Ok, IfErr, IfOk, MatchResult, length};
 ghost use Rattle.std.specs.List.{position_from};
 ghost use Rattle.std.specs.Prelude.{not};
-ghost use Rattle.check_lines.specs.Checks.{AddsLine, AreDirectives, FailIsFirst, FailIsPlaced, FailIsWhole, IsDueRefusal, IsPlaced, IsRefusalOf, complete, read_checks, read_lines, unused_prefix, whole_fault};
-ghost use Rattle.check_lines.specs.Line.{LiesAmong, LiesOnLine, is_earlier, read_line};
+ghost use Rattle.check_lines.specs.Checks.{AddsLine, Answers, Completes, FailIsPlaced, FailIsWhole, HoldBy, IsDueBy, IsFirstBy, IsPlaced, IsRefusalOf, LinesHold, checks_by, complete, lines_by, unused_prefix, whole_fault};
+ghost use Rattle.check_lines.specs.Kind.{is_earlier};
+ghost use Rattle.check_lines.specs.Line.{LiesAmong, LiesOnLine, line_by};
 
 use crate::decision::Prefixes;
 use crate::directive::Directive;
 use crate::fault::{CheckFail, CheckFault, CheckKind};
+use crate::kind::is_earlier;
 use crate::line::{LineAt, Rules, read_line};
-use pattern_parse::Kind;
 use prefix_tree::PrefixTree;
 use std::alloc::Global;
 use tt_base::{Bytes, Items, NoMemory, Place, line_of};
 
-/// The directives of a check file's canonical text, in line order, by check prefixes and comment prefixes.
-/// `keep_blanks` makes the blanks at both ends of a body part of it; with `may_lack` there may be no directive.
+/// How a check file is read.
+#[derive(Drop)]
+pub struct FileRules<'a> {
+    /// The prefixes of directives.
+    pub checks: &'a [Bytes],
+    /// Those that hide the rest of their lines.
+    pub comments: &'a [Bytes],
+    /// One of several check prefixes may have no directive.
+    pub allow_unused: bool,
+    /// The blanks at both ends of a body are part of it.
+    pub keep_blanks: bool,
+    /// There may be no directive.
+    pub may_lack: bool,
+}
+
+/// The directives of a check file's canonical text, in line order.
 pub fn read_checks(
     alloc: Global,
+    rules: &FileRules<'_>,
     text: &[u8],
-    prefixes: &[Bytes],
-    comments: &[Bytes],
-    allow_unused: bool,
-    keep_blanks: bool,
-    may_lack: bool,
 ) -> Result<Items<Directive>, CheckFail>
     requires { length text.now ≤ 2 ^ 30 }
-    ensures by_lines { MatchResult result
-        (AreDirectives prefixes.now comments.now keep_blanks text.now)
-        (IsDueRefusal prefixes.now comments.now allow_unused keep_blanks may_lack text.now) }
-    ensures value { MatchResult result
-        (λ directives. read_checks prefixes.now comments.now allow_unused keep_blanks may_lack text.now ≡ Ok directives)
-        (λ fail. IsRefusalOf (read_checks prefixes.now comments.now allow_unused keep_blanks may_lack text.now) fail) }
-    ensures placed { MatchResult result (All (IsPlaced text.now (length prefixes.now))) (FailIsPlaced text.now) }
+    ensures by_lines { MatchResult result (HoldBy rules.now text.now) (IsDueBy rules.now text.now) }
+    ensures value { Answers (checks_by rules.now text.now) result }
+    ensures placed { MatchResult result (All (IsPlaced text.now (length rules.now.checks.now))) (FailIsPlaced text.now) }
 {
-    let rules = Rules {
+    let by_line = Rules {
         prefixes: Prefixes {
-            checks: PrefixTree::new(alloc, prefixes)?,
-            comments: PrefixTree::new(alloc, comments)?,
+            checks: PrefixTree::new(alloc, rules.checks)?,
+            comments: PrefixTree::new(alloc, rules.comments)?,
         },
-        keep_blanks,
+        keep_blanks: rules.keep_blanks,
     };
-    let directives = read_lines(alloc, text, &rules)?;
-    complete(alloc, allow_unused, may_lack, prefixes.len(), directives)
+    let directives = read_lines(alloc, text, &by_line)?;
+    complete(
+        alloc,
+        rules.allow_unused,
+        rules.may_lack,
+        rules.checks.len(),
+        directives,
+    )
 }
 
 /// What all lines hold.
 fn read_lines(alloc: Global, text: &[u8], rules: &Rules<'_>) -> Result<Items<Directive>, CheckFail>
     requires { length text.now ≤ 2 ^ 30 }
-    ensures by_lines { MatchResult result
-        (AreDirectives rules.now.prefixes.checks.prefixes.now rules.now.prefixes.comments.prefixes.now rules.now.keep_blanks text.now)
-        (FailIsFirst rules.now.prefixes.checks.prefixes.now rules.now.prefixes.comments.prefixes.now rules.now.keep_blanks text.now) }
-    ensures value { MatchResult result
-        (λ directives. read_lines rules.now.prefixes.checks.prefixes.now rules.now.prefixes.comments.prefixes.now rules.now.keep_blanks text.now
-        ≡ Ok directives)
-        (λ fail. IsRefusalOf (read_lines rules.now.prefixes.checks.prefixes.now rules.now.prefixes.comments.prefixes.now rules.now.keep_blanks text.now)
-        fail) }
+    ensures by_lines { MatchResult result (LinesHold rules.now text.now) (IsFirstBy rules.now text.now) }
+    ensures value { Answers (lines_by rules.now text.now) result }
     ensures placed { MatchResult result
         (All (IsPlaced text.now (length rules.now.prefixes.checks.prefixes.now))) (FailIsPlaced text.now) }
 {
@@ -87,14 +94,13 @@ fn add_line(
     line: &[u8],
 ) -> Result<bool, CheckFail>
     requires { place.start + length line.now ≤ 2 ^ 30 }
-    ensures ok { IfOk result (λ found. AddsLine directives.old directives.new found (read_line
-        rules.now.prefixes.checks.prefixes.now rules.now.prefixes.comments.prefixes.now rules.now.keep_blanks earlier place.number place.start line.now)) }
-    ensures err { IfErr result (λ fail. IsRefusalOf (read_line rules.now.prefixes.checks.prefixes.now rules.now.prefixes.comments.prefixes.now
-        rules.now.keep_blanks earlier place.number place.start line.now) fail) }
-    ensures lies { LiesOnLine place.number place.start (place.start + length line.now) (read_line
-        rules.now.prefixes.checks.prefixes.now rules.now.prefixes.comments.prefixes.now rules.now.keep_blanks earlier place.number place.start line.now) }
-    ensures among { LiesAmong (length rules.now.prefixes.checks.prefixes.now) (read_line
-        rules.now.prefixes.checks.prefixes.now rules.now.prefixes.comments.prefixes.now rules.now.keep_blanks earlier place.number place.start line.now) }
+    ensures ok { IfOk result (λ found. AddsLine directives.old directives.new found
+        (line_by rules.now earlier place line.now)) }
+    ensures err { IfErr result (λ fail. IsRefusalOf (line_by rules.now earlier place line.now) fail) }
+    ensures lies { LiesOnLine place.number place.start (place.start + length line.now)
+        (line_by rules.now earlier place line.now) }
+    ensures among { LiesAmong (length rules.now.prefixes.checks.prefixes.now)
+        (line_by rules.now earlier place line.now) }
 {
     match read_line(rules, earlier, place, line) {
         Ok(None) => Ok(false),
@@ -103,16 +109,6 @@ fn add_line(
             Err(_) => Err(CheckFail::NoMemory),
         },
         Err(fault) => Err(CheckFail::Bad(fault)),
-    }
-}
-
-/// Whether a kind counts as an earlier match: each but NOT and DAG.
-fn is_earlier(kind: Kind) -> bool
-    ensures { result ≡ is_earlier kind }
-{
-    match kind {
-        Kind::Not | Kind::Dag => false,
-        Kind::Plain | Kind::Next | Kind::Same | Kind::Empty | Kind::Label | Kind::Count(_) => true,
     }
 }
 
@@ -125,9 +121,7 @@ fn complete(
     directives: Items<Directive>,
 ) -> Result<Items<Directive>, CheckFail>
     requires { All (λ one. one.prefix < count) directives }
-    ensures value { MatchResult result
-        (λ same. (same ≡ directives) × (complete allow_unused may_lack count directives ≡ Ok directives))
-        (λ fail. IsRefusalOf (complete allow_unused may_lack count directives) fail) }
+    ensures value { Completes (complete allow_unused may_lack count directives) directives result }
     ensures whole { IfErr result FailIsWhole }
 {
     if directives.is_empty() && !may_lack {

@@ -1,5 +1,5 @@
 //! What a line of a check file asks for.
-use pattern_parse::Kind;
+use crate::kind::Kind;
 use tt_base::Span;
 
 /// A directive of a check file. Lines and columns count from 1, in the canonical text.

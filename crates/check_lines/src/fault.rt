@@ -1,9 +1,9 @@
 //! Why a check file is refused.
 use tt_base::{NoMemory, Place};
 
-/// What is wrong with a check file, in the order in which a line is refused.
+/// What is wrong with a line of a check file, in the order in which it is refused.
 #[derive(Clone, Copy, Debug, PartialEq, Eq)]
-pub enum CheckKind {
+pub enum LineFault {
     /// `CHECK-COUNT-0: a`, at the prefix: a COUNT asks for 1 to 100,000 matches.
     BadCount,
     /// `CHECK-NOT-NEXT: a`, at the prefix.
@@ -16,11 +16,18 @@ pub enum CheckKind {
     NonEmptyForEmpty,
     /// `CHECK-NEXT: a` before any other directive, at the prefix.
     NoEarlierCheck,
+}
+
+/// What is wrong with a check file.
+#[derive(Clone, Copy, Debug, PartialEq, Eq)]
+pub enum CheckKind {
+    Line(LineFault),
     /// No line holds a directive.
     NoChecks,
     /// No directive has the check prefix of this number, from 0.
     UnusedPrefix(usize),
 }
+
 /// What is wrong, and where.
 #[derive(Clone, Copy, Debug, PartialEq, Eq)]
 pub struct CheckFault {

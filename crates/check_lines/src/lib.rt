@@ -10,11 +10,12 @@ mod class;
 mod decision;
 mod directive;
 mod fault;
+mod kind;
 mod line;
 mod suffix;
 
 pub use canonical::{canon, canon_owned};
-pub use checks::read_checks;
+pub use checks::{FileRules, read_checks};
 pub use directive::Directive;
-pub use fault::{CheckFail, CheckFault, CheckKind};
-pub use pattern_parse::Kind;
+pub use fault::{CheckFail, CheckFault, CheckKind, LineFault};
+pub use kind::{Kind, KindRow, row_of};

@@ -1,13 +1,14 @@
 //! What one line of a check file holds.
 ghost use Rattle.std.specs.Prelude.{◌≡◌, ◌+◌, ◌<◌, ◌≤◌, ◌^◌, ℕ, Err, IfSome, Ok, Some, length};
-ghost use Rattle.check_lines.specs.Line.{LiesAmong, LiesOnLine, asks_earlier, body_length, body_start, checked, directive, fault_at, mistake, read_line, takes_none, unless_mistaken};
+ghost use Rattle.check_lines.specs.Line.{LiesAmong, LiesOnLine, body_length, body_start, checked, directive, fault_at, line_by, mistake, unless_mistaken};
+ghost use Rattle.check_lines.specs.declared.fault.CheckKind.TheVariants.{Line};
 
 use crate::class::{Class, back_length, front_length};
 use crate::decision::{Mark, Prefixes, decide};
 use crate::directive::Directive;
-use crate::fault::{CheckFault, CheckKind};
+use crate::fault::{CheckFault, CheckKind, LineFault};
+use crate::kind::row_of;
 use crate::suffix::{Spelled, Spelling};
-use pattern_parse::Kind;
 use tt_base::{Place, Span};
 
 /// How lines are read.
@@ -47,8 +48,7 @@ pub fn read_line(
     line: &[u8],
 ) -> Result<Option<Directive>, CheckFault>
     requires { place.start + length line.now ≤ 2 ^ 30 }
-    ensures value { result ≡ read_line rules.now.prefixes.checks.prefixes.now rules.now.prefixes.comments.prefixes.now rules.now.keep_blanks earlier
-        place.number place.start line.now }
+    ensures value { result ≡ line_by rules.now earlier place line.now }
     ensures lies { LiesOnLine place.number place.start (place.start + length line.now) result }
     ensures among { LiesAmong (length rules.now.prefixes.checks.prefixes.now) result }
 {
@@ -57,7 +57,7 @@ pub fn read_line(
         Some(found) => match found.mark {
             Mark::Comment => Ok(None),
             Mark::Check(prefix, spelling) => match spelling {
-                Spelling::Bad(kind) => Err(fault_at(place, found.at, kind)),
+                Spelling::Bad(fault) => Err(fault_at(place, found.at, fault)),
                 Spelling::Good(suffix) => {
                     let head = Head {
                         at: found.at,
@@ -116,7 +116,7 @@ fn directive(place: LineAt, head: Head, from: usize, count: usize) -> Directive
 
 fn unless_mistaken(
     place: LineAt,
-    mistake: Option<(usize, CheckKind)>,
+    mistake: Option<(usize, LineFault)>,
     one: Directive,
 ) -> Result<Option<Directive>, CheckFault>
     requires { IfSome mistake (λ mistake. place.start + mistake.0 ≤ 2 ^ 30) }
@@ -127,14 +127,14 @@ fn unless_mistaken(
 {
     match mistake {
         None => Ok(Some(one)),
-        Some((at, kind)) => Err(fault_at(place, at, kind)),
+        Some((at, fault)) => Err(fault_at(place, at, fault)),
     }
 }
 
 /// A fault at an offset of a line.
-fn fault_at(place: LineAt, at: usize, kind: CheckKind) -> CheckFault
+fn fault_at(place: LineAt, at: usize, fault: LineFault) -> CheckFault
     requires { place.start + at ≤ 2 ^ 30 }
-    ensures value { result ≡ fault_at place.number place.start at kind }
+    ensures value { result ≡ fault_at place.number place.start at (Line fault) }
     ensures lies { (end : ℕ) → place.start + at ≤ end → LiesOnLine place.number place.start end (Err result) }
 {
     CheckFault {
@@ -143,46 +143,25 @@ fn fault_at(place: LineAt, at: usize, kind: CheckKind) -> CheckFault
             line: place.number,
             col: at as u32 + 1,
         },
-        kind,
+        kind: CheckKind::Line(fault),
     }
 }
 
 /// The first thing that is wrong with a directive, and where in its line.
-fn mistake(earlier: bool, body: &[u8], head: Head, from: usize) -> Option<(usize, CheckKind)>
+fn mistake(earlier: bool, body: &[u8], head: Head, from: usize) -> Option<(usize, LineFault)>
     ensures value { result ≡ mistake earlier head.suffix body.now head.at head.behind from }
     ensures lies { (end : ℕ) → head.at ≤ end → head.behind ≤ end → from ≤ end
         → IfSome result (λ mistake. mistake.0 ≤ end) }
 {
-    let kind = head.suffix.kind;
-    if !takes_none(kind) && body.is_empty() {
-        Some((head.behind, CheckKind::EmptyPattern))
-    } else if takes_none(kind) && !body.is_empty() {
-        Some((from, CheckKind::NonEmptyForEmpty))
-    } else if asks_earlier(kind) && !earlier {
-        Some((head.at, CheckKind::NoEarlierCheck))
+    let rule = row_of(head.suffix.kind).demand.rule;
+    if !rule.takes_none() && body.is_empty() {
+        Some((head.behind, LineFault::EmptyPattern))
+    } else if rule.takes_none() && !body.is_empty() {
+        Some((from, LineFault::NonEmptyForEmpty))
+    } else if rule.asks_line() && !earlier {
+        Some((head.at, LineFault::NoEarlierCheck))
     } else {
         None
-    }
-}
-
-/// Whether a kind takes no body.
-fn takes_none(kind: Kind) -> bool
-    ensures { result ≡ takes_none kind }
-{
-    match kind {
-        Kind::Empty => true,
-        Kind::Plain | Kind::Next | Kind::Same | Kind::Not => false,
-        Kind::Dag | Kind::Label | Kind::Count(_) => false,
-    }
-}
-
-/// Whether a kind asks for an earlier match.
-fn asks_earlier(kind: Kind) -> bool
-    ensures { result ≡ asks_earlier kind }
-{
-    match kind {
-        Kind::Next | Kind::Same | Kind::Empty => true,
-        Kind::Plain | Kind::Not | Kind::Dag | Kind::Label | Kind::Count(_) => false,
     }
 }
 

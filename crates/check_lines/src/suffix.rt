@@ -1,10 +1,11 @@
 //! What is spelled behind a check prefix.
 ghost use Rattle.std.specs.Prelude.{◌≡◌, ◌+◌, ◌-◌, ◌≤◌, ◌^◌, ℕ, IfSome, length, min};
-ghost use Rattle.check_lines.specs.Suffix.{LiesWithin, amount, closed, closed_or_combined, combined, counted, counted_by, is_not, is_other, modifier, name_length, named, named_suffix, number_of, suffix, trimmed};
+ghost use Rattle.check_lines.specs.Kind.{is_not, suffix_of};
+ghost use Rattle.check_lines.specs.Suffix.{LiesWithin, amount, closed, closed_or_combined, combined, counted, counted_by, modifier, named_suffix, number_of, suffix, trimmed};
 
 use crate::class::{Class, back_length, front_length};
-use crate::fault::CheckKind;
-use pattern_parse::Kind;
+use crate::fault::LineFault;
+use crate::kind::{Kind, is_other, named, row_of};
 
 /// A suffix with its colon: `-NEXT:` or `-COUNT-3{LITERAL}:`.
 #[derive(Clone, Copy, Debug, PartialEq, Eq)]
@@ -19,7 +20,7 @@ pub struct Spelled {
 #[derive(Clone, Copy, Debug, PartialEq, Eq)]
 pub enum Spelling {
     Good(Spelled),
-    Bad(CheckKind),
+    Bad(LineFault),
 }
 
 /// What is spelled behind a check prefix, if anything is.
@@ -37,54 +38,16 @@ pub fn suffix(text: &[u8]) -> Option<Spelling>
     }
 }
 
-/// The kind that is named at the front of a text, if one is.
-fn named(text: &[u8]) -> Option<Kind>
-    ensures value { result ≡ named text.now }
-    ensures lies { IfSome result (λ kind. name_length kind ≤ length text.now) }
-{
-    if text.starts_with(b"-NEXT") {
-        Some(Kind::Next)
-    } else if text.starts_with(b"-SAME") {
-        Some(Kind::Same)
-    } else if text.starts_with(b"-EMPTY") {
-        Some(Kind::Empty)
-    } else if text.starts_with(b"-NOT") {
-        Some(Kind::Not)
-    } else if text.starts_with(b"-DAG") {
-        Some(Kind::Dag)
-    } else if text.starts_with(b"-LABEL") {
-        Some(Kind::Label)
-    } else {
-        None
-    }
-}
-
-/// How many bytes name a kind.
-fn name_length(kind: Kind) -> usize
-    ensures { result ≡ name_length kind }
-{
-    match kind {
-        Kind::Plain => 0,
-        Kind::Next => 5,
-        Kind::Same => 5,
-        Kind::Empty => 6,
-        Kind::Not => 4,
-        Kind::Dag => 4,
-        Kind::Label => 6,
-        Kind::Count(_) => 0,
-    }
-}
-
 fn named_suffix(kind: Option<Kind>, text: &[u8]) -> Option<Spelling>
     requires short { length text.now ≤ 2 ^ 30 }
-    requires named { IfSome kind (λ kind. name_length kind ≤ length text.now) }
+    requires named { IfSome kind (λ kind. length (suffix_of kind) ≤ length text.now) }
     ensures value { result ≡ named_suffix kind text.now }
     ensures lies { LiesWithin (length text.now) result }
 {
     match kind {
         None => closed(Kind::Plain, 0, text),
         Some(kind) => {
-            let length = name_length(kind);
+            let length = row_of(kind).suffix.len();
             let rest = &text[length..];
             closed_or_combined(kind, rest, closed(kind, length, rest))
         }
@@ -104,7 +67,7 @@ fn closed_or_combined(kind: Kind, rest: &[u8], spelling: Option<Spelling>) -> Op
 
 /// A kind and another behind it, and a colon.
 fn combined(first: Kind, second: Option<Kind>, rest: &[u8]) -> Option<Spelling>
-    requires { IfSome second (λ second. name_length second ≤ length rest.now) }
+    requires { IfSome second (λ second. length (suffix_of second) ≤ length rest.now) }
     ensures value { result ≡ combined first second rest.now }
     ensures lies { (most : ℕ) → LiesWithin most result }
 {
@@ -112,8 +75,8 @@ fn combined(first: Kind, second: Option<Kind>, rest: &[u8]) -> Option<Spelling>
         None => None,
         Some(second) => {
             let apart = (is_not(first) && is_other(second)) || (is_other(first) && is_not(second));
-            if apart && rest[name_length(second)..].starts_with(b":") {
-                Some(Spelling::Bad(CheckKind::NotCombination))
+            if apart && rest[row_of(second).suffix.len()..].starts_with(b":") {
+                Some(Spelling::Bad(LineFault::NotCombination))
             } else {
                 None
             }
@@ -124,21 +87,7 @@ fn combined(first: Kind, second: Option<Kind>, rest: &[u8]) -> Option<Spelling>
 fn is_not(kind: Kind) -> bool
     ensures { result ≡ is_not kind }
 {
-    match kind {
-        Kind::Not => true,
-        Kind::Plain | Kind::Next | Kind::Same | Kind::Empty => false,
-        Kind::Dag | Kind::Label | Kind::Count(_) => false,
-    }
-}
-
-/// Whether a NOT can't be combined with a kind.
-fn is_other(kind: Kind) -> bool
-    ensures { result ≡ is_other kind }
-{
-    match kind {
-        Kind::Next | Kind::Same | Kind::Empty | Kind::Dag => true,
-        Kind::Plain | Kind::Not | Kind::Label | Kind::Count(_) => false,
-    }
+    row_of(kind).demand.role.is_excluded()
 }
 
 /// What closes a suffix of a kind with `before` bytes: a colon, or a modifier and a colon.
@@ -177,7 +126,7 @@ fn modifier(kind: Kind, before: usize, text: &[u8]) -> Option<Spelling>
             count: before + inner + 3,
         }));
     }
-    Some(Spelling::Bad(CheckKind::BadModifier))
+    Some(Spelling::Bad(LineFault::BadModifier))
 }
 
 /// A text without the blanks at both ends.
@@ -205,12 +154,12 @@ fn counted_by(amount: Option<u32>, before: usize, rest: &[u8]) -> Option<Spellin
     ensures lies { LiesWithin (before + length rest.now) result }
 {
     match amount {
-        None => Some(Spelling::Bad(CheckKind::BadCount)),
+        None => Some(Spelling::Bad(LineFault::BadCount)),
         Some(n) => {
             if rest.starts_with(b":") || rest.starts_with(b"{") {
                 closed(Kind::Count(n), before, rest)
             } else {
-                Some(Spelling::Bad(CheckKind::BadCount))
+                Some(Spelling::Bad(LineFault::BadCount))
             }
         }
     }

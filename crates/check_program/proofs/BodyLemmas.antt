@@ -23,9 +23,10 @@ pub here : {X : Type 0} → (n : ℕ) (xs : List X) (x : X) → n < length xs �
     → drop n xs ≡ x ∷ drop (suc n) xs
 here n xs x within is = drop-cons xs n x within ∙ ap (λ y. y ∷ drop (suc n) xs) (sym is)
 
-pub mapped_here : {X : Type 0} → (f : X → Body) (n : ℕ) (xs : List X) (x : X) → n < length xs → x ≡ get_or xs n x
-    → drop n (map f xs) ≡ f x ∷ map f (drop (suc n) xs)
-mapped_here f n xs x within is = drop-map f n xs ∙ ap (map f) (here n xs x within is)
+pub mapped_here : {X : Type 0} → (f : X → Body) (n : ℕ) (xs : List X) (x : X) (body : Body) → n < length xs
+    → x ≡ get_or xs n x → body ≡ f x → drop n (map f xs) ≡ body ∷ map f (drop (suc n) xs)
+mapped_here f n xs x body within is same =
+    drop-map f n xs ∙ ap (map f) (here n xs x within is) ∙ ap (λ b. b ∷ map f (drop (suc n) xs)) (sym same)
 
 -- implicit bodies
 implicit-drop : (n line : ℕ) (implicit : List (List ℕ))

@@ -10,7 +10,7 @@ use Rattle.pattern_parse.specs.declared.fault.PatFault.{PatFault}
 
 -- a body that stands in a text
 abbrev pub body_seen : RawBody → Body
-body_seen body = record { bytes = body.bytes.now; kind = body.kind; literal = body.literal; line = body.line }
+body_seen body = record { bytes = body.bytes.now; demand = body.demand; literal = body.literal; line = body.line }
 
 -- a body is refused under a number, and the formats stay
 pub record IsRefusal (opts : CompileOpts) (number : ℕ) (old : Formats) (body : Body) (told : ℕ) (fault : PatFault)

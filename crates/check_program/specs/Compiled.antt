@@ -5,8 +5,9 @@
 use Rattle.std.specs.Prelude.{◌≡◌, ◌≤◌, ℕ, ◌+◌, ◌-◌, Bool, false, min, List, [], ◌∷◌, ◌++◌, length, map, take, drop, Result, Ok, Err}
 use Rattle.std.specs.FinMap.{FinMap, get}
 use Rattle.check_group.specs.declared.directive.Check.{Check}
+use Rattle.check_lines.specs.Kind.{demand_of}
 use Rattle.check_lines.specs.declared.directive.Directive.{Directive}
-use Rattle.check_program.specs.Demands.{demand_of}
+use Rattle.check_lines.specs.declared.kind.Kind.TheVariants.{Not}
 use Rattle.check_program.specs.Names.{names_once}
 use Rattle.check_program.specs.declared.program.CompileFail.{CompileFail}
 use Rattle.check_program.specs.declared.program.CompileFail.TheVariants.{Bad, NoMemory}
@@ -19,15 +20,15 @@ use Rattle.pattern_parse.specs.PieceView.{items_view}
 use Rattle.pattern_parse.specs.Pieces.{IsPieces, frame_of, with_formats}
 use Rattle.pattern_parse.specs.Search.{IsSearchable}
 use Rattle.pattern_parse.specs.declared.fault.PatFault.{PatFault}
-use Rattle.pattern_parse.specs.declared.pattern.Kind.{Kind}
-use Rattle.pattern_parse.specs.declared.pattern.Kind.TheVariants.{Not}
+use Rattle.pattern_parse.specs.declared.demand.Demand.{Demand}
+use Rattle.pattern_parse.specs.declared.pattern.BodyRules.{BodyRules}
 
 -- ---- bodies
 
 -- the body of a directive, with what decides how it is read, and its line
 pub record Body : Type 0 where
   pub bytes : List ℕ
-  pub kind : Kind
+  pub demand : Demand
   pub literal : Bool
   pub line : ℕ
 
@@ -39,14 +40,19 @@ EndsBy offset directive = directive.body.to ≤ offset
 abbrev pub body_of : List ℕ → Directive → Body
 body_of text directive = record {
   bytes = take (directive.body.to - directive.body.from) (drop directive.body.from text);
-  kind = directive.kind;
+  demand = demand_of directive.kind;
   literal = directive.literal;
   line = directive.line;
 }
 
 -- an implicit NOT on a line; a line past the greatest is that one
 abbrev pub implicit_body : ℕ → List ℕ → Body
-implicit_body line bytes = record { bytes = bytes; kind = Not; literal = false; line = min line 4294967295 }
+implicit_body line bytes = record {
+  bytes = bytes;
+  demand = demand_of Not;
+  literal = false;
+  line = min line 4294967295;
+}
 
 -- implicit NOTs, of which the first stands on a line
 abbrev pub implicit_bodies : ℕ → List (List ℕ) → List Body
@@ -63,17 +69,21 @@ bodies_of text directives implicit = map (body_of text) directives ++ implicit_b
 abbrev pub Formats : Type 0
 Formats = FinMap name_cmp Format
 
+-- what decides how a body is read
+abbrev pub rules_of : CompileOpts → Body → BodyRules
+rules_of opts body = record { demand = body.demand; literal = body.literal; fold = opts.fold; frame = opts.frame }
+
 -- what is read of a body, where these formats are known
 abbrev pub IsRead : CompileOpts → Formats → Body → Result (List Item) PatFault → Type 0
-IsRead opts known body read = IsPieces body.bytes body.kind body.literal opts.fold (get known) read
+IsRead opts known body read = IsPieces body.bytes (rules_of opts body) (get known) read
 
 -- the directive of a number that a body is, where these formats are known
 pub record IsCheck (opts : CompileOpts) (index : ℕ) (known : Formats) (body : Body) (check : Check) : Type 0 where
   pub number : check.number ≡ index
-  pub demand : check.demand ≡ demand_of body.kind
+  pub demand : check.demand ≡ body.demand
   pub line : check.line ≡ body.line
   pub read : IsRead opts known body (Ok (items_view check.pattern.pieces))
-  pub frame : check.pattern.frame ≡ frame_of body.kind opts.frame
+  pub frame : check.pattern.frame ≡ frame_of (rules_of opts body)
   pub fold : check.pattern.fold ≡ opts.fold
   pub searchable : IsSearchable (items_view check.pattern.pieces)
 

@@ -4,12 +4,11 @@ ghost use Rattle.check_program.specs.Adds.{Adds, IsOne, body_seen};
 ghost use Rattle.check_program.specs.Compiled.{Comes, Compiles, EndsBy, bodies_of, body_of, implicit_bodies};
 ghost use Rattle.check_program.specs.Ready.{IsScannable};
 
-use crate::demand::demand_of;
 use crate::names::names_of;
 use crate::program::{CompileFail, CompileOpts, Program};
 use check_group::Check;
-use check_lines::Directive;
-use pattern_parse::{Formats, Kind, PatFail, parse_pattern};
+use check_lines::{Directive, Kind, row_of};
+use pattern_parse::{BodyRules, Demand, Formats, PatFail, parse_pattern};
 use std::alloc::Global;
 use tt_base::{Bytes, Items, NoMemory};
 
@@ -17,7 +16,7 @@ use tt_base::{Bytes, Items, NoMemory};
 #[derive(Drop)]
 struct RawBody<'a> {
     bytes: &'a [u8],
-    kind: Kind,
+    demand: Demand,
     literal: bool,
     line: u32,
 }
@@ -32,13 +31,16 @@ fn check_of(
 ) -> Result<Check, CompileFail>
     ensures { IsOne opts.now number known.old (body_seen body.now) result known.new }
 {
-    let bytes = body.bytes;
-    let kind = body.kind;
-    let literal = body.literal;
-    match parse_pattern(alloc, bytes, kind, literal, opts.fold, opts.frame, known) {
+    let rules = BodyRules {
+        demand: body.demand,
+        literal: body.literal,
+        fold: opts.fold,
+        frame: opts.frame,
+    };
+    match parse_pattern(alloc, body.bytes, &rules, known) {
         Ok(pattern) => Ok(Check {
             number,
-            demand: demand_of(kind),
+            demand: body.demand,
             line: body.line,
             pattern,
         }),
@@ -85,7 +87,7 @@ fn of_lines(
     for (number, directive) in directives.iter().enumerate() {
         let body = RawBody {
             bytes: &text[directive.body.from..directive.body.to],
-            kind: directive.kind,
+            demand: row_of(directive.kind).demand,
             literal: directive.literal,
             line: directive.line,
         };
@@ -124,7 +126,7 @@ fn of_regions(
         };
         let body = RawBody {
             bytes: body.as_slice(),
-            kind: Kind::Not,
+            demand: row_of(Kind::Not).demand,
             literal: false,
             line: line_of(index),
         };

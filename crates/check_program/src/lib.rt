@@ -4,7 +4,6 @@
 #![tactic(auto)]
 
 mod compiling;
-mod demand;
 mod names;
 mod program;
 

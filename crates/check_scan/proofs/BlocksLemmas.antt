@@ -3,8 +3,8 @@
 use Rattle.std.proofs.Common.{◌≡◌, ℕ, zero, suc, ◌<◌, ◌≤◌, List, [], ◌∷◌, Some, None, length, get_or, take, take_all, drop, refl, sym, ◌∙◌, ap, add-one, subst, arith}
 use Rattle.std.specs.List.{AllByRecursion}
 use Rattle.check_group.specs.declared.directive.Check.{Check}
-use Rattle.check_group.specs.declared.directive.Role.{Role}
-use Rattle.check_group.specs.declared.directive.Role.TheVariants.{Sought, Excluded, Unordered, Label}
+use Rattle.pattern_parse.specs.declared.demand.Role.{Role}
+use Rattle.pattern_parse.specs.declared.demand.Role.TheVariants.{Sought, Excluded, Unordered, Label}
 use Rattle.check_scan.specs.Blocks.{Blocks, FirstLabel, IsLabel, block_before, blocks_of, in_first, labelled, last}
 
 before-other : (check : Check) (role : Role) (blocks : Blocks) → (role ≡ Label → ⊥) → block_before check role blocks ≡ in_first check blocks

@@ -2,8 +2,8 @@
 use Rattle.std.proofs.Common.{◌≡◌, true, false, List, [], ◌∷◌, refl, ◌∙◌, ap}
 use Rattle.std.specs.List.{flat_map}
 use Rattle.check_group.specs.declared.directive.Check.{Check}
-use Rattle.check_group.specs.declared.directive.Role.{Role}
-use Rattle.check_group.specs.declared.directive.Role.TheVariants.{Sought, Excluded, Unordered, Label}
+use Rattle.pattern_parse.specs.declared.demand.Role.{Role}
+use Rattle.pattern_parse.specs.declared.demand.Role.TheVariants.{Sought, Excluded, Unordered, Label}
 use Rattle.check_scan.specs.Blocks.{Blocks, block_before, blocks_of, in_first, labelled, last}
 use Rattle.check_scan.specs.Laws.{EachDirectiveInOneBlock, EachDirectiveOnce, all_of, directives_of}
 use Rattle.check_scan.specs.Parts.{Part, alone, dags, finish, joined, negative, part_before, parts_before, parts_of, positive}

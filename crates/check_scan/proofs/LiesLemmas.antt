@@ -12,8 +12,8 @@ use Rattle.check_group.specs.Region.{region}
 use Rattle.check_group.specs.declared.answer.Matched.{Matched}
 use Rattle.check_group.specs.declared.answer.Met.{Met}
 use Rattle.check_group.specs.declared.directive.Check.{Check}
-use Rattle.check_group.specs.declared.directive.Role.{Role}
-use Rattle.check_group.specs.declared.directive.Role.TheVariants.{Sought, Excluded, Unordered, Label}
+use Rattle.pattern_parse.specs.declared.demand.Role.{Role}
+use Rattle.pattern_parse.specs.declared.demand.Role.TheVariants.{Sought, Excluded, Unordered, Label}
 use Rattle.check_group.specs.declared.fault.Fault.{Fault}
 use Rattle.check_group.specs.declared.fault.FaultKind.{FaultKind}
 use Rattle.check_group.specs.declared.fault.FaultKind.TheVariants as fault

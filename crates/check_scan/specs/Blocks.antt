@@ -2,8 +2,8 @@
 -- After LLVM Command Guide, FileCheck, CHECK-LABEL: labels cut the input and the check file into blocks.
 use Rattle.std.specs.Prelude.{◌≡◌, ◌<◌, ℕ, ◌+◌, List, [], ◌∷◌, length, take, drop, get_or, Option, Some, None}
 use Rattle.check_group.specs.declared.directive.Check.{Check}
-use Rattle.check_group.specs.declared.directive.Role.{Role}
-use Rattle.check_group.specs.declared.directive.Role.TheVariants.{Label}
+use Rattle.pattern_parse.specs.declared.demand.Role.{Role}
+use Rattle.pattern_parse.specs.declared.demand.Role.TheVariants.{Label}
 
 -- directives by blocks: those up to and with a label, and the blocks behind it; or those behind the last label
 pub data Blocks : Type 0 where

@@ -7,8 +7,8 @@ use Rattle.check_group.specs.Changes.{Variables}
 use Rattle.check_group.specs.Group.{group_at}
 use Rattle.check_group.specs.Matches.{Came}
 use Rattle.check_group.specs.declared.directive.Check.{Check}
-use Rattle.check_group.specs.declared.directive.Role.{Role}
-use Rattle.check_group.specs.declared.directive.Role.TheVariants.{Excluded, Unordered}
+use Rattle.pattern_parse.specs.declared.demand.Role.{Role}
+use Rattle.pattern_parse.specs.declared.demand.Role.TheVariants.{Excluded, Unordered}
 
 -- what is to be found: a directive by itself, or a maximal run of DAGs
 pub data Positive : Type 0 where

@@ -5,8 +5,9 @@ ghost use Rattle.check_group.specs.Changes.{IsPartWay, IsReady};
 ghost use Rattle.check_group.specs.Continues.{Comes, LiesIn};
 ghost use Rattle.check_scan.specs.Parts.{BeginsOtherwise, BeginsPositive, IsDag, IsNot, came_of, part_of, parts_of, positive};
 
-use check_group::{Check, Fault, Matched, Role, match_alone, place_group};
+use check_group::{Check, Fault, Matched, match_alone, place_group};
 use ere_auto::Steps;
+use pattern_parse::Role;
 use pattern_vars::Vars;
 use std::alloc::Global;
 use std::sync::ledger::Ledger;

@@ -1,7 +1,9 @@
 //! Cases of the public calls with ample memory.
 use crate::fields::{bytes_of, three};
 use crate::prefixes::list_of;
-use check_lines::{CheckFail, CheckFault, Directive, canon, canon_owned, read_checks};
+use check_lines::{
+    CheckFail, CheckFault, CheckKind, Directive, FileRules, canon, canon_owned, read_checks,
+};
 use std::alloc::{AllocError, Global};
 use tt_base::{Bytes, Items, NoMemory};
 
@@ -83,15 +85,14 @@ fn read_by(
     }
     let prefixes = list_of(alloc, prefixes)?;
     let comments = list_of(alloc, "COM,RUN")?;
-    read_checks(
-        alloc,
-        text,
-        prefixes.as_slice(),
-        comments.as_slice(),
+    let rules = FileRules {
+        checks: prefixes.as_slice(),
+        comments: comments.as_slice(),
         allow_unused,
-        false,
-        false,
-    )
+        keep_blanks: false,
+        may_lack: false,
+    };
+    read_checks(alloc, &rules, text)
 }
 
 /// The directives by the prefix CHECK.
@@ -217,12 +218,21 @@ CHECK: a~CHECK-EMPTY:  b => 2:15 NonEmptyForEmpty
 CHECK-NEXT: a => 1:1 NoEarlierCheck
 CHECK-EMPTY: => 1:1 NoEarlierCheck";
 
+/// What is wrong with a file or a line of it.
+fn kind_text(alloc: Global, kind: CheckKind) -> Result<String, AllocError> {
+    match kind {
+        CheckKind::Line(fault) => format!(in alloc; "{fault:?}"),
+        CheckKind::NoChecks | CheckKind::UnusedPrefix(_) => format!(in alloc; "{kind:?}"),
+    }
+}
+
 /// Where and why a text is refused, or that it is read.
 fn refusal_of(alloc: Global, text: &[u8]) -> Result<String, AllocError> {
     match read(alloc, text) {
         Err(CheckFail::Bad(CheckFault { place, kind, .. })) => {
             let (line, col) = (place.line, place.col);
-            format!(in alloc; "{line}:{col} {kind:?}")
+            let kind = kind_text(alloc, kind)?;
+            format!(in alloc; "{line}:{col} {kind}")
         }
         Err(CheckFail::NoMemory) => Err(AllocError),
         Ok(_) => String::from_str(alloc, "read"),
@@ -259,7 +269,7 @@ fn prefixes_of(alloc: Global, directives: &[Directive]) -> Result<String, AllocE
 fn told(alloc: Global, prefixes: &str, unused: bool, text: &[u8]) -> Result<String, AllocError> {
     match read_by(alloc, prefixes, unused, text) {
         Ok(directives) => prefixes_of(alloc, directives.as_slice()),
-        Err(CheckFail::Bad(CheckFault { kind, .. })) => format!(in alloc; "{kind:?}"),
+        Err(CheckFail::Bad(CheckFault { kind, .. })) => kind_text(alloc, kind),
         Err(CheckFail::NoMemory) => Err(AllocError),
     }
 }
@@ -314,15 +324,14 @@ fn read_so(
         return Err(CheckFail::NoMemory);
     }
     let prefixes = list_of(alloc, "CHECK")?;
-    read_checks(
-        alloc,
-        text.as_bytes(),
-        prefixes.as_slice(),
-        &[],
-        false,
-        keep,
+    let rules = FileRules {
+        checks: prefixes.as_slice(),
+        comments: &[],
+        allow_unused: false,
+        keep_blanks: keep,
         may_lack,
-    )
+    };
+    read_checks(alloc, &rules, text.as_bytes())
 }
 
 /// Where the body of a text's one directive begins and ends, and its column.

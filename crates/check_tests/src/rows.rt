@@ -7,7 +7,7 @@ ghost use Rattle.check_program.specs.Compiled.{EndsBy};
 ghost use Rattle.check_program.specs.Ready.{IsScannable};
 
 use check_group::{Check, Fault, FaultKind};
-use check_lines::{Directive, read_checks};
+use check_lines::{Directive, FileRules, read_checks};
 use check_program::{CompileFail, CompileOpts, Program, compile};
 use check_scan::{Subject, Verdict, scan};
 use define_words::start_vars;
@@ -72,15 +72,14 @@ fn directives_of(alloc: Global, text: &[u8]) -> Result<Items<Directive>, NoMemor
 {
     let prefixes = one_or_none(alloc, "CHECK")?;
     let comments = Items::new(alloc);
-    match read_checks(
-        alloc,
-        text,
-        prefixes.as_slice(),
-        comments.as_slice(),
-        true,
-        false,
-        true,
-    ) {
+    let rules = FileRules {
+        checks: prefixes.as_slice(),
+        comments: comments.as_slice(),
+        allow_unused: true,
+        keep_blanks: false,
+        may_lack: true,
+    };
+    match read_checks(alloc, &rules, text) {
         Ok(directives) => Ok(directives),
         Err(_) => Err(NoMemory),
     }

@@ -5,7 +5,7 @@
 use Rattle.std.proofs.Common.{◌≡◌, ℕ, ◌+◌, List, [], ◌∷◌, ◌++◌, length, map, Result, Ok, Err, refl, sym, ◌∙◌, subst, arith}
 use Rattle.std.specs.FinMap.{get}
 use Rattle.check_group.specs.declared.directive.Check.{Check}
-use Rattle.check_program.specs.Compiled.{AreChecks, Body, Formats, IsCheck, IsRead, formats_behind}
+use Rattle.check_program.specs.Compiled.{AreChecks, Body, Formats, IsCheck, IsRead, formats_behind, rules_of}
 use Rattle.check_program.specs.declared.program.CompileOpts.{CompileOpts}
 use Rattle.compile_laws.specs.Laws.{ChecksAreOne, NotBoth, RefusalIsOne, seen}
 use Rattle.pattern_parse.proofs.PieceLemmas.{pieces_are_one}
@@ -18,7 +18,7 @@ module _ (opts : CompileOpts) where
   -- a body is read in one way
   read-one : (known : Formats) (body : Body) (told other : Result (List Item) PatFault) → IsRead opts known body told
       → IsRead opts known body other → told ≡ other
-  read-one known body = pieces_are_one body.bytes body.kind body.literal opts.fold (get known)
+  read-one known body = pieces_are_one body.bytes (rules_of opts body) (get known)
 
   read-items : (known : Formats) (body : Body) (items others : List Item) → IsRead opts known body (Ok items)
       → IsRead opts known body (Ok others) → items ≡ others

@@ -1,7 +1,7 @@
 -- What the bodies of a check file come to is one thing. Own rule.
 use Rattle.std.specs.Prelude.{◌≡◌, ℕ, Bool, List, map}
 use Rattle.check_group.specs.declared.directive.Check.{Check}
-use Rattle.check_group.specs.declared.directive.Demand.{Demand}
+use Rattle.pattern_parse.specs.declared.demand.Demand.{Demand}
 use Rattle.check_program.specs.Compiled.{AreChecks, Body, Formats, IsRefused}
 use Rattle.check_program.specs.declared.program.CompileOpts.{CompileOpts}
 use Rattle.pattern_parse.specs.Item.{Item}

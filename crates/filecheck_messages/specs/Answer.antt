@@ -2,6 +2,8 @@
 -- After LLVM Command Guide, FileCheck: 0 where the input matches, 1 where it doesn't. Own rules: the texts, and the
 -- statuses 2 for a refusal and 3 for a fault of reading.
 use Rattle.std.specs.Prelude.{ℕ, ◌==◌, if◌then◌else◌, List, [], ◌∷◌, ◌++◌, codes, Result, Ok, Err}
+use Rattle.check_lines.specs.declared.fault.LineFault.{LineFault}
+use Rattle.check_lines.specs.declared.fault.LineFault.TheVariants as line
 use Rattle.ere_tree.specs.declared.fault.EreKind.{EreKind}
 use Rattle.ere_tree.specs.declared.fault.EreKind.TheVariants as ere
 use Rattle.filecheck_words.specs.declared.fault.WordsFault.{WordsFault}
@@ -11,7 +13,7 @@ use Rattle.pattern_parse.specs.declared.fault.PatKind.{PatKind}
 use Rattle.pattern_parse.specs.declared.fault.PatKind.TheVariants as pat
 use Rattle.filecheck_messages.specs.Message.{made_text, placed, told, unplaced}
 use Rattle.filecheck_messages.specs.declared.refusal.Refusal.{Refusal}
-use Rattle.filecheck_messages.specs.declared.refusal.Refusal.TheVariants.{Words, NotFound, TooLarge, BadCount, NotCombination, BadModifier, EmptyPattern, NonEmptyForEmpty, NoEarlierCheck, NoChecks, UnusedPrefix, BadBody, BadDefine, IsEmpty}
+use Rattle.filecheck_messages.specs.declared.refusal.Refusal.TheVariants.{Words, NotFound, TooLarge, BadLine, NoChecks, UnusedPrefix, BadBody, BadDefine, IsEmpty}
 use Rattle.filecheck_messages.specs.declared.refusal.Stop.{Stop}
 use Rattle.filecheck_messages.specs.declared.refusal.Stop.TheVariants.{Refused, NotReadable}
 use Rattle.filecheck_messages.specs.declared.finding.Finding.{Finding}
@@ -46,6 +48,15 @@ regex_text ere.TrailingBackslash = codes "bad regex: TrailingBackslash"
 regex_text ere.TooLarge = codes "bad regex: TooLarge"
 regex_text ere.TooDeep = codes "bad regex: TooDeep"
 
+-- what is told of a line of the check file
+abbrev pub line_text : LineFault → List ℕ
+line_text line.BadCount = codes "bad count"
+line_text line.NotCombination = codes "NOT can't be combined"
+line_text line.BadModifier = codes "bad modifier"
+line_text line.EmptyPattern = codes "empty pattern"
+line_text line.NonEmptyForEmpty = codes "EMPTY takes no pattern"
+line_text line.NoEarlierCheck = codes "no earlier check"
+
 -- what is told of a body
 abbrev pub body_text : PatKind → List ℕ
 body_text pat.TooLong = codes "pattern too long"
@@ -65,12 +76,7 @@ abbrev pub text_of : Refusal → List ℕ
 text_of (Words fault) = words_text fault
 text_of (NotFound name) = unplaced (codes "'" ++ name ++ codes "' not found")
 text_of (TooLarge name) = unplaced (codes "'" ++ name ++ codes "' is too large")
-text_of (BadCount spot) = placed spot (codes "error: bad count")
-text_of (NotCombination spot) = placed spot (codes "error: NOT can't be combined")
-text_of (BadModifier spot) = placed spot (codes "error: bad modifier")
-text_of (EmptyPattern spot) = placed spot (codes "error: empty pattern")
-text_of (NonEmptyForEmpty spot) = placed spot (codes "error: EMPTY takes no pattern")
-text_of (NoEarlierCheck spot) = placed spot (codes "error: no earlier check")
+text_of (BadLine fault spot) = placed spot (codes "error: " ++ line_text fault)
 text_of (NoChecks name) = unplaced (codes "no checks in '" ++ name ++ codes "'")
 text_of (UnusedPrefix prefix) = unplaced (codes "prefix '" ++ prefix ++ codes "' isn't used")
 text_of (BadBody kind spot) = placed spot (codes "error: " ++ body_text kind)

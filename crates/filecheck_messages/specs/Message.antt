@@ -1,14 +1,14 @@
 -- The messages of FileCheck, byte by byte.
 -- Own texts, laid out after the messages of FileCheck: a place, what is wrong there, the line, and a mark below it.
-use Rattle.std.specs.Prelude.{ℕ, ◌-◌, List, [], ◌∷◌, ◌++◌, codes, replicate}
+use Rattle.std.specs.Prelude.{ℕ, ◌-◌, ◌==◌, if◌then◌else◌, Option, Some, None, List, [], ◌∷◌, ◌++◌, codes, replicate}
 use Rattle.std.specs.Fmt.{decimal}
 use Rattle.std.specs.List.{flat_map}
+use Rattle.check_group.specs.declared.fault.FaultKind.{FaultKind}
+use Rattle.check_group.specs.declared.fault.FaultKind.TheVariants as fault
 use Rattle.filecheck_messages.specs.declared.finding.Finding.{Finding}
 use Rattle.filecheck_messages.specs.declared.finding.Note.{Note}
 use Rattle.filecheck_messages.specs.declared.finding.Remark.{Remark}
 use Rattle.filecheck_messages.specs.declared.finding.Remark.TheVariants.{ScanningFrom, MatchWasHere, PreviousEnded, FoundHere}
-use Rattle.filecheck_messages.specs.declared.finding.Trouble.{Trouble}
-use Rattle.filecheck_messages.specs.declared.finding.Trouble.TheVariants.{NotFound, NotFoundAgain, OnSameLine, NotOnNextLine, NotOnSameLine, Excluded, Undefined, OutOfRange, DividesByZero, Unreadable}
 use Rattle.filecheck_messages.specs.declared.report.Made.{Made}
 use Rattle.filecheck_messages.specs.declared.spot.Spot.{Spot}
 
@@ -36,19 +36,33 @@ abbrev pub listed : List (List ℕ) → List ℕ
 listed [] = []
 listed (name ∷ names) = name ++ flat_map behind_comma names
 
--- what is told of a directive
-abbrev pub trouble_text : Trouble → List ℕ
-trouble_text NotFound = codes "expected string not found in input"
-trouble_text (NotFoundAgain done n) =
-    codes "expected string not found in input (" ++ decimal done ++ codes " of " ++ decimal n ++ codes " found)"
-trouble_text OnSameLine = codes "is on the same line as previous match"
-trouble_text NotOnNextLine = codes "is not on the line after the previous match"
-trouble_text NotOnSameLine = codes "is not on the same line as previous match"
-trouble_text Excluded = codes "excluded string found in input"
-trouble_text (Undefined names) = codes "uses undefined variables: " ++ listed names
-trouble_text OutOfRange = codes "numeric value out of range"
-trouble_text DividesByZero = codes "division by zero"
-trouble_text Unreadable = codes "matched number out of range"
+abbrev pub names_text : List (List ℕ) → List ℕ
+names_text names = codes "uses undefined variables: " ++ listed names
+
+-- where `done` matches are found: how many of how many, where that is told
+abbrev pub found_text : Option ℕ → ℕ → List ℕ
+found_text None done = []
+found_text (Some times) done = codes " (" ++ decimal done ++ codes " of " ++ decimal times ++ codes " found)"
+
+abbrev pub missing_text : Option ℕ → ℕ → List ℕ
+missing_text times done = codes "expected string not found in input" ++ found_text times done
+
+-- a match that isn't on the next line
+abbrev pub wrong_line_text : ℕ → List ℕ
+wrong_line_text newlines =
+    if newlines == 0 then codes "is on the same line as previous match"
+    else codes "is not on the line after the previous match"
+
+-- what is wrong with a directive, of which so many matches are asked for where that is told
+abbrev pub fault_text : Option ℕ → FaultKind → List ℕ
+fault_text times (fault.NotFound from done) = missing_text times done
+fault_text times (fault.WrongLine found last newlines) = wrong_line_text newlines
+fault_text times (fault.NotSameLine found last) = codes "is not on the same line as previous match"
+fault_text times (fault.Excluded found) = codes "excluded string found in input"
+fault_text times (fault.Undefined names) = names_text names
+fault_text times fault.Range = codes "numeric value out of range"
+fault_text times fault.ZeroDivisor = codes "division by zero"
+fault_text times (fault.Unreadable found) = codes "matched number out of range"
 
 -- what is told of a place in the input
 abbrev pub remark_text : Remark → List ℕ
@@ -66,7 +80,7 @@ notes_text notes = flat_map note_text notes
 -- a directive that isn't met, and the places in the input
 abbrev pub told_of : Finding → List ℕ
 told_of finding =
-    placed finding.check (codes "error: " ++ finding.name ++ codes ": " ++ trouble_text finding.trouble)
+    placed finding.check (codes "error: " ++ finding.name ++ codes ": " ++ fault_text finding.times finding.fault)
     ++ notes_text finding.notes
 
 -- what is told of findings, in order

@@ -1,6 +1,6 @@
 //! The table: what is told of each refusal, and of a verdict.
 ghost use Rattle.std.specs.Prelude.{◌≡◌, ◌≤◌, ◌++◌, IfOk, codes};
-ghost use Rattle.filecheck_messages.specs.Answer.{answer_to, body_text, made_row, regex_text, report_row, row_of, telling, text_of, verdict_row, words_text};
+ghost use Rattle.filecheck_messages.specs.Answer.{answer_to, body_text, line_text, made_row, regex_text, report_row, row_of, telling, text_of, verdict_row, words_text};
 ghost use Rattle.filecheck_messages.specs.Message.{placed, unplaced};
 
 use crate::finding::Finding;
@@ -8,6 +8,7 @@ use crate::message::{made_text, placed, told, unplaced};
 use crate::refusal::{Refusal, Stop};
 use crate::report::{Made, Report};
 use crate::spot::Spot;
+use check_lines::LineFault;
 use ere_tree::EreKind;
 use filecheck_words::WordsFault;
 use pattern_parse::PatKind;
@@ -77,12 +78,7 @@ fn text_of(alloc: Global, refusal: &Refusal) -> Result<Bytes, NoMemory>
         Refusal::Words(fault) => words_text(alloc, fault),
         Refusal::NotFound(name) => named(alloc, b"'", name, b"' not found"),
         Refusal::TooLarge(name) => named(alloc, b"'", name, b"' is too large"),
-        Refusal::BadCount(spot) => placed(alloc, spot, b"error: bad count"),
-        Refusal::NotCombination(spot) => placed(alloc, spot, b"error: NOT can't be combined"),
-        Refusal::BadModifier(spot) => placed(alloc, spot, b"error: bad modifier"),
-        Refusal::EmptyPattern(spot) => placed(alloc, spot, b"error: empty pattern"),
-        Refusal::NonEmptyForEmpty(spot) => placed(alloc, spot, b"error: EMPTY takes no pattern"),
-        Refusal::NoEarlierCheck(spot) => placed(alloc, spot, b"error: no earlier check"),
+        Refusal::BadLine(fault, spot) => placed_fault(alloc, spot, line_text(*fault)),
         Refusal::NoChecks(name) => named(alloc, b"no checks in '", name, b"'"),
         Refusal::UnusedPrefix(prefix) => named(alloc, b"prefix '", prefix, b"' isn't used"),
         Refusal::BadBody(kind, spot) => placed_fault(alloc, spot, body_text(*kind)),
@@ -105,6 +101,20 @@ fn words_text(alloc: Global, fault: &WordsFault) -> Result<Bytes, NoMemory>
         WordsFault::BadPrefix(prefix) => named(alloc, b"bad prefix '", prefix, b"'"),
         WordsFault::PrefixTwice(prefix) => named(alloc, b"prefix '", prefix, b"' given twice"),
         WordsFault::BadImplicit(value) => named(alloc, b"bad pattern '", value, b"'"),
+    }
+}
+
+/// What is told of a line of the check file.
+fn line_text(fault: LineFault) -> &'static [u8]
+    ensures { result.now ≡ line_text fault }
+{
+    match fault {
+        LineFault::BadCount => b"bad count",
+        LineFault::NotCombination => b"NOT can't be combined",
+        LineFault::BadModifier => b"bad modifier",
+        LineFault::EmptyPattern => b"empty pattern",
+        LineFault::NonEmptyForEmpty => b"EMPTY takes no pattern",
+        LineFault::NoEarlierCheck => b"no earlier check",
     }
 }
 
@@ -148,7 +158,7 @@ fn regex_text(kind: EreKind) -> &'static [u8]
     }
 }
 
-/// A message of a body at a spot.
+/// A message of a line or a body, at a spot.
 fn placed_fault(alloc: Global, spot: &Spot, what: &[u8]) -> Result<Bytes, NoMemory>
     ensures { IfOk result (λ message. message ≡ placed spot.now (codes "error: " ++ what.now)) }
 {

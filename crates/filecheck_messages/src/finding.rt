@@ -1,25 +1,7 @@
 //! What a run finds amiss in an input, as data. src/message.rt has what is told of it.
 use crate::spot::Spot;
+use check_group::FaultKind;
 use tt_base::{Bytes, Items};
-
-/// What is wrong with a directive.
-#[derive(Drop, Debug)]
-pub enum Trouble {
-    NotFound,
-    /// So many matches of so many are found.
-    NotFoundAgain(u32, u32),
-    OnSameLine,
-    NotOnNextLine,
-    NotOnSameLine,
-    /// A NOT is found.
-    Excluded,
-    /// These names have no value.
-    Undefined(Items<Bytes>),
-    OutOfRange,
-    DividesByZero,
-    /// A number of the input is out of range.
-    Unreadable,
-}
 
 /// What is told of a place in the input.
 #[derive(Clone, Copy, Debug, PartialEq, Eq)]
@@ -42,7 +24,9 @@ pub struct Note {
 pub struct Finding {
     /// Its prefix with its suffix.
     pub name: Bytes,
-    pub trouble: Trouble,
+    pub fault: FaultKind,
+    /// How many matches it asks for, where that is told.
+    pub times: Option<u32>,
     /// Where its body stands.
     pub check: Spot,
     pub notes: Items<Note>,

@@ -10,7 +10,7 @@ mod report;
 mod spot;
 
 pub use answer::answer_to;
-pub use finding::{Finding, Note, Remark, Trouble};
+pub use finding::{Finding, Note, Remark};
 pub use refusal::{Refusal, StepFail, Stop, refuse, settled};
 pub use report::{Made, Report};
 pub use spot::{Spot, as_col, behind, spot_at, spot_of};

@@ -2,12 +2,12 @@
 ghost use Rattle.std.specs.Prelude.{◌≡◌, ◌++◌, IfOk, OnOk, replicate};
 ghost use Rattle.std.specs.Fmt.{decimal};
 ghost use Rattle.std.specs.List.{flat_map};
-ghost use Rattle.filecheck_messages.specs.Message.{behind_comma, listed, made_text, note_text, notes_text, placed, told, told_of, trouble_text, unplaced};
-ghost use Rattle.filecheck_messages.specs.declared.finding.Trouble.TheVariants.{NotFoundAgain, Undefined};
+ghost use Rattle.filecheck_messages.specs.Message.{behind_comma, fault_text, wrong_line_text, listed, made_text, missing_text, names_text, note_text, notes_text, placed, told, told_of, unplaced};
 
-use crate::finding::{Finding, Note, Remark, Trouble};
+use crate::finding::{Finding, Note, Remark};
 use crate::report::Made;
 use crate::spot::Spot;
+use check_group::FaultKind;
 use std::alloc::Global;
 use tt_base::{Bytes, NoMemory};
 
@@ -28,36 +28,46 @@ fn told_of(alloc: Global, finding: &Finding) -> Result<Bytes, NoMemory>
     let mut what = Bytes::from_slice(alloc, b"error: ")?;
     what.append(finding.name.as_slice())?;
     what.append(b": ")?;
-    what.append(trouble_text(alloc, &finding.trouble)?.as_slice())?;
+    what.append(fault_text(alloc, finding.times, &finding.fault)?.as_slice())?;
     let mut message = placed(alloc, &finding.check, what.as_slice())?;
     message.append(notes_text(alloc, finding.notes.as_slice())?.as_slice())?;
     Ok(message)
 }
 
-/// What is told of a directive.
-fn trouble_text(alloc: Global, trouble: &Trouble) -> Result<Bytes, NoMemory>
-    ensures { IfOk result (λ text. text ≡ trouble_text trouble.now) }
+/// What is wrong with a directive, of which so many matches are asked for where that is told.
+fn fault_text(alloc: Global, times: Option<u32>, fault: &FaultKind) -> Result<Bytes, NoMemory>
+    ensures { IfOk result (λ text. text ≡ fault_text times fault.now) }
 {
-    match trouble {
-        Trouble::NotFound => Bytes::from_slice(alloc, b"expected string not found in input"),
-        Trouble::NotFoundAgain(done, n) => counted_text(alloc, *done, *n),
-        Trouble::OnSameLine => Bytes::from_slice(alloc, b"is on the same line as previous match"),
-        Trouble::NotOnNextLine => {
-            Bytes::from_slice(alloc, b"is not on the line after the previous match")
-        }
-        Trouble::NotOnSameLine => {
+    match fault {
+        FaultKind::NotFound { done, .. } => missing_text(alloc, times, *done),
+        FaultKind::WrongLine { newlines, .. } => Bytes::from_slice(
+            alloc,
+            wrong_line_text(*newlines),
+        ),
+        FaultKind::NotSameLine { .. } => {
             Bytes::from_slice(alloc, b"is not on the same line as previous match")
         }
-        Trouble::Excluded => Bytes::from_slice(alloc, b"excluded string found in input"),
-        Trouble::Undefined(names) => names_text(alloc, names.as_slice()),
-        Trouble::OutOfRange => Bytes::from_slice(alloc, b"numeric value out of range"),
-        Trouble::DividesByZero => Bytes::from_slice(alloc, b"division by zero"),
-        Trouble::Unreadable => Bytes::from_slice(alloc, b"matched number out of range"),
+        FaultKind::Excluded { .. } => Bytes::from_slice(alloc, b"excluded string found in input"),
+        FaultKind::Undefined(names) => names_text(alloc, names.as_slice()),
+        FaultKind::Range => Bytes::from_slice(alloc, b"numeric value out of range"),
+        FaultKind::ZeroDivisor => Bytes::from_slice(alloc, b"division by zero"),
+        FaultKind::Unreadable { .. } => Bytes::from_slice(alloc, b"matched number out of range"),
+    }
+}
+
+/// What is wrong with a match that isn't on the next line.
+fn wrong_line_text(newlines: u64) -> &'static [u8]
+    ensures { result.now ≡ wrong_line_text newlines }
+{
+    if newlines == 0 {
+        b"is on the same line as previous match"
+    } else {
+        b"is not on the line after the previous match"
     }
 }
 
 fn names_text(alloc: Global, names: &[Bytes]) -> Result<Bytes, NoMemory>
-    ensures { IfOk result (λ text. text ≡ trouble_text (Undefined names.now)) }
+    ensures { IfOk result (λ text. text ≡ names_text names.now) }
 {
     let mut text = Bytes::from_slice(alloc, b"uses undefined variables: ")?;
     append_listed(&mut text, names)?;
@@ -87,14 +97,18 @@ fn append_later(text: &mut Bytes, names: &[Bytes]) -> Result<(), NoMemory>
     Ok(())
 }
 
-fn counted_text(alloc: Global, done: u32, n: u32) -> Result<Bytes, NoMemory>
-    ensures { IfOk result (λ text. text ≡ trouble_text (NotFoundAgain done n)) }
+/// What is told where `done` matches are found, and not all that are asked for.
+fn missing_text(alloc: Global, times: Option<u32>, done: u32) -> Result<Bytes, NoMemory>
+    ensures { IfOk result (λ text. text ≡ missing_text times done) }
 {
-    let mut text = Bytes::from_slice(alloc, b"expected string not found in input (")?;
-    append_number(alloc, &mut text, done)?;
-    text.append(b" of ")?;
-    append_number(alloc, &mut text, n)?;
-    text.append(b" found)")?;
+    let mut text = Bytes::from_slice(alloc, b"expected string not found in input")?;
+    if let Some(times) = times {
+        text.append(b" (")?;
+        append_number(alloc, &mut text, done)?;
+        text.append(b" of ")?;
+        append_number(alloc, &mut text, times)?;
+        text.append(b" found)")?;
+    }
     Ok(text)
 }
 

@@ -5,6 +5,7 @@ ghost use Rattle.filecheck_messages.specs.declared.refusal.Stop.TheVariants.{Ref
 ghost use Rattle.filecheck_messages.specs.declared.refusal.StepFail.TheVariants.{Stopped};
 
 use crate::spot::Spot;
+use check_lines::LineFault;
 use filecheck_words::WordsFault;
 use pattern_parse::PatKind;
 use tt_base::{Bytes, NoMemory};
@@ -18,18 +19,8 @@ pub enum Refusal {
     NotFound(Bytes),
     /// It has more bytes than the limit.
     TooLarge(Bytes),
-    /// `CHECK-COUNT-0: a`, at the prefix.
-    BadCount(Spot),
-    /// `CHECK-NOT-NEXT: a`, at the prefix.
-    NotCombination(Spot),
-    /// `CHECK{FOO}: a`, at the prefix.
-    BadModifier(Spot),
-    /// `CHECK:`, behind the colon.
-    EmptyPattern(Spot),
-    /// `CHECK-EMPTY: a`, at the body.
-    NonEmptyForEmpty(Spot),
-    /// `CHECK-NEXT: a` before any other directive, at the prefix.
-    NoEarlierCheck(Spot),
+    /// A line of the check file, as `CHECK-COUNT-0: a`.
+    BadLine(LineFault, Spot),
     /// `MYCHECK: a` alone: no line holds a directive.
     NoChecks(Bytes),
     /// No directive has this prefix.

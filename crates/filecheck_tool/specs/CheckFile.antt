@@ -4,17 +4,18 @@
 use Rattle.std.specs.Prelude.{◌≤◌, ◌^◌, ℕ, ◌+◌, ◌-◌, ◌&&◌, List, [], ◌++◌, codes, length, min, slice_get, slice_index_or, All, Option, Some, None, Result, Ok, Err}
 use Rattle.check_lines.specs.Canonical.{canon}
 use Rattle.check_lines.specs.Checks.{IsPlaced, read_checks}
+use Rattle.check_lines.specs.Kind.{suffix_of}
 use Rattle.check_lines.specs.declared.directive.Directive.{Directive}
 use Rattle.check_lines.specs.declared.fault.CheckFault.{CheckFault}
 use Rattle.check_lines.specs.declared.fault.CheckKind.{CheckKind}
-use Rattle.check_lines.specs.declared.fault.CheckKind.TheVariants.{BadCount as IsBadCount, NotCombination as IsNotCombination, BadModifier as IsBadModifier, EmptyPattern as IsEmptyPattern, NonEmptyForEmpty as IsNonEmptyForEmpty, NoEarlierCheck as IsNoEarlierCheck, NoChecks as HasNoChecks, UnusedPrefix as IsUnused}
-use Rattle.pattern_parse.specs.declared.pattern.Kind.{Kind}
-use Rattle.pattern_parse.specs.declared.pattern.Kind.TheVariants.{Plain, Next, Same, Empty, Not, Dag, Label, Count}
+use Rattle.check_lines.specs.declared.fault.CheckKind.TheVariants.{Line, NoChecks as HasNoChecks, UnusedPrefix as IsUnused}
+use Rattle.check_lines.specs.declared.kind.Kind.{Kind}
+use Rattle.check_lines.specs.declared.kind.Kind.TheVariants.{Not}
 use Rattle.filecheck_messages.specs.Refusal.{◌>>=◌, accepted}
 use Rattle.filecheck_messages.specs.Spot.{spot_at}
 use Rattle.filecheck_tool.specs.declared.check_file.CheckFile.{CheckFile}
 use Rattle.filecheck_messages.specs.declared.refusal.Refusal.{Refusal}
-use Rattle.filecheck_messages.specs.declared.refusal.Refusal.TheVariants.{NotFound, TooLarge, BadCount, NotCombination, BadModifier, EmptyPattern, NonEmptyForEmpty, NoEarlierCheck, NoChecks, UnusedPrefix}
+use Rattle.filecheck_messages.specs.declared.refusal.Refusal.TheVariants.{NotFound, TooLarge, BadLine, NoChecks, UnusedPrefix}
 use Rattle.filecheck_messages.specs.declared.refusal.Stop.{Stop}
 use Rattle.filecheck_messages.specs.declared.refusal.Stop.TheVariants.{Refused, NotReadable}
 use Rattle.filecheck_messages.specs.declared.spot.Spot.{Spot}
@@ -31,12 +32,7 @@ whole name Failed = Err (NotReadable name)
 
 -- a refusal of the check file, with the spot of its offset
 abbrev pub refusal_of : List (List ℕ) → CheckKind → List ℕ → Spot → Refusal
-refusal_of prefixes IsBadCount name spot = BadCount spot
-refusal_of prefixes IsNotCombination name spot = NotCombination spot
-refusal_of prefixes IsBadModifier name spot = BadModifier spot
-refusal_of prefixes IsEmptyPattern name spot = EmptyPattern spot
-refusal_of prefixes IsNonEmptyForEmpty name spot = NonEmptyForEmpty spot
-refusal_of prefixes IsNoEarlierCheck name spot = NoEarlierCheck spot
+refusal_of prefixes (Line fault) name spot = BadLine fault spot
 refusal_of prefixes HasNoChecks name spot = NoChecks name
 refusal_of prefixes (IsUnused index) name spot = UnusedPrefix (slice_index_or prefixes index [])
 
@@ -103,17 +99,6 @@ kind_by None = Not
 
 abbrev pub kind_of : CheckFile → ℕ → Kind
 kind_of file number = kind_by (slice_get file.directives number)
-
--- the suffix by which a kind is told
-abbrev pub suffix_of : Kind → List ℕ
-suffix_of Plain = []
-suffix_of Next = codes "-NEXT"
-suffix_of Same = codes "-SAME"
-suffix_of Empty = codes "-EMPTY"
-suffix_of Not = codes "-NOT"
-suffix_of Dag = codes "-DAG"
-suffix_of Label = codes "-LABEL"
-suffix_of (Count n) = codes "-COUNT"
 
 -- its name
 abbrev pub name_by : CheckFile → Option Directive → List ℕ

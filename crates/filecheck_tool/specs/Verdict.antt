@@ -1,7 +1,7 @@
 -- The input, and what is told of it.
 -- After LLVM Command Guide, FileCheck: --input-file, and an empty input is refused without --allow-empty. Own rule: of
 -- checks and an input that were made, counts are told.
-use Rattle.std.specs.Prelude.{ℕ, Bool, ◌==◌, if◌then◌else◌, List, [], ◌∷◌, codes, length, map, Option, Some, None, Result, Ok, Err}
+use Rattle.std.specs.Prelude.{ℕ, Bool, if◌then◌else◌, List, [], ◌∷◌, codes, length, map, Option, Some, None, Result, Ok, Err}
 use Rattle.check_group.specs.declared.fault.Fault.{Fault}
 use Rattle.check_group.specs.declared.fault.FaultKind.{FaultKind}
 use Rattle.check_group.specs.declared.fault.FaultKind.TheVariants as fault
@@ -9,8 +9,8 @@ use Rattle.check_lines.specs.Canonical.{canon}
 use Rattle.check_scan.specs.Verdict.{scan}
 use Rattle.filecheck_words.specs.declared.checking.Input.{Input}
 use Rattle.filecheck_words.specs.declared.checking.Input.TheVariants.{Standard, Named}
-use Rattle.pattern_parse.specs.declared.pattern.Kind.{Kind}
-use Rattle.pattern_parse.specs.declared.pattern.Kind.TheVariants.{Plain, Next, Same, Empty, Not, Dag, Label, Count}
+use Rattle.check_lines.specs.Kind.{row_of}
+use Rattle.check_lines.specs.declared.kind.Kind.{Kind}
 use Rattle.filecheck_tool.specs.CheckFile.{body_spot, kind_of, name_of, whole}
 use Rattle.filecheck_messages.specs.Refusal.{◌>>=◌, accepted}
 use Rattle.filecheck_messages.specs.Spot.{spot_at}
@@ -19,8 +19,6 @@ use Rattle.filecheck_messages.specs.declared.finding.Finding.{Finding}
 use Rattle.filecheck_messages.specs.declared.finding.Note.{Note}
 use Rattle.filecheck_messages.specs.declared.finding.Remark.{Remark}
 use Rattle.filecheck_messages.specs.declared.finding.Remark.TheVariants.{ScanningFrom, MatchWasHere, PreviousEnded, FoundHere}
-use Rattle.filecheck_messages.specs.declared.finding.Trouble.{Trouble}
-use Rattle.filecheck_messages.specs.declared.finding.Trouble.TheVariants.{NotFound, NotFoundAgain, OnSameLine, NotOnNextLine, NotOnSameLine, Excluded, Undefined, OutOfRange, DividesByZero, Unreadable}
 use Rattle.filecheck_tool.specs.declared.program.Program.{Program}
 use Rattle.filecheck_messages.specs.declared.refusal.Refusal.{Refusal}
 use Rattle.filecheck_messages.specs.declared.refusal.Refusal.TheVariants.{IsEmpty}
@@ -42,29 +40,9 @@ filled allow name [] = if allow then Ok [] else Err (IsEmpty name)
 
 -- ---- what is told of a fault
 
--- what is wrong with a directive of a kind
-abbrev pub absent_of : Kind → ℕ → Trouble
-absent_of (Count n) done = NotFoundAgain done n
-absent_of Plain done = NotFound
-absent_of Next done = NotFound
-absent_of Same done = NotFound
-absent_of Empty done = NotFound
-absent_of Not done = NotFound
-absent_of Dag done = NotFound
-absent_of Label done = NotFound
-
-abbrev pub line_trouble : ℕ → Trouble
-line_trouble newlines = if newlines == 0 then OnSameLine else NotOnNextLine
-
-abbrev pub trouble_of : Kind → FaultKind → Trouble
-trouble_of kind (fault.NotFound from done) = absent_of kind done
-trouble_of kind (fault.WrongLine found last newlines) = line_trouble newlines
-trouble_of kind (fault.NotSameLine found last) = NotOnSameLine
-trouble_of kind (fault.Excluded found) = Excluded
-trouble_of kind (fault.Undefined names) = Undefined names
-trouble_of kind fault.Range = OutOfRange
-trouble_of kind fault.ZeroDivisor = DividesByZero
-trouble_of kind (fault.Unreadable found) = Unreadable
+-- how many matches a kind asks for, where that is told
+abbrev pub told_times : Kind → Option ℕ
+told_times kind = if (row_of kind).counted then Some (row_of kind).demand.times else None
 
 -- a place in the input
 abbrev pub note_at : Remark → List ℕ → List ℕ → ℕ → Note
@@ -91,7 +69,8 @@ notes_of name input (fault.Unreadable found) = one_note FoundHere name input fou
 abbrev pub finding_of : CheckFile → List ℕ → Fault → Finding
 finding_of file input fault = record {
   name = name_of file fault.directive;
-  trouble = trouble_of (kind_of file fault.directive) fault.kind;
+  fault = fault.kind;
+  times = told_times (kind_of file fault.directive);
   check = body_spot file fault.directive;
   notes = notes_of (input_name file.asked.input) input fault.kind;
 }

@@ -1,16 +1,17 @@
 //! A check file: its text and its directives.
 ghost use Rattle.std.specs.Prelude.{◌≡◌, ◌≤◌, ◌-◌, ◌^◌, [], All, Contains, IfOk, IfSome, length, slice_get, slice_index_or};
 ghost use Rattle.check_lines.specs.Checks.{IsPlaced};
-ghost use Rattle.filecheck_tool.specs.CheckFile.{HasBodies, body_spot, check_file_in, check_file_read, implicit_at, implicit_spot, kind_of, name_of, refusal_of, start_behind, suffix_of, whole, with_directives};
+ghost use Rattle.filecheck_tool.specs.CheckFile.{HasBodies, body_spot, check_file_in, check_file_read, implicit_at, implicit_spot, kind_of, name_of, refusal_of, start_behind, whole, with_directives};
 ghost use Rattle.filecheck_messages.specs.Refusal.{Gives, accepted};
 ghost use Rattle.filecheck_messages.specs.Spot.{spot_at};
 ghost use Rattle.tt_run.specs.Run.{IsShort};
 
 use crate::start::Start;
-use check_lines::{CheckFail, CheckFault, CheckKind, Directive, canon_owned, read_checks};
+use check_lines::{
+    CheckFail, CheckFault, CheckKind, Directive, FileRules, Kind, canon_owned, read_checks, row_of,
+};
 use filecheck_messages::{Refusal, Spot, StepFail, Stop, as_col, refuse, spot_at, spot_of};
 use filecheck_words::Asked;
-use pattern_parse::Kind;
 use std::alloc::Global;
 use std::mem::drop;
 use tt_base::{Bytes, Items, NoMemory, Place};
@@ -92,21 +93,20 @@ fn directives_of(alloc: Global, start: &Start, text: &[u8]) -> Result<Items<Dire
     ensures placed { IfOk result (All (IsPlaced text.now (length start.now.asked.prefixes.checks))) }
 {
     let asked = &start.asked;
-    match read_checks(
-        alloc,
-        text,
-        asked.prefixes.checks.as_slice(),
-        asked.prefixes.comments.as_slice(),
-        asked.allow_unused,
-        asked.strict && asked.full_lines,
-        asked.may_lack,
-    ) {
+    let rules = FileRules {
+        checks: asked.prefixes.checks.as_slice(),
+        comments: asked.prefixes.comments.as_slice(),
+        allow_unused: asked.allow_unused,
+        keep_blanks: asked.strict && asked.full_lines,
+        may_lack: asked.may_lack,
+    };
+    match read_checks(alloc, &rules, text) {
         Ok(directives) => Ok(directives),
         Err(CheckFail::Bad(fault)) => refuse(refusal_of(
             alloc,
             asked.name.as_slice(),
             text,
-            asked.prefixes.checks.as_slice(),
+            rules.checks,
             fault,
         )?),
         Err(CheckFail::NoMemory) => Err(StepFail::NoMemory),
@@ -128,12 +128,7 @@ fn refusal_of(
 {
     let spot = spot_at(alloc, name, text, fault.at)?;
     match fault.kind {
-        CheckKind::BadCount => Ok(Refusal::BadCount(spot)),
-        CheckKind::NotCombination => Ok(Refusal::NotCombination(spot)),
-        CheckKind::BadModifier => Ok(Refusal::BadModifier(spot)),
-        CheckKind::EmptyPattern => Ok(Refusal::EmptyPattern(spot)),
-        CheckKind::NonEmptyForEmpty => Ok(Refusal::NonEmptyForEmpty(spot)),
-        CheckKind::NoEarlierCheck => Ok(Refusal::NoEarlierCheck(spot)),
+        CheckKind::Line(fault) => Ok(Refusal::BadLine(fault, spot)),
         CheckKind::NoChecks => Ok(Refusal::NoChecks(spot.name)),
         CheckKind::UnusedPrefix(index) => Ok(Refusal::UnusedPrefix(Bytes::from_slice(
             alloc,
@@ -236,26 +231,10 @@ impl CheckFile {
             Some(directive) => {
                 let prefix = bytes_at(self.asked.prefixes.checks.as_slice(), directive.prefix);
                 let mut name = Bytes::from_slice(alloc, prefix)?;
-                name.append(suffix_of(directive.kind))?;
+                name.append(row_of(directive.kind).suffix)?;
                 Ok(name)
             }
             None => Bytes::from_slice(alloc, b"IMPLICIT-CHECK-NOT"),
         }
-    }
-}
-
-/// The suffix by which a kind is told.
-fn suffix_of(kind: Kind) -> &'static [u8]
-    ensures { result.now ≡ suffix_of kind }
-{
-    match kind {
-        Kind::Plain => b"",
-        Kind::Next => b"-NEXT",
-        Kind::Same => b"-SAME",
-        Kind::Empty => b"-EMPTY",
-        Kind::Not => b"-NOT",
-        Kind::Dag => b"-DAG",
-        Kind::Label => b"-LABEL",
-        Kind::Count(_) => b"-COUNT",
     }
 }

@@ -9,7 +9,7 @@ mod start;
 mod verdict;
 
 pub use check_file::CheckFile;
-pub use filecheck_messages::{Finding, Made, Note, Refusal, Remark, Report, Spot, Stop, Trouble};
+pub use filecheck_messages::{Finding, Made, Note, Refusal, Remark, Report, Spot, Stop};
 pub use program::Program;
 pub use run::{CHECK_LIMIT, INPUT_LIMIT, filecheck_run};
 pub use start::Start;

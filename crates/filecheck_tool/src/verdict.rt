@@ -6,20 +6,17 @@ ghost use Rattle.check_scan.specs.Verdict.{scan};
 ghost use Rattle.filecheck_tool.specs.CheckFile.{HasBodies};
 ghost use Rattle.filecheck_tool.specs.Program.{IsSound};
 ghost use Rattle.filecheck_messages.specs.Refusal.{Gives, accepted};
-ghost use Rattle.filecheck_tool.specs.Verdict.{absent_of, both_notes, filled, finding_of, findings_of, input_name, line_trouble, made_of, note_at, notes_of, one_note, report_of, trouble_of, verdict, verdict_read};
+ghost use Rattle.filecheck_tool.specs.Verdict.{both_notes, filled, finding_of, findings_of, input_name, made_of, note_at, notes_of, one_note, report_of, told_times, verdict, verdict_read};
 ghost use Rattle.tt_run.specs.Run.{IsShort};
 
 use crate::check_file::{CheckFile, whole};
 use crate::program::Program;
 use check_group::{Check, Fault, FaultKind};
-use check_lines::canon_owned;
+use check_lines::{Kind, canon_owned, row_of};
 use check_scan::{Subject, scan};
 use ere_auto::Steps;
-use filecheck_messages::{
-    Finding, Made, Note, Refusal, Remark, Report, StepFail, Trouble, refuse, spot_at,
-};
+use filecheck_messages::{Finding, Made, Note, Refusal, Remark, Report, StepFail, refuse, spot_at};
 use filecheck_words::Input;
-use pattern_parse::Kind;
 use pattern_vars::Vars;
 use std::alloc::Global;
 use std::marker::Brand;
@@ -101,7 +98,7 @@ fn verdict(
         scope,
         &mut program.vars,
     )?;
-    report_of(alloc, &program.file, count, input, faults.as_slice())
+    report_of(alloc, &program.file, count, input, faults)
 }
 
 /// What is told of faults.
@@ -110,15 +107,15 @@ fn report_of(
     file: &CheckFile,
     count: u64,
     input: &[u8],
-    faults: &[Fault],
+    faults: Items<Fault>,
 ) -> Result<Report, NoMemory>
     requires bodies { HasBodies file.now }
     requires short { length input.now ≤ 2 ^ 30 }
-    requires lie { All (λ fault. OffsetsLie (length input.now) fault.kind) faults.now }
-    ensures { IfOk result (λ report. report ≡ report_of file.now.made file.now count input.now faults.now) }
+    requires lie { All (λ fault. OffsetsLie (length input.now) fault.kind) faults }
+    ensures { IfOk result (λ report. report ≡ report_of file.now.made file.now count input.now faults) }
 {
     match file.made {
-        Some(checks) => Ok(Report::Made(made_of(checks, count, faults))),
+        Some(checks) => Ok(Report::Made(made_of(checks, count, faults.as_slice()))),
         None => Ok(Report::Found(findings_of(alloc, file, input, faults)?)),
     }
 }
@@ -176,15 +173,15 @@ fn findings_of(
     alloc: Global,
     file: &CheckFile,
     input: &[u8],
-    faults: &[Fault],
+    faults: Items<Fault>,
 ) -> Result<Items<Finding>, NoMemory>
     requires bodies { HasBodies file.now }
     requires short { length input.now ≤ 2 ^ 30 }
-    requires lie { All (λ fault. OffsetsLie (length input.now) fault.kind) faults.now }
-    ensures { IfOk result (λ findings. findings ≡ findings_of file.now input.now faults.now) }
+    requires lie { All (λ fault. OffsetsLie (length input.now) fault.kind) faults }
+    ensures { IfOk result (λ findings. findings ≡ findings_of file.now input.now faults) }
 {
     let mut findings = Items::new(alloc);
-    for fault in faults {
+    for fault in faults.into_vec() {
         findings.push(finding_of(alloc, file, input, fault)?)?;
     }
     Ok(findings)
@@ -194,66 +191,31 @@ fn finding_of(
     alloc: Global,
     file: &CheckFile,
     input: &[u8],
-    fault: &Fault,
+    fault: Fault,
 ) -> Result<Finding, NoMemory>
     requires bodies { HasBodies file.now }
     requires short { length input.now ≤ 2 ^ 30 }
-    requires lies { OffsetsLie (length input.now) fault.now.kind }
-    ensures { IfOk result (λ finding. finding ≡ finding_of file.now input.now fault.now) }
+    requires lies { OffsetsLie (length input.now) fault.kind }
+    ensures { IfOk result (λ finding. finding ≡ finding_of file.now input.now fault) }
 {
     Ok(Finding {
         name: file.name_of(alloc, fault.directive)?,
-        trouble: trouble_of(alloc, file.kind_of(fault.directive), &fault.kind)?,
+        times: told_times(file.kind_of(fault.directive)),
         check: file.body_spot(alloc, fault.directive)?,
         notes: notes_of(alloc, input_name(&file.asked.input), input, &fault.kind)?,
+        fault: fault.kind,
     })
 }
 
-/// What is wrong with a directive of a kind.
-fn trouble_of(alloc: Global, kind: Kind, fault: &FaultKind) -> Result<Trouble, NoMemory>
-    ensures { IfOk result (λ trouble. trouble ≡ trouble_of kind fault.now) }
+/// How many matches a kind asks for, where that is told.
+fn told_times(kind: Kind) -> Option<u32>
+    ensures { result ≡ told_times kind }
 {
-    match fault {
-        FaultKind::NotFound { done, .. } => Ok(absent_of(kind, *done)),
-        FaultKind::WrongLine { newlines, .. } => Ok(line_trouble(*newlines)),
-        FaultKind::NotSameLine { .. } => Ok(Trouble::NotOnSameLine),
-        FaultKind::Excluded { .. } => Ok(Trouble::Excluded),
-        FaultKind::Undefined(names) => Ok(Trouble::Undefined(copy_of(alloc, names.as_slice())?)),
-        FaultKind::Range => Ok(Trouble::OutOfRange),
-        FaultKind::ZeroDivisor => Ok(Trouble::DividesByZero),
-        FaultKind::Unreadable { .. } => Ok(Trouble::Unreadable),
-    }
-}
-
-/// What is wrong with a match that isn't on the next line.
-fn line_trouble(newlines: u64) -> Trouble
-    ensures { result ≡ line_trouble newlines }
-{
-    if newlines == 0 {
-        Trouble::OnSameLine
+    let row = row_of(kind);
+    if row.counted {
+        Some(row.demand.times)
     } else {
-        Trouble::NotOnNextLine
-    }
-}
-
-fn copy_of(alloc: Global, names: &[Bytes]) -> Result<Items<Bytes>, NoMemory>
-    ensures { IfOk result (λ copy. copy ≡ names.now) }
-{
-    let mut copy = Items::new(alloc);
-    for name in names {
-        copy.push(Bytes::from_slice(alloc, name.as_slice())?)?;
-    }
-    Ok(copy)
-}
-
-/// What is wrong with a directive of a kind of which so many matches are found.
-fn absent_of(kind: Kind, done: u32) -> Trouble
-    ensures { result ≡ absent_of kind done }
-{
-    match kind {
-        Kind::Count(n) => Trouble::NotFoundAgain(done, n),
-        Kind::Plain | Kind::Next | Kind::Same | Kind::Empty => Trouble::NotFound,
-        Kind::Not | Kind::Dag | Kind::Label => Trouble::NotFound,
+        None
     }
 }
 

@@ -1,11 +1,11 @@
 -- What `count` says and answers. After the tool of that name in LLVM's tree, which compares the lines of its input with a
 -- number. Own rule: the texts and the statuses 2 and 3.
-use Rattle.std.specs.Prelude.{◌≡◌, ⊤, ℕ, ◌==◌, if◌then◌else◌, List, [], ◌∷◌, ◌++◌, codes, decimal, slice_index_or, Result, Ok, Err}
+use Rattle.std.specs.Prelude.{◌≡◌, ⊤, ℕ, ◌^◌, ◌==◌, if◌then◌else◌, List, [], ◌∷◌, ◌++◌, codes, decimal, slice_index_or, Result, Ok, Err}
 use Rattle.std.specs.List.{concat}
 use Rattle.opt_words.specs.Fault.{text_before, text_behind, word_of}
 use Rattle.opt_words.specs.declared.fault.WordFault.{WordFault}
-use Rattle.tt_run.specs.Run.{Source, SourceRests}
-use Rattle.not_count.specs.Asked.{IsTold}
+use Rattle.tt_run.specs.Run.{Answered, Source, SourceRests, Stream}
+use Rattle.not_count.specs.Asked.{IsTold, asked}
 use Rattle.not_count.specs.Lines.{IsCounted}
 use Rattle.not_count.specs.declared.asked.Refusal.{Refusal}
 use Rattle.not_count.specs.declared.asked.Refusal.TheVariants.{FaultyWord, NotOneNumber}
@@ -66,3 +66,11 @@ compared_status wanted Failed = 3
 abbrev pub status_of : Outcome → ℕ
 status_of (Refused refusal) = 2
 status_of (Compared wanted counted) = compared_status wanted counted
+
+-- ---- a run
+
+-- what words and an input come to is told, and gives the status
+abbrev pub Counts : List (List ℕ) → Source → ℕ → Stream → Type 0
+Counts words input result err =
+    (outcome : Outcome) × OutcomeFrom input (2 ^ 40) (asked words) outcome
+    × Answered (text_of words outcome) (status_of outcome) result err

@@ -5,7 +5,7 @@ ghost use Rattle.tt_outside.specs.Transfer.{TakesAtMost};
 ghost use Rattle.tt_run.specs.Run.{Answered, source, stream};
 ghost use Rattle.opt_words.specs.Step.{texts};
 ghost use Rattle.not_count.specs.Asked.{IsTold, asked};
-ghost use Rattle.not_count.specs.Count.{IsToldOf, OutcomeFrom, compared_status, compared_text, expected_text, faulty_word_text, lines_status, lines_text, refusal_text, status_of, text_of};
+ghost use Rattle.not_count.specs.Count.{Counts, IsToldOf, OutcomeFrom, compared_status, compared_text, expected_text, faulty_word_text, lines_status, lines_text, refusal_text, status_of, text_of};
 
 use crate::asked::{Refusal, asked};
 use crate::lines::{Counted, count_lines};
@@ -26,9 +26,7 @@ pub enum Outcome {
 /// says, 1 where it has another number, 2 where the words are refused or the input has more than 2^40 bytes, and 3 at a
 /// fault of the input or of `err`. It takes no memory.
 pub fn count_run<I: Source, E: Sink>(words: &[String], input: &mut I, err: &mut E) -> u8
-    ensures answer { (outcome : Outcome)
-        × OutcomeFrom (source I.left I.steady I.faults input.old input.new) (2 ^ 40) (asked (texts words.now)) outcome
-        × Answered (text_of (texts words.now) outcome) (status_of outcome) result
+    ensures answer { Counts (texts words.now) (source I.left I.steady I.faults input.old input.new) result
         (stream E.held E.faults E.room err.old err.new) }
     ensures fault { result ≡ 3 → Rose (I.faults input.old) (I.faults input.new)
         ⊎ Rose (E.faults err.old) (E.faults err.new) }

@@ -53,8 +53,9 @@ pub fn not_run<C: Crew, I: Source, O: Sink, E: Sink>(
         ⊎ HandFailed (C.hands crew.old) (C.hands crew.new)
         ⊎ Rose (O.faults out.old) (O.faults out.new)
         ⊎ Rose (E.faults err.old) (E.faults err.new) }
-    ensures memory { result ≡ 4 → AtMostOneHand (C.hands crew.old) (C.hands crew.new)
-        × (O.held out.new ≡ O.held out.old) × Told not_out_of_memory (stream E.held E.faults E.room err.old err.new) }
+    ensures memory { result ≡ 4 → (O.held out.new ≡ O.held out.old)
+        × Told not_out_of_memory (stream E.held E.faults E.room err.old err.new) }
+    ensures few { result ≡ 4 → AtMostOneHand (C.hands crew.old) (C.hands crew.new) }
     ensures taken { TakesAtMost (I.left input.old) (I.left input.new) (2 ^ 26 + 1) }
     ensures seats { C.seats crew.new ≡ C.seats crew.old }
     ensures gave { SameGave (C.gave crew.new) (C.gave crew.old) }

@@ -1,7 +1,7 @@
 //! What a match binds.
 ghost use Rattle.std.specs.Prelude.{◌≡◌, ◌≤◌, ℕ, IfOk, List, length, map, Result, Ok, Err};
 ghost use Rattle.num_spell.specs.Spelling.{spelled, valued};
-ghost use Rattle.pattern_hits.specs.Bound.{all_bound, as_spelled, bound_of, cap_at, in_case, number_bound, number_read, span_at, text_at};
+ghost use Rattle.pattern_hits.specs.Bound.{all_bound, as_spelled, bound_of, cap_at, in_case, number_bound, number_read, text_at};
 ghost use Rattle.pattern_hits.specs.Caps.{LieInText};
 
 use ere_tree::Cap;
@@ -86,29 +86,21 @@ fn text_at<'a>(text: &'a [u8], groups: &[Option<Cap>], group: u32) -> &'a [u8]
     &text[cap.from..cap.to]
 }
 
-/// The number that the part of a group spells, or that part where it can't be read.
+/// The number that a part spells, or that part where it can't be read.
 fn number_bound(
     alloc: Global,
     name: &Bytes,
-    group: u32,
-    format: Format,
-    groups: &[Option<Cap>],
-    text: &[u8],
-    fold: bool,
+    span: Span,
+    value: Option<i128>,
 ) -> Result<Result<Binding, Span>, NoMemory>
-    requires { LieInText text.now groups.now }
-    ensures { IfOk result (λ told. told ≡ number_bound name.now (span_at groups.now group)
-        (number_read fold format (text_at text.now groups.now group))) }
+    ensures { IfOk result (λ told. told ≡ number_bound name.now span value) }
 {
-    match number_read(alloc, fold, format, text_at(text, groups, group))? {
+    match value {
         Some(value) => Ok(Ok(Binding::Number {
             name: Bytes::from_slice(alloc, name.as_slice())?,
             value,
         })),
-        None => {
-            let cap = cap_at(groups, group);
-            Ok(Err(Span::of(cap.from, cap.to - cap.from)))
-        }
+        None => Ok(Err(span)),
     }
 }
 
@@ -132,7 +124,11 @@ fn bound_of(
             name,
             group,
             format,
-        } => number_bound(alloc, name, *group, *format, groups, text, fold),
+        } => {
+            let cap = cap_at(groups, *group);
+            let value = number_read(alloc, fold, *format, text_at(text, groups, *group))?;
+            number_bound(alloc, name, Span::of(cap.from, cap.to - cap.from), value)
+        }
         Gift::Given { name, value } => Ok(Ok(Binding::Number {
             name: Bytes::from_slice(alloc, name.as_slice())?,
             value: *value,

@@ -5,6 +5,7 @@ use Rattle.std.specs.FinMap.{FinMap}
 use Rattle.num_base.specs.Names.{name_cmp}
 use Rattle.pattern_vars.specs.Vars.{number_of, text_of}
 use Rattle.pattern_vars.specs.declared.vars.Held.{Held}
+use Rattle.pattern_instance.specs.declared.known.Known as held
 
 -- the texts and numbers of variables, the directive's line, and whether letters match in either case
 pub record Known : Type 0 where
@@ -16,3 +17,7 @@ pub record Known : Type 0 where
 -- what these variables tell
 abbrev pub known_of : FinMap name_cmp Held → ℕ → Bool → Known
 known_of vars at fold = record { text = text_of vars; number = number_of vars; at = at; fold = fold }
+
+-- the same of the code's value
+abbrev pub known_in : held.Known → Known
+known_in known = known_of known.vars.now known.line known.fold

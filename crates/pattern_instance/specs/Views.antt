@@ -1,5 +1,5 @@
 -- The definitions' values that the code's values stand for.
-use Rattle.std.specs.Prelude.{◌≡◌, ℕ, ℤ, ◌++◌, List, ◌∷◌, map, Option, Some, None, Result, Ok, Err}
+use Rattle.std.specs.Prelude.{◌≡◌, ℕ, ℤ, Bool, false, ◌++◌, List, ◌∷◌, map, Option, Some, None, Result, Ok, Err}
 use Rattle.std.specs.FinMap.{FinMap, insert}
 use Rattle.ere_tree.specs.View.{view}
 use Rattle.num_base.specs.Names.{name_cmp}
@@ -8,7 +8,7 @@ use Rattle.num_base.specs.declared.evaluation.EvalFault.{EvalFault}
 use Rattle.pattern_parse.specs.Item.{Item}
 use Rattle.pattern_instance.specs.Instance.{Instance, undefined, faulty, made}
 use Rattle.pattern_instance.specs.Known.{Known}
-use Rattle.pattern_instance.specs.Missing.{each_once}
+use Rattle.pattern_instance.specs.Missing.{Names, each_once, unknown, uses_names}
 use Rattle.pattern_instance.specs.Parts.{Part, Parts, parts_from}
 use Rattle.pattern_instance.specs.declared.instance.Instance as instances
 use Rattle.pattern_instance.specs.declared.instance.Instance.TheVariants as instance
@@ -19,6 +19,10 @@ use Rattle.pattern_instance.specs.declared.part.Made as begun
 -- the names that were told, with those that are told of others behind them
 abbrev pub still_told : names.NameList → List (List ℕ) → List (List ℕ)
 still_told list rest = list.names ++ each_once list.told rest
+
+-- the names of pieces that have no value, behind those that were told, where these texts are defined
+abbrev pub told_with : names.NameList → Known → Names → List Item → List (List ℕ)
+told_with list known defined items = still_told list (unknown known defined items)
 
 -- numbers with those of an expression that have a value
 abbrev pub gathered : (List ℕ → Option ℤ) → Term → FinMap name_cmp ℤ → FinMap name_cmp ℤ
@@ -48,6 +52,12 @@ whole known first items = in_front first (parts_from known first.count first.gro
 abbrev pub told_view : Result begun.Made EvalFault → Result Parts EvalFault
 told_view (Ok all) = Ok (record { trees = map view all.trees.items; gifts = all.gifts })
 told_view (Err fault) = Err fault
+
+-- the groups of texts serve the parts of pieces behind them as others do, where none of those uses names or some may
+abbrev pub Serve : Bool → Names → Names → Type 0
+Serve uses groups others =
+    (known : Known) (count : ℕ) (items : List Item) → (uses ≡ false → uses_names items ≡ false)
+    → parts_from known count groups items ≡ parts_from known count others items
 
 -- a piece was added to what is made, or it has the first fault
 abbrev pub Added : Known → begun.Made → begun.Made → Item → List Item → Result (Unit {0}) EvalFault → Type 0

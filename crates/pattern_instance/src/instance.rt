@@ -7,14 +7,15 @@ ghost use Rattle.pattern_parse.specs.Item.{Item};
 ghost use Rattle.pattern_parse.specs.PieceView.{item_view, items_view};
 ghost use Rattle.pattern_parse.specs.Search.{IsSearchable, greatest_of};
 ghost use Rattle.pattern_instance.specs.Instance.{before, behind, instance_of, made, spaces};
-ghost use Rattle.pattern_instance.specs.Known.{Known, known_of};
+ghost use Rattle.pattern_instance.specs.Known.{known_in, known_of};
 ghost use Rattle.pattern_instance.specs.Missing.{uses_names};
 ghost use Rattle.pattern_instance.specs.Parts.{Parts, groups_behind, map_parts, parts_from, with_part};
-ghost use Rattle.pattern_instance.specs.Views.{Added, in_front, instance_view, part_view, told_view, whole};
+ghost use Rattle.pattern_instance.specs.Views.{Added, Serve, in_front, instance_view, part_view, told_view, whole};
 ghost use Rattle.num_base.specs.declared.evaluation.EvalFault.{EvalFault};
 
 use crate::gift::Gift;
 use crate::groups::Groups;
+use crate::known::Known;
 use crate::missing::{missing_names, uses_names};
 use crate::part::{Made, Part, part_of};
 use ere_tree::{ByteRun, Ere, EreList};
@@ -120,9 +121,7 @@ fn add_part(made: &mut Made, part: Part) -> Result<(), NoMemory>
 /// Names the group of a text that a piece behind so many groups defines, unless no piece behind it uses names.
 fn name_group(groups: &mut Groups, piece: &Piece, count: u32, uses: bool) -> Result<(), NoMemory>
     requires { count < 2 ^ 31 }
-    ensures { OnOk result ((known : Known) (n : ℕ) (items : List Item) → (uses ≡ false → uses_names items ≡ false) →
-        parts_from known n groups.new items
-        ≡ parts_from known n (groups_behind count groups.old (item_view piece.now)) items) }
+    ensures { OnOk result (Serve uses groups.new (groups_behind count groups.old (item_view piece.now))) }
 {
     if !uses {
         return Ok(());
@@ -140,20 +139,18 @@ fn name_group(groups: &mut Groups, piece: &Piece, count: u32, uses: bool) -> Res
 #[tactic(auto, using(crate::proofs::GroupLemmas::few_groups))]
 fn add_piece(
     alloc: Global,
+    known: &Known<'_>,
     made: &mut Made,
     piece: &Piece,
-    vars: &Vars,
-    line: u32,
-    fold: bool,
     uses: bool,
 ) -> Result<Result<(), EvalFault>, NoMemory>
     requires { made.old.count + (greatest_of (item_view piece.now) + 2) < 2 ^ 31 }
     ensures added { (items : List Item) → (uses ≡ false → uses_names items ≡ false) → IfOk result
-        (Added (known_of vars.now line fold) made.old made.new (item_view piece.now) items) }
+        (Added (known_in known.now) made.old made.new (item_view piece.now) items) }
     ensures count { OnOk result (made.new.count ≤ made.old.count + (greatest_of (item_view piece.now) + 2)) }
 {
     let count = made.count;
-    let part = match part_of(alloc, piece, count, &made.groups, vars, line, fold)? {
+    let part = match part_of(alloc, known, piece, count, &made.groups)? {
         Ok(part) => part,
         Err(fault) => return Ok(Err(fault)),
     };
@@ -165,21 +162,19 @@ fn add_piece(
 /// Adds the parts of all pieces, up to the first fault.
 fn add_pieces(
     alloc: Global,
+    known: &Known<'_>,
     begun: Made,
     pieces: &[Piece],
-    vars: &Vars,
-    line: u32,
-    fold: bool,
     uses: bool,
 ) -> Result<Result<Made, EvalFault>, NoMemory>
     requires nameless { uses ≡ false → uses_names (items_view pieces.now) ≡ false }
     requires room { begun.count + sum_by (λ one. greatest_of one + 2) (items_view pieces.now) < 2 ^ 31 }
     ensures { IfOk result (λ told. told_view told
-        ≡ whole (known_of vars.now line fold) begun (items_view pieces.now)) }
+        ≡ whole (known_in known.now) begun (items_view pieces.now)) }
 {
     let mut made = begun;
     for piece in pieces {
-        if let Err(fault) = add_piece(alloc, &mut made, piece, vars, line, fold, uses)? {
+        if let Err(fault) = add_piece(alloc, known, &mut made, piece, uses)? {
             return Ok(Err(fault));
         }
     }
@@ -199,7 +194,12 @@ pub fn make_instance(
 {
     let pieces = pattern.pieces.as_slice();
     let uses = uses_names(pieces);
-    let names = missing_names(alloc, pieces, vars, uses)?;
+    let known = Known {
+        vars,
+        line,
+        fold: pattern.fold,
+    };
+    let names = missing_names(alloc, &known, pieces, uses)?;
     if !names.is_empty() {
         return Ok(Instance::Undefined(names));
     }
@@ -209,7 +209,7 @@ pub fn make_instance(
         count: 0,
         groups: Groups::new(alloc),
     };
-    match add_pieces(alloc, begun, pieces, vars, line, pattern.fold, uses)? {
+    match add_pieces(alloc, &known, begun, pieces, uses)? {
         Ok(made) => finished(alloc, made, pattern.frame),
         Err(fault) => Ok(Instance::Faulty(fault)),
     }

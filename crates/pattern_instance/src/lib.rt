@@ -7,6 +7,7 @@
 mod gift;
 mod groups;
 mod instance;
+mod known;
 mod missing;
 mod name_list;
 mod part;

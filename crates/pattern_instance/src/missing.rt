@@ -1,17 +1,18 @@
 //! The names that a pattern uses and that have no value.
-ghost use Rattle.std.specs.Prelude.{◌≡◌, false, ◌++◌, ◌∷◌, ℕ, Bool, IfOk, List, OnOk};
+ghost use Rattle.std.specs.Prelude.{◌≡◌, false, ◌++◌, ◌∷◌, ℕ, IfOk, List, OnOk};
 ghost use Rattle.num_exprs.specs.Block.{Num};
 ghost use Rattle.num_exprs.specs.View.{num_view};
 ghost use Rattle.num_base.specs.Term.{term_of};
 ghost use Rattle.std.specs.Option.{option_map};
-ghost use Rattle.pattern_instance.specs.Known.{known_of};
+ghost use Rattle.pattern_instance.specs.Known.{known_in};
 ghost use Rattle.pattern_instance.specs.Missing.{Names, each_once, lacking, lacking_in, missing, unknown, uses_names};
-ghost use Rattle.pattern_instance.specs.Views.{still_told};
+ghost use Rattle.pattern_instance.specs.Views.{still_told, told_with};
 ghost use Rattle.pattern_parse.specs.Item.{Item, recall};
 ghost use Rattle.pattern_parse.specs.PieceView.{item_view, items_view};
 ghost use Rattle.pattern_vars.specs.Vars.{number_of};
 
 use crate::groups::Groups;
+use crate::known::Known;
 use crate::name_list::NameList;
 use num_base::Expr;
 use pattern_parse::Piece;
@@ -50,13 +51,12 @@ fn tell_text(
     missing: &mut NameList,
     defined: &Groups,
     name: &Bytes,
-    vars: &Vars,
+    known: &Known<'_>,
 ) -> Result<(), NoMemory>
-    ensures { (at : ℕ) (fold : Bool) (items : List Item) → OnOk result (
-        still_told missing.new (unknown (known_of vars.now at fold) defined.now items)
-        ≡ still_told missing.old (unknown (known_of vars.now at fold) defined.now (recall name.now ∷ items))) }
+    ensures { (items : List Item) → OnOk result (told_with missing.new (known_in known.now) defined.now items
+        ≡ told_with missing.old (known_in known.now) defined.now (recall name.now ∷ items)) }
 {
-    if defined.get(name.as_slice()).is_some() || vars.text(name.as_slice()).is_some() {
+    if defined.get(name.as_slice()).is_some() || known.vars.text(name.as_slice()).is_some() {
         return Ok(());
     }
     missing.add(alloc, name.as_slice())
@@ -68,19 +68,18 @@ fn tell_piece(
     missing: &mut NameList,
     defined: &mut Groups,
     piece: &Piece,
-    vars: &Vars,
+    known: &Known<'_>,
 ) -> Result<(), NoMemory>
-    ensures { (at : ℕ) (fold : Bool) (items : List Item) → OnOk result (
-        still_told missing.new (unknown (known_of vars.now at fold) defined.new items)
-        ≡ still_told missing.old (unknown (known_of vars.now at fold) defined.old (item_view piece.now ∷ items))) }
+    ensures { (items : List Item) → OnOk result (told_with missing.new (known_in known.now) defined.new items
+        ≡ told_with missing.old (known_in known.now) defined.old (item_view piece.now ∷ items)) }
 {
     match piece {
         Piece::Plain(_) => Ok(()),
         Piece::Regex(_) => Ok(()),
         Piece::Define { name, .. } => defined.put(name.as_slice(), 0),
-        Piece::Recall { name } => tell_text(alloc, missing, defined, name, vars),
+        Piece::Recall { name } => tell_text(alloc, missing, defined, name, known),
         Piece::Num { block, .. } => match &block.expr {
-            Some(expr) => tell_numbers(alloc, missing, expr, vars),
+            Some(expr) => tell_numbers(alloc, missing, expr, known.vars),
             None => Ok(()),
         },
     }
@@ -109,13 +108,12 @@ pub(crate) fn uses_names(pieces: &[Piece]) -> bool
 /// The names that pieces use and that have no value, each once in order of first use. `uses` tells whether they use names.
 pub(crate) fn missing_names(
     alloc: Global,
+    known: &Known<'_>,
     pieces: &[Piece],
-    vars: &Vars,
     uses: bool,
 ) -> Result<Items<Bytes>, NoMemory>
     requires { uses ≡ false → uses_names (items_view pieces.now) ≡ false }
-    ensures { (at : ℕ) (fold : Bool) → IfOk result (λ names.
-        names ≡ missing (known_of vars.now at fold) (items_view pieces.now)) }
+    ensures { IfOk result (λ names. names ≡ missing (known_in known.now) (items_view pieces.now)) }
 {
     let mut missing = NameList::new(alloc);
     if !uses {
@@ -123,7 +121,7 @@ pub(crate) fn missing_names(
     }
     let mut defined = Groups::new(alloc);
     for piece in pieces {
-        tell_piece(alloc, &mut missing, &mut defined, piece, vars)?;
+        tell_piece(alloc, &mut missing, &mut defined, piece, known)?;
     }
     Ok(missing.into_items())
 }

@@ -14,12 +14,13 @@ ghost use Rattle.pattern_parse.specs.PieceView.{item_view};
 ghost use Rattle.pattern_parse.specs.Search.{greatest_of};
 ghost use Rattle.pattern_vars.specs.Vars.{number_of, text_of};
 ghost use Rattle.pattern_instance.specs.declared.gift.Gift.TheVariants.{Text};
-ghost use Rattle.pattern_instance.specs.Known.{known_of};
+ghost use Rattle.pattern_instance.specs.Known.{known_in};
 ghost use Rattle.pattern_instance.specs.Parts.{cased, in_group, number_part, part_of, recalled, shown, spelled, valued};
 ghost use Rattle.pattern_instance.specs.Views.{gathered, outcome_view, part_view, whole};
 
 use crate::gift::Gift;
 use crate::groups::Groups;
+use crate::known::Known;
 use ere_tree::{ByteRun, Ere};
 use num_base::{EvalFault, Expr, Format, Numbers, eval};
 use num_exprs::NumBlock;
@@ -126,21 +127,18 @@ fn define_part(alloc: Global, name: &Bytes, ere: &Ere, count: u32) -> Result<Par
 }
 
 /// What a recall stands for.
-fn recalled(
-    alloc: Global,
-    groups: &Groups,
-    vars: &Vars,
-    fold: bool,
-    name: &[u8],
-) -> Result<Ere, NoMemory>
+fn recalled(alloc: Global, groups: &Groups, known: &Known<'_>, name: &[u8]) -> Result<Ere, NoMemory>
     ensures { IfOk result (λ made. view made
-        ≡ recalled fold (map.get groups.now name.now) (text_of vars.now name.now)) }
+        ≡ recalled known.now.fold (map.get groups.now name.now) (text_of known.now.vars.now name.now)) }
 {
     if let Some(number) = groups.get(name) {
-        return Ok(Ere::Ref { number, fold });
+        return Ok(Ere::Ref {
+            number,
+            fold: known.fold,
+        });
     }
-    match vars.text(name) {
-        Some(text) => plain(alloc, text.as_slice(), fold),
+    match known.vars.text(name) {
+        Some(text) => plain(alloc, text.as_slice(), known.fold),
         None => Ok(Ere::Empty),
     }
 }
@@ -214,24 +212,22 @@ fn shown(
 /// The part of a numeric block that is spelled in this format, behind so many groups.
 fn number_part(
     alloc: Global,
+    known: &Known<'_>,
     block: &NumBlock,
     format: Format,
     count: u32,
-    vars: &Vars,
-    line: u32,
-    fold: bool,
 ) -> Result<Result<Part, EvalFault>, NoMemory>
     requires { count + 2 < 2 ^ 31 }
-    ensures { IfOk result (λ told. outcome_view told ≡ number_part (known_of vars.now line fold) count
+    ensures { IfOk result (λ told. outcome_view told ≡ number_part (known_in known.now) count
         block.now.defines format (option_map term_of block.now.expr)) }
 {
     let defines = copied(alloc, &block.defines)?;
     match &block.expr {
-        Some(expr) => match evaluated(alloc, expr, vars, line)? {
-            Ok(value) => shown(alloc, defines, format, value, fold),
+        Some(expr) => match evaluated(alloc, expr, known.vars, known.line)? {
+            Ok(value) => shown(alloc, defines, format, value, known.fold),
             Err(fault) => Ok(Err(fault)),
         },
-        None => Ok(Ok(spelled(alloc, defines, format, count, fold)?)),
+        None => Ok(Ok(spelled(alloc, defines, format, count, known.fold)?)),
     }
 }
 
@@ -262,24 +258,22 @@ fn spelled(
 /// The part of a piece behind so many groups, where these texts are defined before it.
 pub(crate) fn part_of(
     alloc: Global,
+    known: &Known<'_>,
     piece: &Piece,
     count: u32,
     groups: &Groups,
-    vars: &Vars,
-    line: u32,
-    fold: bool,
 ) -> Result<Result<Part, EvalFault>, NoMemory>
     requires { count + (greatest_of (item_view piece.now) + 2) < 2 ^ 31 }
     ensures { IfOk result (λ told. outcome_view told
-        ≡ part_of (known_of vars.now line fold) count groups.now (item_view piece.now)) }
+        ≡ part_of (known_in known.now) count groups.now (item_view piece.now)) }
 {
     let ere = match piece {
-        Piece::Plain(bytes) => plain(alloc, bytes.as_slice(), fold)?,
-        Piece::Recall { name } => recalled(alloc, groups, vars, fold, name.as_slice())?,
+        Piece::Plain(bytes) => plain(alloc, bytes.as_slice(), known.fold)?,
+        Piece::Recall { name } => recalled(alloc, groups, known, name.as_slice())?,
         Piece::Regex(ere) => return Ok(Ok(regex_part(alloc, ere, count)?)),
         Piece::Define { name, ere } => return Ok(Ok(define_part(alloc, name, ere, count)?)),
         Piece::Num { block, format } => {
-            return number_part(alloc, block, *format, count, vars, line, fold);
+            return number_part(alloc, known, block, *format, count);
         }
     };
     Ok(Ok(Part {

@@ -3,7 +3,8 @@
 -- follows from `one_cut`.
 use Rattle.std.specs.Bool.{MatchBool}
 use Rattle.pattern_parse.specs.Item.{plain, refused}
-use Rattle.pattern_parse.specs.Pieces.{IsPieces, PiecesAreOne, is_label, is_plain, nothing_said}
+use Rattle.pattern_parse.specs.Demand.{is_label}
+use Rattle.pattern_parse.specs.Pieces.{IsPieces, PiecesAreOne, is_plain, nothing_said}
 use Rattle.pattern_parse.specs.declared.fault.PatKind.TheVariants.{TooLong}
 use Rattle.pattern_parse.proofs.CutLemmas.{one_cut}
 use Rattle.std.proofs.Common.{◌≡◌, ℕ, zero, suc, ◌+◌, ◌<◌, ◌≤◌, Bool, true, false, nat_lt, List, [], ◌∷◌, ◌++◌, Option, Some, None, Result, Ok, Err, add-one, ap, drop, drop-cons, get_or, length, map, refl, subst, sym, take, ◌∙◌, arith}
@@ -18,7 +19,7 @@ use Rattle.pattern_parse.specs.Pieces.{and_items, behind_items, behind_raw, item
 use Rattle.pattern_parse.specs.RawView.{raw_view}
 use Rattle.pattern_parse.specs.declared.cutting.Raw as raws
 use Rattle.pattern_parse.specs.declared.fault.PatFault.{PatFault}
-use Rattle.pattern_parse.specs.declared.pattern.Kind.{Kind}
+use Rattle.pattern_parse.specs.declared.pattern.BodyRules.{BodyRules}
 
 -- no bytes stand past the end
 pub none_there : (body : List ℕ) (from n : ℕ) → length body < from → [] ≡ take n (drop from body)
@@ -111,42 +112,42 @@ module _ (fold : Bool) (known : List ℕ → Option Format) (label : Bool) (body
 
 -- A body has one list of pieces, or one refusal.
 pub pieces_are_one : PiecesAreOne
-pieces_are_one body kind literal fold known told other one two =
-    long (nat_lt 65536 (length body)) (is_plain kind literal) one two
+pieces_are_one body rules known told other one two =
+    long (nat_lt 65536 (length body)) (is_plain rules) one two
   where
     cut_one : ((raws : List Raw) × (ending : Ending) × IsCut body raws ending
-        × (told ≡ items_from fold known (is_label kind) nothing_said 0 raws ending))
+        × (told ≡ items_from rules.fold known (is_label rules.demand.role) nothing_said 0 raws ending))
         → ((raws : List Raw) × (ending : Ending) × IsCut body raws ending
-        × (other ≡ items_from fold known (is_label kind) nothing_said 0 raws ending)) → told ≡ other
+        × (other ≡ items_from rules.fold known (is_label rules.demand.role) nothing_said 0 raws ending)) → told ≡ other
     cut_one (raws, ending, cut, same_told) (others, ends, again, equal) =
         let same = one_cut body raws others ending ends cut again in
-        same_told ∙ ap (λ rs. items_from fold known (is_label kind) nothing_said 0 rs ending) same.0
-        ∙ ap (items_from fold known (is_label kind) nothing_said 0 others) same.1 ∙ sym equal
+        same_told ∙ ap (λ rs. items_from rules.fold known (is_label rules.demand.role) nothing_said 0 rs ending) same.0
+        ∙ ap (items_from rules.fold known (is_label rules.demand.role) nothing_said 0 others) same.1 ∙ sym equal
 
     long : (b p : Bool)
         → MatchBool b (told ≡ refused TooLong 0) (MatchBool p (told ≡ Ok (plain body ∷ []))
         ((raws : List Raw) × (ending : Ending) × IsCut body raws ending
-        × (told ≡ items_from fold known (is_label kind) nothing_said 0 raws ending)))
+        × (told ≡ items_from rules.fold known (is_label rules.demand.role) nothing_said 0 raws ending)))
         → MatchBool b (other ≡ refused TooLong 0) (MatchBool p (other ≡ Ok (plain body ∷ []))
         ((raws : List Raw) × (ending : Ending) × IsCut body raws ending
-        × (other ≡ items_from fold known (is_label kind) nothing_said 0 raws ending))) → told ≡ other
+        × (other ≡ items_from rules.fold known (is_label rules.demand.role) nothing_said 0 raws ending))) → told ≡ other
     long true p same_told equal = same_told ∙ sym equal
     long false true same_told equal = same_told ∙ sym equal
     long false false same_told equal = cut_one same_told equal
 
 -- ---- a body that is plain text alone
 
-pub plain_alone : (body : List ℕ) (kind : Kind) (literal fold : Bool) (known : List ℕ → Option Format) (told : Result (List Item) PatFault)
-    → length body ≤ 65536 → told ≡ Ok (plain body ∷ []) → (is_plain kind literal ≡ false → IsCut body (cut.text body ∷ []) cut.over)
-    → IsPieces body kind literal fold known told
-plain_alone body kind literal fold known told short is alone =
-    subst (λ v. MatchBool v (told ≡ refused TooLong 0) (MatchBool (is_plain kind literal) (told ≡ Ok (plain body ∷ []))
+pub plain_alone : (body : List ℕ) (rules : BodyRules) (known : List ℕ → Option Format) (told : Result (List Item) PatFault)
+    → length body ≤ 65536 → told ≡ Ok (plain body ∷ []) → (is_plain rules ≡ false → IsCut body (cut.text body ∷ []) cut.over)
+    → IsPieces body rules known told
+plain_alone body rules known told short is alone =
+    subst (λ v. MatchBool v (told ≡ refused TooLong 0) (MatchBool (is_plain rules) (told ≡ Ok (plain body ∷ []))
     ((raws : List Raw) × (ending : Ending) × IsCut body raws ending
-    × (told ≡ items_from fold known (is_label kind) nothing_said 0 raws ending))))
-    (sym (le-ltb 65536 (length body) short)) (each (is_plain kind literal) refl)
+    × (told ≡ items_from rules.fold known (is_label rules.demand.role) nothing_said 0 raws ending))))
+    (sym (le-ltb 65536 (length body) short)) (each (is_plain rules) refl)
   where
-    each : (v : Bool) → is_plain kind literal ≡ v → MatchBool v (told ≡ Ok (plain body ∷ []))
+    each : (v : Bool) → is_plain rules ≡ v → MatchBool v (told ≡ Ok (plain body ∷ []))
         ((raws : List Raw) × (ending : Ending) × IsCut body raws ending
-        × (told ≡ items_from fold known (is_label kind) nothing_said 0 raws ending))
+        × (told ≡ items_from rules.fold known (is_label rules.demand.role) nothing_said 0 raws ending))
     each true plain_kind = is
     each false other = (cut.text body ∷ [], cut.over, alone other, is)

@@ -33,11 +33,12 @@ use Rattle.pattern_parse.specs.Block.{Said, and_said, decimal, is_used, line_num
 use Rattle.pattern_parse.specs.Cut.{Inside, written, Raw, text, regex, block, Ending, IsRun, IsUpToEnd, IsBlock, IsCut}
 use Rattle.pattern_parse.specs.Item.{Item, refused}
 use Rattle.pattern_parse.specs.Item as item
-use Rattle.pattern_parse.specs.Pieces.{IsPieces, and_items, behind_raw, ended, is_label, is_plain, items_behind, items_from, nothing_said, raw_read, regex_read, unless_refused}
+use Rattle.pattern_parse.specs.Demand.{is_label}
+use Rattle.pattern_parse.specs.Pieces.{IsPieces, and_items, behind_raw, ended, is_plain, items_behind, items_from, nothing_said, raw_read, regex_read, unless_refused}
 use Rattle.pattern_parse.specs.Search.{HasNumbers, IsSearchable, greatest_of}
 use Rattle.pattern_parse.specs.declared.fault.PatFault.{PatFault}
 use Rattle.pattern_parse.specs.declared.fault.PatKind.TheVariants.{BadExpr, BadName, TooLong, VariableInLabel}
-use Rattle.pattern_parse.specs.declared.pattern.Kind.{Kind}
+use Rattle.pattern_parse.specs.declared.pattern.BodyRules.{BodyRules}
 use Rattle.pattern_parse.proofs.CutLemmas.{written_front}
 use Rattle.pattern_parse.proofs.NumberLemmas.{IsWithin, ere_within, within_numbered}
 
@@ -291,30 +292,30 @@ fit_searchable n items (Ok others) small same all =
     (record { numbered = all.0; small = omega (arith, total, small) })
 fit_searchable n items (Err refusal) small same all = cc
 
-told_searchable : (body : List ℕ) (kind : Kind) (whole fold : Bool) (known : List ℕ → Option Format)
-    (told : Result (List Item) PatFault) (items : List Item) → told ≡ Ok items → IsPieces body kind whole fold known told
+told_searchable : (body : List ℕ) (rules : BodyRules) (known : List ℕ → Option Format)
+    (told : Result (List Item) PatFault) (items : List Item) → told ≡ Ok items → IsPieces body rules known told
     → IsSearchable items
-told_searchable body kind whole fold known told items ok is =
-    long (nat_lt 65536 (length body)) (is_plain kind whole) refl is
+told_searchable body rules known told items ok is =
+    long (nat_lt 65536 (length body)) (is_plain rules) refl is
   where
     cut_pieces : length body ≤ 65536 → ((raws : List Raw) × (ending : Ending) × IsCut body raws ending
-        × (told ≡ items_from fold known (is_label kind) nothing_said 0 raws ending)) → IsSearchable items
+        × (told ≡ items_from rules.fold known (is_label rules.demand.role) nothing_said 0 raws ending)) → IsSearchable items
     cut_pieces low (raws, ending, cut, same) =
-        fit_searchable (2 * length body) items (items_from fold known (is_label kind) nothing_said 0 raws ending)
+        fit_searchable (2 * length body) items (items_from rules.fold known (is_label rules.demand.role) nothing_said 0 raws ending)
         (omega (arith, low)) (sym ok ∙ same)
-        (cut_rooms fold known (is_label kind) raws ending nothing_said 0 body cut)
+        (cut_rooms rules.fold known (is_label rules.demand.role) raws ending nothing_said 0 body cut)
 
     long : (b p : Bool) → nat_lt 65536 (length body) ≡ b
         → MatchBool b (told ≡ refused TooLong 0) (MatchBool p (told ≡ Ok (item.plain body ∷ []))
         ((raws : List Raw) × (ending : Ending) × IsCut body raws ending
-        × (told ≡ items_from fold known (is_label kind) nothing_said 0 raws ending))) → IsSearchable items
+        × (told ≡ items_from rules.fold known (is_label rules.demand.role) nothing_said 0 raws ending))) → IsSearchable items
     long true p low same = no_items told items (record { at = 0; kind = TooLong }) ok same
     long false true low same =
         fit_searchable 2 items (Ok (item.plain body ∷ [])) (omega arith) (sym ok ∙ same)
         (All-cons HasNumbers (item.plain body) [] tt (All-nil HasNumbers), omega arith)
     long false false low same = cut_pieces (grind (arith, nat_tests)) same
 
-pub pieces_searchable : (body : List ℕ) (kind : Kind) (whole fold : Bool) (known : List ℕ → Option Format)
-    (items : List Item) → IsPieces body kind whole fold known (Ok items) → IsSearchable items
-pieces_searchable body kind whole fold known items is =
-    told_searchable body kind whole fold known (Ok items) items refl is
+pub pieces_searchable : (body : List ℕ) (rules : BodyRules) (known : List ℕ → Option Format)
+    (items : List Item) → IsPieces body rules known (Ok items) → IsSearchable items
+pieces_searchable body rules known items is =
+    told_searchable body rules known (Ok items) items refl is

@@ -1,5 +1,6 @@
 pub mod Block
 pub mod Cut
+pub mod Demand
 pub mod Ends
 pub mod Formats
 pub mod Item

@@ -1,7 +1,7 @@
 -- The pieces of a body, or its first refusal, from its cut.
 -- After LLVM Command Guide, FileCheck. Own rules: at most nine definitions of a body are meant by recalls; a body has
 -- at most 65,536 bytes; a label has no block.
-use Rattle.std.specs.Prelude.{◌≡◌, ℕ, ◌+◌, Bool, true, false, nat_lt, List, [], ◌∷◌, length, Option, Some, None, Result, Ok, Err, if◌then◌else◌}
+use Rattle.std.specs.Prelude.{◌≡◌, ℕ, ◌+◌, Bool, ◌||◌, nat_lt, List, [], ◌∷◌, length, Option, Some, None, Result, Ok, Err, if◌then◌else◌}
 use Rattle.std.specs.Bool.{MatchBool}
 use Rattle.std.specs.FinMap.{FinMap, empty, insert}
 use Rattle.ere_tree.specs.Grammar as ere
@@ -12,11 +12,11 @@ use Rattle.num_base.specs.declared.format.Format.{Format}
 use Rattle.pattern_parse.specs.Block.{Said, and_said, block_read}
 use Rattle.pattern_parse.specs.Cut.{Raw, Ending, over, no_regex_end, no_block_end, IsCut}
 use Rattle.pattern_parse.specs.Cut as cut
+use Rattle.pattern_parse.specs.Demand.{is_excluded, is_label, takes_none}
 use Rattle.pattern_parse.specs.Item.{Item, plain, regex, number, refused}
 use Rattle.pattern_parse.specs.declared.fault.PatFault.{PatFault}
 use Rattle.pattern_parse.specs.declared.fault.PatKind.TheVariants.{BadRegex, NoRegexEnd, NoBlockEnd, VariableInLabel, TooLong, TooManyReferences}
-use Rattle.pattern_parse.specs.declared.pattern.Kind.{Kind}
-use Rattle.pattern_parse.specs.declared.pattern.Kind.TheVariants.{Empty, Not, Label}
+use Rattle.pattern_parse.specs.declared.pattern.BodyRules.{BodyRules}
 use Rattle.pattern_parse.specs.declared.pattern.Frame.{Frame}
 use Rattle.pattern_parse.specs.declared.pattern.Frame.TheVariants.{Open}
 
@@ -76,28 +76,21 @@ items_from fold known label said at (raw ∷ raws) ending =
     items_behind (raw_read fold known label said at raw)
     (λ next. items_from fold known label next (behind_raw at raw) raws ending)
 
-abbrev pub is_label : Kind → Bool
-is_label Label = true
-is_label kind = false
-
 -- whether a body is plain text as a whole
-abbrev pub is_plain : Kind → Bool → Bool
-is_plain Empty literal = true
-is_plain kind literal = literal
+abbrev pub is_plain : BodyRules → Bool
+is_plain rules = rules.literal || takes_none rules.demand.rule
 
--- A body of this kind has these pieces, or this first refusal.
-abbrev pub IsPieces : List ℕ → Kind → Bool → Bool → (List ℕ → Option Format) → Result (List Item) PatFault → Type 0
-IsPieces body kind literal fold known told =
+-- A body that is read by these rules has these pieces, or this first refusal.
+abbrev pub IsPieces : List ℕ → BodyRules → (List ℕ → Option Format) → Result (List Item) PatFault → Type 0
+IsPieces body rules known told =
     MatchBool (nat_lt 65536 (length body)) (told ≡ refused TooLong 0)
-    (MatchBool (is_plain kind literal) (told ≡ Ok (plain body ∷ []))
+    (MatchBool (is_plain rules) (told ≡ Ok (plain body ∷ []))
     ((raws : List Raw) × (ending : Ending) × IsCut body raws ending
-    × (told ≡ items_from fold known (is_label kind) nothing_said 0 raws ending)))
+    × (told ≡ items_from rules.fold known (is_label rules.demand.role) nothing_said 0 raws ending)))
 
--- the frame of a pattern of this kind
-abbrev pub frame_of : Kind → Frame → Frame
-frame_of Not frame = Open
-frame_of Empty frame = Open
-frame_of kind frame = frame
+-- the frame of the pattern
+abbrev pub frame_of : BodyRules → Frame
+frame_of rules = if is_excluded rules.demand.role || takes_none rules.demand.rule then Open else rules.frame
 
 -- the formats with those of the numbers that the pieces define, in order
 abbrev pub with_format : FinMap name_cmp Format → Item → FinMap name_cmp Format
@@ -111,6 +104,6 @@ with_formats known (item ∷ items) = with_formats (with_format known item) item
 -- Law: a body has at most one list of pieces, or one refusal.
 abbrev pub PiecesAreOne : Type 0
 PiecesAreOne =
-    (body : List ℕ) (kind : Kind) (literal fold : Bool) (known : List ℕ → Option Format)
+    (body : List ℕ) (rules : BodyRules) (known : List ℕ → Option Format)
     (told other : Result (List Item) PatFault)
-    → IsPieces body kind literal fold known told → IsPieces body kind literal fold known other → told ≡ other
+    → IsPieces body rules known told → IsPieces body rules known other → told ≡ other

@@ -29,6 +29,16 @@ use tt_base::{Bytes, NoMemory};
 /// A piece, or why there is none; outside of it stands want of memory.
 pub(crate) type Read = Result<Result<Piece, PatFault>, NoMemory>;
 
+/// What the pieces of a body are read by: the formats that are known before it, whether letters match in either case,
+/// and whether it is that of a label.
+#[derive(Drop)]
+pub(crate) struct Reader<'a> {
+    pub(crate) alloc: Global,
+    pub(crate) known: &'a Formats,
+    pub(crate) fold: bool,
+    pub(crate) label: bool,
+}
+
 pub(crate) fn refused(kind: PatKind, at: usize) -> PatFault
     ensures { result ≡ record { at = at; kind = kind } }
 {
@@ -254,19 +264,15 @@ fn read_number(known: &Formats, said: &mut Said, at: usize, read: BlockReading) 
         Err(fault) => return Ok(Err(fault)),
     };
     match expr {
-        Ok(expr) => {
-            let block = NumBlock {
+        Ok(expr) => Ok(Ok(Piece::Num {
+            block: NumBlock {
                 format: written,
                 defines: defines.map(|named| named.name),
                 expr,
-            };
-            let format = format_of(written, seen);
-            Ok(Ok(Piece::Num { block, format }))
-        }
-        Err(fault) => {
-            let at = place(at, fault.at)?;
-            Ok(Err(refused(kind_of(fault.kind), at)))
-        }
+            },
+            format: format_of(written, seen),
+        })),
+        Err(fault) => Ok(Err(refused(kind_of(fault.kind), place(at, fault.at)?))),
     }
 }
 
@@ -373,24 +379,17 @@ fn line_read(alloc: Global, at: usize, bytes: &[u8]) -> Read
 }
 
 /// A block at an offset.
-pub(crate) fn block_read(
-    alloc: Global,
-    known: &Formats,
-    said: &mut Said,
-    fold: bool,
-    at: usize,
-    bytes: &[u8],
-) -> Read
+pub(crate) fn block_read(reader: &Reader<'_>, said: &mut Said, at: usize, bytes: &[u8]) -> Read
     ensures { IfOk result (λ read. ReadsAs read said.new
-        (block_read fold (map.get known.now) (said_view said.old) at bytes.now)) }
+        (block_read reader.now.fold (map.get reader.now.known.now) (said_view said.old) at bytes.now)) }
 {
     if begins(bytes, b'#') {
-        let read = read_block(alloc, behind(bytes, 1))?;
-        read_number(known, said, place(at, 1)?, read)
+        let read = read_block(reader.alloc, behind(bytes, 1))?;
+        read_number(reader.known, said, place(at, 1)?, read)
     } else if begins(bytes, b'@') {
-        line_read(alloc, at, bytes)
+        line_read(reader.alloc, at, bytes)
     } else {
-        text_read(alloc, said, fold, at, bytes)
+        text_read(reader.alloc, said, reader.fold, at, bytes)
     }
 }
 
@@ -410,26 +409,23 @@ fn regex_read(alloc: Global, fold: bool, at: usize, bytes: &[u8]) -> Read
 
 /// A piece at an offset, without what encloses it.
 pub(crate) fn raw_read(
-    alloc: Global,
-    known: &Formats,
+    reader: &Reader<'_>,
     said: &mut Said,
-    fold: bool,
-    label: bool,
     at: usize,
     kind: RawKind,
     bytes: &[u8],
 ) -> Read
     ensures { IfOk result (λ read. ReadsAs read said.new
-        (raw_read fold (map.get known.now) label (said_view said.old) at (raw_of kind bytes.now))) }
+        (raw_read reader.now.fold (map.get reader.now.known.now) reader.now.label (said_view said.old) at (raw_of kind bytes.now))) }
 {
     match kind {
-        RawKind::Text => Ok(Ok(Piece::Plain(Bytes::from_slice(alloc, bytes)?))),
-        RawKind::Regex => regex_read(alloc, fold, place(at, 2)?, bytes),
+        RawKind::Text => Ok(Ok(Piece::Plain(Bytes::from_slice(reader.alloc, bytes)?))),
+        RawKind::Regex => regex_read(reader.alloc, reader.fold, place(at, 2)?, bytes),
         RawKind::Block => {
-            if label {
+            if reader.label {
                 Ok(Err(refused(PatKind::VariableInLabel, at)))
             } else {
-                block_read(alloc, known, said, fold, place(at, 2)?, bytes)
+                block_read(reader, said, place(at, 2)?, bytes)
             }
         }
     }

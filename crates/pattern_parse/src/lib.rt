@@ -5,6 +5,7 @@
 
 mod block;
 mod cutting;
+mod demand;
 mod fault;
 mod formats;
 mod laws;
@@ -12,9 +13,10 @@ mod parser;
 mod pattern;
 mod said;
 
+pub use demand::{Demand, LineRule, Role};
 pub use fault::{PatFail, PatFault, PatKind};
 pub use formats::Formats;
 pub use laws::law_of_bodies;
 pub use num_base::{Format, FormatKind};
 pub use parser::{MAX_BODY, MAX_REFERENCES, parse_pattern};
-pub use pattern::{Frame, Kind, Pattern, Piece};
+pub use pattern::{BodyRules, Frame, Pattern, Piece};

@@ -3,15 +3,16 @@ ghost use Rattle.std.specs.Prelude.{◌≡◌, [], ◌∷◌, ◌-◌, IfOk, OnE
 ghost use Rattle.std.specs.FinMap as fin;
 ghost use Rattle.pattern_parse.specs.PieceView.{ReadsAs, Tells, items_view, said_view, told_view};
 ghost use Rattle.pattern_parse.specs.Item.{plain};
-ghost use Rattle.pattern_parse.specs.Pieces.{IsPieces, behind_raw, ended, frame_of, is_label, is_plain, items_from, nothing_said, raw_read, with_formats};
+ghost use Rattle.pattern_parse.specs.Demand.{is_label};
+ghost use Rattle.pattern_parse.specs.Pieces.{IsPieces, behind_raw, ended, frame_of, is_plain, items_from, nothing_said, raw_read, with_formats};
 ghost use Rattle.pattern_parse.specs.RawView.{ending_view, raw_view};
 ghost use Rattle.pattern_parse.specs.Search.{IsSearchable};
 
-use crate::block::{Read, behind_raw, raw_read, refused};
+use crate::block::{Read, Reader, behind_raw, raw_read, refused};
 use crate::cutting::{Ending, Raw, cut_body, is_text_alone};
 use crate::fault::{PatFail, PatFault, PatKind};
 use crate::formats::Formats;
-use crate::pattern::{Frame, Kind, Pattern, Piece};
+use crate::pattern::{BodyRules, Frame, Pattern, Piece};
 use crate::said::Said;
 use num_spell::behind;
 use std::alloc::Global;
@@ -64,21 +65,11 @@ fn ended(label: bool, references: usize, at: usize, ending: Ending) -> Option<Pa
 }
 
 /// A piece of a body at an offset.
-fn read_next(
-    alloc: Global,
-    known: &Formats,
-    said: &mut Said,
-    fold: bool,
-    label: bool,
-    at: usize,
-    body: &[u8],
-    raw: &Raw,
-) -> Read
+fn read_next(reader: &Reader<'_>, said: &mut Said, at: usize, body: &[u8], raw: &Raw) -> Read
     ensures { IfOk result (λ read. ReadsAs read said.new
-        (raw_read fold (fin.get known.now) label (said_view said.old) at (raw_view body.now raw.now))) }
+        (raw_read reader.now.fold (fin.get reader.now.known.now) reader.now.label (said_view said.old) at (raw_view body.now raw.now))) }
 {
-    let bytes = part(body, raw.from, raw.to);
-    raw_read(alloc, known, said, fold, label, at, raw.kind, bytes)
+    raw_read(reader, said, at, raw.kind, part(body, raw.from, raw.to))
 }
 
 /// The offset behind a piece of a body.
@@ -99,78 +90,42 @@ fn room_for(alloc: Global, count: usize) -> Result<Items<Piece>, NoMemory>
 }
 
 /// The pieces of a body that was cut.
-fn read_pieces(
-    alloc: Global,
-    known: &Formats,
-    fold: bool,
-    label: bool,
-    body: &[u8],
-    raws: &[Raw],
-    ending: Ending,
-) -> Told
-    ensures { IfOk result (λ told. told_view told ≡ items_from fold (fin.get known.now) label nothing_said 0
+fn read_pieces(reader: &Reader<'_>, body: &[u8], raws: &[Raw], ending: Ending) -> Told
+    ensures { IfOk result (λ told. told_view told
+        ≡ items_from reader.now.fold (fin.get reader.now.known.now) reader.now.label nothing_said 0
         (map (raw_view body.now) raws.now) (ending_view ending)) }
 {
-    let mut said = Said::new(alloc);
-    let mut pieces = room_for(alloc, raws.len())?;
+    let mut said = Said::new(reader.alloc);
+    let mut pieces = room_for(reader.alloc, raws.len())?;
     let mut at: usize = 0;
     for raw in raws {
-        match read_next(alloc, known, &mut said, fold, label, at, body, raw)? {
+        match read_next(reader, &mut said, at, body, raw)? {
             Ok(piece) => pieces.push(piece)?,
             Err(fault) => return Ok(Err(fault)),
         }
         at = next_at(at, body, raw)?;
     }
-    match ended(label, said.references, at, ending) {
+    match ended(reader.label, said.references, at, ending) {
         Some(fault) => Ok(Err(fault)),
         None => Ok(Ok(pieces)),
     }
 }
 
 /// Whether a body is plain text as a whole.
-fn is_plain(kind: Kind, literal: bool) -> bool
-    ensures { result ≡ is_plain kind literal }
+fn is_plain(rules: &BodyRules) -> bool
+    ensures { result ≡ is_plain rules.now }
 {
-    match kind {
-        Kind::Empty => true,
-        Kind::Plain => literal,
-        Kind::Next => literal,
-        Kind::Same => literal,
-        Kind::Not => literal,
-        Kind::Dag => literal,
-        Kind::Label => literal,
-        Kind::Count(_) => literal,
-    }
-}
-
-fn is_label(kind: Kind) -> bool
-    ensures { result ≡ is_label kind }
-{
-    match kind {
-        Kind::Label => true,
-        Kind::Plain => false,
-        Kind::Next => false,
-        Kind::Same => false,
-        Kind::Empty => false,
-        Kind::Not => false,
-        Kind::Dag => false,
-        Kind::Count(_) => false,
-    }
+    rules.literal || rules.demand.rule.takes_none()
 }
 
 /// Where a match may stand on its line.
-fn frame_of(kind: Kind, frame: Frame) -> Frame
-    ensures { result ≡ frame_of kind frame }
+fn frame_of(rules: &BodyRules) -> Frame
+    ensures { result ≡ frame_of rules.now }
 {
-    match kind {
-        Kind::Not => Frame::Open,
-        Kind::Empty => Frame::Open,
-        Kind::Plain => frame,
-        Kind::Next => frame,
-        Kind::Same => frame,
-        Kind::Dag => frame,
-        Kind::Label => frame,
-        Kind::Count(_) => frame,
+    if rules.demand.role.is_excluded() || rules.demand.rule.takes_none() {
+        Frame::Open
+    } else {
+        rules.frame
     }
 }
 
@@ -184,59 +139,47 @@ fn plain_body(alloc: Global, body: &[u8]) -> Result<Items<Piece>, NoMemory>
 }
 
 /// The pieces of a body, or its first refusal.
-fn read_body(
-    alloc: Global,
-    known: &Formats,
-    fold: bool,
-    kind: Kind,
-    literal: bool,
-    body: &[u8],
-) -> Told
-    ensures { IfOk result (λ told. IsPieces body.now kind literal fold (fin.get known.now) (told_view told)) }
+fn read_body(alloc: Global, known: &Formats, rules: &BodyRules, body: &[u8]) -> Told
+    ensures { IfOk result (λ told. IsPieces body.now rules.now (fin.get known.now) (told_view told)) }
 {
     if body.len() > MAX_BODY {
         Ok(Err(refused(PatKind::TooLong, 0)))
-    } else if is_plain(kind, literal) || is_text_alone(body) {
+    } else if is_plain(rules) || is_text_alone(body) {
         Ok(Ok(plain_body(alloc, body)?))
     } else {
         let cut = cut_body(alloc, body)?;
-        read_pieces(
+        let reader = Reader {
             alloc,
             known,
-            fold,
-            is_label(kind),
-            body,
-            cut.raws.as_slice(),
-            cut.ending,
-        )
+            fold: rules.fold,
+            label: rules.demand.role.is_label(),
+        };
+        read_pieces(&reader, body, cut.raws.as_slice(), cut.ending)
     }
 }
 
-/// The pattern of a directive of this kind, where these formats are known; from then on those of the numbers that it
+/// The pattern of a directive's body, where these formats are known; from then on those of the numbers that it
 /// defines are, too. Of a refusal nothing is kept.
 #[tactic(auto, using(crate::proofs::SearchLemmas::pieces_searchable))]
 pub fn parse_pattern(
     alloc: Global,
     body: &[u8],
-    kind: Kind,
-    literal: bool,
-    fold: bool,
-    frame: Frame,
+    rules: &BodyRules,
     known: &mut Formats,
 ) -> Result<Pattern, PatFail>
-    ensures pieces { Tells (IsPieces body.now kind literal fold (fin.get known.old)) result }
-    ensures framed { IfOk result (λ pattern. (pattern.frame ≡ frame_of kind frame) × (pattern.fold ≡ fold)) }
+    ensures pieces { Tells (IsPieces body.now rules.now (fin.get known.old)) result }
+    ensures framed { IfOk result (λ pattern. (pattern.frame ≡ frame_of rules.now) × (pattern.fold ≡ rules.now.fold)) }
     ensures known { IfOk result (λ pattern. known.new ≡ with_formats known.old (items_view pattern.pieces)) }
     ensures err { OnErr result (known.new ≡ known.old) }
     // A search finds the numbers of groups and references as it needs them.
     ensures searchable { IfOk result (λ pattern. IsSearchable (items_view pattern.pieces)) }
 {
-    match read_body(alloc, known, fold, kind, literal, body) {
+    match read_body(alloc, known, rules, body) {
         Ok(Ok(pieces)) => match known.add_all(pieces.as_slice()) {
             Ok(()) => Ok(Pattern {
                 pieces,
-                frame: frame_of(kind, frame),
-                fold,
+                frame: frame_of(rules),
+                fold: rules.fold,
             }),
             Err(NoMemory) => Err(PatFail::NoMemory),
         },

@@ -1,29 +1,9 @@
 //! Patterns and the pieces that they are made of.
+use crate::demand::Demand;
 use ere_tree::Ere;
 use num_base::Format;
 use num_exprs::NumBlock;
 use tt_base::{Bytes, Items};
-
-/// What kind of directive a body belongs to.
-#[derive(Clone, Copy, Debug, PartialEq, Eq)]
-pub enum Kind {
-    /// `CHECK:`: somewhere behind the match before.
-    Plain,
-    /// `CHECK-NEXT:`: on the line after the match before.
-    Next,
-    /// `CHECK-SAME:`: on the line of the match before.
-    Same,
-    /// `CHECK-EMPTY:`: the line after the match before is empty.
-    Empty,
-    /// `CHECK-NOT:`: nowhere between two matches.
-    Not,
-    /// `CHECK-DAG:`: in any order with those beside it.
-    Dag,
-    /// `CHECK-LABEL:`: where a block of the input ends.
-    Label,
-    /// `CHECK-COUNT-3:`: so often, one match behind the other.
-    Count(u32),
-}
 
 /// What stands round a match on its line.
 #[derive(Clone, Copy, Debug, PartialEq, Eq)]
@@ -34,6 +14,19 @@ pub enum Frame {
     Spaced,
     /// Nothing.
     Tight,
+}
+
+/// What decides how the body of a directive is read.
+#[derive(Clone, Copy, Debug, PartialEq, Eq)]
+pub struct BodyRules {
+    /// What its directive asks for.
+    pub demand: Demand,
+    /// All of it is plain text.
+    pub literal: bool,
+    /// Letters match in either case.
+    pub fold: bool,
+    /// What stands round a match on its line, if its directive has no other frame.
+    pub frame: Frame,
 }
 
 /// A piece of a pattern.

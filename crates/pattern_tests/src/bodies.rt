@@ -1,7 +1,8 @@
 //! Bodies with their pieces or first refusals, what they make known, and hostile bodies.
 use num_base::{Format, FormatKind};
 use pattern_parse::{
-    Formats, Frame, Kind, PatFail, PatFault, PatKind, Pattern, Piece, parse_pattern,
+    BodyRules, Demand, Formats, Frame, LineRule, PatFail, PatFault, PatKind, Pattern, Piece, Role,
+    parse_pattern,
 };
 use std::alloc::{AllocError, Global};
 use tt_base::NoMemory;
@@ -12,6 +13,24 @@ fn format(kind: FormatKind) -> Format {
         alternate: false,
         digits: 0,
     }
+}
+
+/// The rules of a body that is plain text alone or not, of a directive with this role and this line rule.
+fn rules_of(role: Role, rule: LineRule, literal: bool) -> BodyRules {
+    BodyRules {
+        demand: Demand {
+            role,
+            rule,
+            times: 1,
+        },
+        literal,
+        fold: false,
+        frame: Frame::Open,
+    }
+}
+
+fn plain_rules() -> BodyRules {
+    rules_of(Role::Sought, LineRule::Any, false)
 }
 
 /// The formats of two numbers: A is hexadecimal, B is decimal.
@@ -98,11 +117,10 @@ fn refusal(alloc: Global, fault: PatFault) -> Result<String, AllocError> {
 fn told_of(
     alloc: Global,
     body: &[u8],
-    kind: Kind,
-    literal: bool,
+    rules: &BodyRules,
     known: &mut Formats,
 ) -> Result<String, AllocError> {
-    match parse_pattern(alloc, body, kind, literal, false, Frame::Open, known) {
+    match parse_pattern(alloc, body, rules, known) {
         Ok(pattern) => shown(alloc, &pattern),
         Err(PatFail::Bad(fault)) => refusal(alloc, fault),
         Err(PatFail::NoMemory) => Err(AllocError),
@@ -110,25 +128,20 @@ fn told_of(
 }
 
 /// The same where A is hexadecimal and B is decimal.
-fn told(alloc: Global, body: &[u8], kind: Kind, literal: bool) -> Result<String, AllocError> {
+fn told(alloc: Global, body: &[u8], rules: &BodyRules) -> Result<String, AllocError> {
     let mut known = two_known(alloc).or(Err(AllocError))?;
-    told_of(alloc, body, kind, literal, &mut known)
+    told_of(alloc, body, rules, &mut known)
 }
 
 /// Whether the body before the arrow of a row is read as what is behind it.
 fn is_told(alloc: Global, row: &str) -> Result<bool, AllocError> {
-    is_told_by_kind(alloc, Kind::Plain, false, row)
+    is_told_by_rules(alloc, &plain_rules(), row)
 }
 
-/// The same of a directive of a kind, which may be literal.
-fn is_told_by_kind(
-    alloc: Global,
-    kind: Kind,
-    literal: bool,
-    row: &str,
-) -> Result<bool, AllocError> {
+/// The same by these rules.
+fn is_told_by_rules(alloc: Global, rules: &BodyRules, row: &str) -> Result<bool, AllocError> {
     match row.split_once(" => ") {
-        Some((body, due)) => { Ok(told(alloc, body.as_bytes(), kind, literal)?.as_str() == due) }
+        Some((body, due)) => { Ok(told(alloc, body.as_bytes(), rules)?.as_str() == due) }
         None => Ok(false),
     }
 }
@@ -205,36 +218,54 @@ fn the_first_refusal_is_told_with_its_place(rt: HostRuntime) -> Result<(), Alloc
     Ok(())
 }
 
-/// The frame that an empty body of a kind gets, and whether letters match in either case in it.
-fn frame_of(alloc: Global, kind: Kind, frame: Frame) -> Option<(Frame, bool)> {
+/// The frame that an empty body gets, and whether letters match in either case in it.
+fn frame_of(alloc: Global, rules: &BodyRules) -> Option<(Frame, bool)> {
     let mut known = Formats::new(alloc);
-    match parse_pattern(alloc, b"", kind, false, true, frame, &mut known) {
+    match parse_pattern(alloc, b"", rules, &mut known) {
         Ok(pattern) => Some((pattern.frame, pattern.fold)),
         Err(_) => None,
     }
 }
 
 #[test]
-fn kinds_decide_what_a_body_may_hold(rt: HostRuntime) -> Result<(), AllocError> {
-    for (kind, literal, row) in [
-        (Kind::Label, false, "[[X]] => VariableInLabel 0"),
-        (Kind::Label, false, "a[[X => VariableInLabel 1"),
-        (Kind::Label, false, "a{{b}} => a;regex 0;"),
-        (Kind::Plain, true, "{{a[[X => {{a[[X;"),
-        (Kind::Label, true, "[[X]] => [[X]];"),
-        (Kind::Empty, false, " => ;"),
-        (Kind::Not, false, "{{a => NoRegexEnd 0"),
-        (Kind::Count(2), false, "[[X]] => recall X;"),
+fn roles_and_line_rules_decide_what_a_body_may_hold(rt: HostRuntime) -> Result<(), AllocError> {
+    let label = rules_of(Role::Label, LineRule::Any, false);
+    for row in [
+        "[[X]] => VariableInLabel 0",
+        "a[[X => VariableInLabel 1",
+        "a{{b}} => a;regex 0;",
     ] {
-        assert!(rt; is_told_by_kind(rt.alloc(), kind, literal, row)?, "{row}");
+        assert!(rt; is_told_by_rules(rt.alloc(), &label, row)?, "{row}");
     }
-    for (kind, due) in [
-        (Kind::Next, Frame::Tight),
-        (Kind::Not, Frame::Open),
-        (Kind::Empty, Frame::Open),
+    for (role, rule, literal, row) in [
+        (Role::Sought, LineRule::Any, true, "{{a[[X => {{a[[X;"),
+        (Role::Label, LineRule::Any, true, "[[X]] => [[X]];"),
+        (Role::Sought, LineRule::Empty, false, " => ;"),
+        (Role::Excluded, LineRule::Any, false, "{{a => NoRegexEnd 0"),
     ] {
-        let frame = frame_of(rt.alloc(), kind, Frame::Tight);
-        assert!(rt; frame == Some((due, true)), "{due:?}");
+        let rules = rules_of(role, rule, literal);
+        assert!(rt; is_told_by_rules(rt.alloc(), &rules, row)?, "{row}");
+    }
+    let mut twice = plain_rules();
+    twice.demand.times = 2;
+    assert!(rt; is_told_by_rules(rt.alloc(), &twice, "[[X]] => recall X;")?);
+    Ok(())
+}
+
+#[test]
+fn a_not_and_an_empty_line_have_no_frame(rt: HostRuntime) -> Result<(), AllocError> {
+    for (role, rule, due) in [
+        (Role::Sought, LineRule::Next, Frame::Tight),
+        (Role::Excluded, LineRule::Any, Frame::Open),
+        (Role::Sought, LineRule::Empty, Frame::Open),
+    ] {
+        let mut rules = rules_of(role, rule, false);
+        rules.fold = true;
+        rules.frame = Frame::Tight;
+        assert!(rt;
+            frame_of(rt.alloc(), &rules) == Some((due, true)),
+            "{due:?}"
+        );
     }
     Ok(())
 }
@@ -248,7 +279,7 @@ fn has(known: &Formats, name: &[u8], kind: FormatKind) -> bool {
 fn is_told_by(alloc: Global, known: &mut Formats, row: &str) -> Result<bool, AllocError> {
     match row.split_once(" => ") {
         Some((body, due)) => {
-            let told = told_of(alloc, body.as_bytes(), Kind::Plain, false, known)?;
+            let told = told_of(alloc, body.as_bytes(), &plain_rules(), known)?;
             Ok(told.as_str() == due)
         }
         None => Ok(false),
@@ -309,15 +340,7 @@ fn repeated(
 /// How many pieces a body has, or its first refusal.
 fn counted(alloc: Global, body: &[u8]) -> Result<String, AllocError> {
     let mut known = Formats::new(alloc);
-    match parse_pattern(
-        alloc,
-        body,
-        Kind::Plain,
-        false,
-        false,
-        Frame::Open,
-        &mut known,
-    ) {
+    match parse_pattern(alloc, body, &plain_rules(), &mut known) {
         Ok(pattern) => {
             let count = pattern.pieces.as_slice().len();
             format!(in alloc; "{count} pieces")
@@ -372,12 +395,12 @@ fn hostile_bodies_are_answered(rt: HostRuntime) -> Result<(), AllocError> {
 
 /// Whether a body is read.
 fn is_read(alloc: Global, body: &[u8], known: &mut Formats) -> bool {
-    parse_pattern(alloc, body, Kind::Plain, false, false, Frame::Open, known).is_ok()
+    parse_pattern(alloc, body, &plain_rules(), known).is_ok()
 }
 
 /// Whether a body is read or refused.
 fn is_answered(alloc: Global, body: &[u8], known: &mut Formats) -> bool {
-    let told = parse_pattern(alloc, body, Kind::Plain, false, false, Frame::Open, known);
+    let told = parse_pattern(alloc, body, &plain_rules(), known);
     !matches!(told, Err(PatFail::NoMemory))
 }
 

@@ -4,7 +4,7 @@ ghost use Rattle.pattern_parse.specs.PieceView.{items_view};
 ghost use Rattle.pattern_parse.specs.Search.{IsSearchable};
 
 use ere_auto::Steps;
-use pattern_parse::{Formats, Frame, Kind, Pattern, parse_pattern};
+use pattern_parse::{BodyRules, Demand, Formats, Frame, LineRule, Pattern, Role, parse_pattern};
 use pattern_scan::{Context, Sought, seek};
 use pattern_vars::{Binding, Bindings, Vars};
 use std::alloc::Global;
@@ -55,8 +55,17 @@ fn pattern_of(alloc: Global, body: &str, fold: bool, frame: Frame) -> Result<Pat
     ensures { IfOk result (λ pattern. IsSearchable (items_view pattern.pieces)) }
 {
     let mut known = Formats::new(alloc);
-    let body = body.as_bytes();
-    match parse_pattern(alloc, body, Kind::Plain, false, fold, frame, &mut known) {
+    let rules = BodyRules {
+        demand: Demand {
+            role: Role::Sought,
+            rule: LineRule::Any,
+            times: 1,
+        },
+        literal: false,
+        fold,
+        frame,
+    };
+    match parse_pattern(alloc, body.as_bytes(), &rules, &mut known) {
         Ok(pattern) => Ok(pattern),
         Err(_) => Err(NoMemory),
     }

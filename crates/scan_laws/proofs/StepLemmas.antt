@@ -17,8 +17,8 @@ use Rattle.check_group.specs.Region.{excluded_by, fault_before, region}
 use Rattle.check_group.specs.declared.answer.Matched.{Matched}
 use Rattle.check_group.specs.declared.answer.Met.{Met}
 use Rattle.check_group.specs.declared.directive.Check.{Check}
-use Rattle.check_group.specs.declared.directive.LineRule.{LineRule}
-use Rattle.check_group.specs.declared.directive.LineRule.TheVariants.{Next, Same, Empty}
+use Rattle.pattern_parse.specs.declared.demand.LineRule.{LineRule}
+use Rattle.pattern_parse.specs.declared.demand.LineRule.TheVariants.{Next, Same, Empty}
 use Rattle.check_group.specs.declared.fault.Fault.{Fault}
 use Rattle.check_group.specs.declared.fault.FaultKind.{FaultKind}
 use Rattle.check_group.specs.declared.fault.FaultKind.TheVariants.{NotSameLine, WrongLine}

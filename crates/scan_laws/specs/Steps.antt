@@ -10,8 +10,8 @@ use Rattle.check_group.specs.Lines.{newlines}
 use Rattle.check_group.specs.Region.{region}
 use Rattle.check_group.specs.declared.answer.Matched.{Matched}
 use Rattle.check_group.specs.declared.directive.Check.{Check}
-use Rattle.check_group.specs.declared.directive.LineRule.{LineRule}
-use Rattle.check_group.specs.declared.directive.LineRule.TheVariants.{Next, Same, Empty}
+use Rattle.pattern_parse.specs.declared.demand.LineRule.{LineRule}
+use Rattle.pattern_parse.specs.declared.demand.LineRule.TheVariants.{Next, Same, Empty}
 use Rattle.check_scan.specs.Block.{End, block, unless}
 use Rattle.check_scan.specs.Parts.{Part, Positive, came_of, finish, negative, positive}
 

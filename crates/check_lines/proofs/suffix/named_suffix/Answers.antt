@@ -6,7 +6,7 @@ use Rattle.check_lines.proofs.suffix.named_suffix.Goals as goal
 pub returns-in-Some-clause-lies : goal.returns-in-Some-clause-lies
 returns-in-Some-clause-lies c =
     let text = c.args.text.now in
-    let count = c.name_length-length.result in
+    let count = length c.row_of.result.suffix.now in
     let within : count ≤ length text = search rules in
     let long : count + length (take (length text - count) (drop count text)) ≡ length text =
     omega (arith, ap length (rest_of text count), length-drop count text, within) in

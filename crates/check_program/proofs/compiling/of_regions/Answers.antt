@@ -1,6 +1,5 @@
 use Rattle.std.proofs.Common.{◌≡◌, ◌+◌, ◌≤◌, false, length, subst, arith}
 use Rattle.std.proofs.lemmas.List.{take_all}
-use Rattle.pattern_parse.specs.declared.pattern.Kind.TheVariants.{Not}
 use Rattle.check_program.proofs.BodyLemmas.{implicit_here, implicit_length}
 use Rattle.check_program.proofs.CompileLemmas.{next_fails, next_is, part_way_here}
 use Rattle.check_program.specs.Compiled.{AreChecks, Body, implicit_bodies, implicit_body}
@@ -16,9 +15,9 @@ pub returns-in-Err : goal.returns-in-Err
 returns-in-Err c =
     let a = c.args in
     let l = c.loop-index in
-    let body : Body = record { bytes = c.as_slice.result.now; kind = Not; literal = false; line = c.line_of.result } in
+    let body : Body = record { bytes = c.as_slice.result.now; demand = c.row_of.result.demand; literal = false; line = c.line_of.result } in
     let same : body ≡ implicit_body (1 + l.index) c.index-implicit-index.result =
-    (λ n. record { bytes = c.as_slice.ensures n; kind = Not; literal = false; line = c.line_of.ensures n }) in
+    (λ n. record { bytes = c.as_slice.ensures n; demand = c.row_of.ensures.demand n; literal = false; line = c.line_of.ensures n }) in
     next_fails a.opts.now a.lines a.known.now l.known (implicit_bodies 1 a.implicit.now) l.checks l.index c.in-Some.number
     c.in-Some.ensures.1 body _ (implicit_here l.index 1 a.implicit.now c.index-implicit-index.result body
     c.loop-index-test.true c.index-implicit-index.is same) l.invariant c.in-Err.fail c.add_check.new.checks
@@ -28,9 +27,9 @@ pub loop-index-preserved : goal.loop-index-preserved
 loop-index-preserved c =
     let a = c.args in
     let l = c.loop-index in
-    let body : Body = record { bytes = c.as_slice.result.now; kind = Not; literal = false; line = c.line_of.result } in
+    let body : Body = record { bytes = c.as_slice.result.now; demand = c.row_of.result.demand; literal = false; line = c.line_of.result } in
     let same : body ≡ implicit_body (1 + l.index) c.index-implicit-index.result =
-    (λ n. record { bytes = c.as_slice.ensures n; kind = Not; literal = false; line = c.line_of.ensures n }) in
+    (λ n. record { bytes = c.as_slice.ensures n; demand = c.row_of.ensures.demand n; literal = false; line = c.line_of.ensures n }) in
     next_is a.opts.now a.lines a.known.now l.known (implicit_bodies 1 a.implicit.now) l.checks l.index c.in-Some.number
     c.in-Some.ensures.1 body _ (implicit_here l.index 1 a.implicit.now c.index-implicit-index.result body
     c.loop-index-test.true c.index-implicit-index.is same) l.invariant c.add_check.new.checks c.add_check.new.known

@@ -1,6 +1,6 @@
 use Rattle.std.proofs.Common.{◌≡◌, false, ◌+◌, drop, subst}
 use Rattle.pattern_parse.specs.PieceView.{item_view, items_view}
-use Rattle.pattern_instance.specs.Known.{known_of}
+use Rattle.pattern_instance.specs.Known.{known_in}
 use Rattle.pattern_instance.specs.Missing.{uses_names}
 use Rattle.pattern_instance.specs.Views.{Added, whole}
 use Rattle.pattern_instance.proofs.PiecesLemmas.{nameless_next, one_fault, one_more, room_here, room_left}
@@ -13,7 +13,7 @@ add_piece-requires c =
 
 pub returns-in-Err : goal.returns-in-Err
 returns-in-Err c =
-    let known = known_of c.args.vars.now c.args.line c.args.fold in
+    let known = known_in c.args.known.now in
     one_fault known c.args.pieces.now c.loop-piece.piece-index c.loop-piece.made c.piece-item.result
     (whole known c.args.begun (items_view c.args.pieces.now)) c.in-Err.fault
     c.loop-piece-test.true c.piece-item.is c.loop-piece.invariant.same
@@ -25,7 +25,7 @@ returns-in-Err c =
 
 pub loop-piece-preserved : goal.loop-piece-preserved
 loop-piece-preserved c =
-    let known = known_of c.args.vars.now c.args.line c.args.fold in
+    let known = known_in c.args.known.now in
     let next = items_view (drop (c.loop-piece.piece-index + 1) c.args.pieces.now) in
     let nameless : c.args.uses ≡ false → uses_names next ≡ false = λ no.
     nameless_next c.args.pieces.now c.loop-piece.piece-index c.piece-item.result c.loop-piece-test.true c.piece-item.is

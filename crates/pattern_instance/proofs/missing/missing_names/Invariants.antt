@@ -1,12 +1,11 @@
-use Rattle.std.proofs.Common.{◌≡◌, ℕ, Bool, drop}
+use Rattle.std.proofs.Common.{◌≡◌, drop}
 use Rattle.pattern_parse.specs.PieceView.{items_view}
-use Rattle.pattern_instance.specs.Known.{known_of}
-use Rattle.pattern_instance.specs.Missing.{missing, unknown}
-use Rattle.pattern_instance.specs.Views.{still_told}
+use Rattle.pattern_instance.specs.Known.{known_in}
+use Rattle.pattern_instance.specs.Missing.{missing}
+use Rattle.pattern_instance.specs.Views.{told_with}
 use Rattle.pattern_instance.proofs.missing.missing_names.Given as goal
 
 abbrev pub invariant-loop-piece : goal.invariant-loop-piece
 invariant-loop-piece l =
-    (at : ℕ) (fold : Bool) →
-    still_told l.missing (unknown (known_of l.vars at fold) l.defined (items_view (drop l.piece-index l.pieces)))
-    ≡ missing (known_of l.vars at fold) (items_view l.pieces)
+    told_with l.missing (known_in l.known) l.defined (items_view (drop l.piece-index l.pieces))
+    ≡ missing (known_in l.known) (items_view l.pieces)

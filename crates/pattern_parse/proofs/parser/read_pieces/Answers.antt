@@ -8,16 +8,18 @@ use Rattle.pattern_parse.proofs.parser.read_pieces.Goals as goal
 
 pub returns-in-Err : goal.returns-in-Err
 returns-in-Err c =
+    let r = c.args.reader.now in
     let read = rw c.in-Err.is at c.in_ok-piece.ensures in
-    sym (refused_here c.args.fold (fin.get c.args.known.now) c.args.label c.args.body.now (ending_view c.args.ending)
+    sym (refused_here r.fold (fin.get r.known.now) r.label c.args.body.now (ending_view c.args.ending)
     c.args.raws.now _ (items_view c.loop-raw.pieces) (said_view c.loop-raw.said) c.loop-raw.at c.loop-raw.raw-index
     _ c.in-Err.fault c.loop-raw-test.true (get_same c.args.raws.now c.loop-raw.raw-index _ c.loop-raw-test.true)
     c.loop-raw.invariant read)
 
 pub loop-raw-preserved : goal.loop-raw-preserved
 loop-raw-preserved c =
+    let r = c.args.reader.now in
     let read = rw c.in-Ok.is at c.in_ok-piece.ensures in
-    one_more c.args.fold (fin.get c.args.known.now) c.args.label c.args.body.now (ending_view c.args.ending)
+    one_more r.fold (fin.get r.known.now) r.label c.args.body.now (ending_view c.args.ending)
     c.args.raws.now _ (items_view c.loop-raw.pieces) (said_view c.loop-raw.said) c.loop-raw.at c.loop-raw.raw-index
     _ (item_view c.in-Ok.piece) (said_view c.read_next.new.said) c.in_ok-at.at (items_view c.push.new.self)
     c.loop-raw-test.true (get_same c.args.raws.now c.loop-raw.raw-index _ c.loop-raw-test.true)
@@ -26,12 +28,14 @@ loop-raw-preserved c =
 
 pub returns-in-Some : goal.returns-in-Some
 returns-in-Some c =
-    refused_end c.args.fold (fin.get c.args.known.now) c.args.label c.args.body.now (ending_view c.args.ending)
+    let r = c.args.reader.now in
+    refused_end r.fold (fin.get r.known.now) r.label c.args.body.now (ending_view c.args.ending)
     c.args.raws.now _ (items_view c.loop-raw.pieces) (said_view c.loop-raw.said) c.loop-raw.at c.loop-raw.raw-index
     c.in-Some.fault (omega (arith, c.loop-raw-test.false)) c.loop-raw.invariant (sym c.ended.ensures ∙ c.in-Some.is)
 
 pub returns : goal.returns
 returns c =
-    over_end c.args.fold (fin.get c.args.known.now) c.args.label c.args.body.now (ending_view c.args.ending)
+    let r = c.args.reader.now in
+    over_end r.fold (fin.get r.known.now) r.label c.args.body.now (ending_view c.args.ending)
     c.args.raws.now _ (items_view c.loop-raw.pieces) (said_view c.loop-raw.said) c.loop-raw.at c.loop-raw.raw-index
     (omega (arith, c.loop-raw-test.false)) c.loop-raw.invariant (sym c.ended.ensures ∙ c.in-None.is)

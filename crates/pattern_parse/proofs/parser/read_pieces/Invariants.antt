@@ -7,7 +7,7 @@ use Rattle.pattern_parse.proofs.parser.read_pieces.Given as goal
 
 abbrev pub invariant-loop-raw : goal.invariant-loop-raw
 invariant-loop-raw l =
-    behind_items (items_view l.pieces) (items_from l.fold (fin.get l.known) l.label (said_view l.said) l.at
+    behind_items (items_view l.pieces) (items_from l.reader.fold (fin.get l.reader.known.now) l.reader.label (said_view l.said) l.at
     (map (raw_view l.body) (drop l.raw-index l.raws)) (ending_view l.ending))
-    ≡ items_from l.fold (fin.get l.known) l.label nothing_said 0
+    ≡ items_from l.reader.fold (fin.get l.reader.known.now) l.reader.label nothing_said 0
     (map (raw_view l.body) l.raws) (ending_view l.ending)
