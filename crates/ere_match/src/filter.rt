@@ -14,7 +14,7 @@ use crate::span::find_span;
 use ere_auto::{Auto, Steps};
 use ere_refs::{Tries, settled, try_from};
 use ere_relaxed::relaxed;
-use ere_slow::slow_hit_from;
+use ere_slow::{Limit, slow_hit_from};
 use ere_tree::{Cap, Ere, Hit};
 use std::alloc::{AllocError, Global};
 use std::sync::ledger::Ledger;
@@ -22,6 +22,13 @@ use tt_base::NoMemory;
 
 /// How large an expression is at most of which parts are tried, as they are by calls inside calls.
 const MAX_TRIED: u64 = 5_000;
+
+/// How much a search of an expression with references may still try and list.
+#[derive(Drop)]
+struct Budget {
+    tries: Tries,
+    limit: Limit,
+}
 
 /// The automaton of an expression in which references gave way to the expressions of their groups.
 #[derive(Drop)]
@@ -77,7 +84,7 @@ fn hit_at(
     text: &[u8],
     from: usize,
     span: Cap,
-    tries: &mut Tries,
+    budget: &mut Budget,
 ) -> Result<Option<Hit>, AllocError>
     requires no_refs { has_refs (view free.now) ≡ false }
     requires spans { SpansAll (view ere.now) (view free.now) }
@@ -87,10 +94,11 @@ fn hit_at(
         (TellsHit text.now (view ere.now) from)) }
 {
     if ere.size() > MAX_TRIED || !settled(ere, ere.groups()) {
-        return slow_hit_from(tries.memory(), ere, text, from, span.from);
+        let alloc = budget.tries.memory();
+        return slow_hit_from(alloc, ere, text, from, span.from, &mut budget.limit);
     }
     let slice = text.split_at(from).1;
-    match try_from(ere, free, slice, from, span, tries)? {
+    match try_from(ere, free, slice, from, span, &mut budget.tries)? {
         None => Ok(None),
         Some(found) => Ok(Some(Hit {
             from: from + span.from,
@@ -123,10 +131,13 @@ pub(crate) fn find_filtered<L: Ledger>(
         return Err(NoMemory);
     };
     let mut filter = Filter::new(alloc, &free)?;
-    let mut tries = Tries::new(alloc);
+    let mut budget = Budget {
+        tries: Tries::new(alloc),
+        limit: Limit::new(),
+    };
     let mut found = filter.first(slice, begin, steps);
     while let Some(span) = found {
-        match hit_at(ere, &free, text, from, span, &mut tries) {
+        match hit_at(ere, &free, text, from, span, &mut budget) {
             Ok(None) => found = filter.behind(slice, span.from),
             Ok(Some(hit)) => return Ok(Some(hit)),
             Err(_) => return Err(NoMemory),

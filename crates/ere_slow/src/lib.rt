@@ -3,10 +3,12 @@
 #![tactic(auto)]
 
 mod begin;
+mod limit;
 mod settings;
 mod slow;
 mod way;
 
+pub use limit::{Limit, MAX_STEPS};
 pub use settings::{Setting, Settings};
-pub use slow::{Derivation, MAX_STEPS, derivations, slow_hit, slow_hit_from};
+pub use slow::{Derivation, derivations, slow_hit, slow_hit_from};
 pub use way::{OwnedStep, OwnedWay, OwnedWays};

@@ -28,6 +28,11 @@ impl Settings {
         }
     }
 
+    /// How many steps a copy takes.
+    pub(crate) fn steps(&self) -> usize {
+        self.held.len().saturating_add(3)
+    }
+
     pub(crate) fn copy(&self, alloc: Global) -> Result<Settings, AllocError>
         ensures { IfOk result (λ s. captures_of s ≡ captures_of self.now) }
     {

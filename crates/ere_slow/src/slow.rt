@@ -12,6 +12,7 @@ ghost use Rattle.ere_slow.specs.Slow.{AreDerivations, AreAllDerivations, IsPrefe
 ghost use Rattle.ere_slow.specs.WayView.{captures_of};
 
 use crate::begin::may_begin;
+use crate::limit::Limit;
 use crate::settings::Settings;
 use crate::way::{OwnedStep, OwnedWay, OwnedWays};
 use ere_tree::{ByteSet, Cap, Caps, Ere, EreList, Hit};
@@ -32,17 +33,6 @@ struct Row {
     ways: OwnedWays,
     to: usize,
     captures: Settings,
-}
-
-/// How many steps the rows of one list may have together. A list of more is given up as for want of memory.
-pub const MAX_STEPS: usize = 5_000_000;
-
-/// How many steps rows have together that have as many as their last.
-fn steps_of(rows: &[Row]) -> usize {
-    match rows.last() {
-        Some(row) => rows.len().saturating_mul(row.ways.held.len()),
-        None => 0,
-    }
 }
 
 /// The bytes from `from` to `to`, as far as the text goes.
@@ -87,11 +77,13 @@ fn leaf_if(
     test: bool,
     to: usize,
     captures: &Settings,
+    limit: &mut Limit,
 ) -> Result<Vec<Derivation>, AllocError>
     ensures { IfOk result (λ found. map found_of found.items ≡ one_if test to (captures_of captures.now)) }
 {
     let mut found = Vec::new(alloc);
     if test {
+        limit.take(captures.steps())?;
         let captures = captures.copy(alloc)?;
         found.push(Derivation {
             way: OwnedWay::Leaf,
@@ -110,12 +102,13 @@ fn text_ways(
     bytes: &[u8],
     fold: bool,
     captures: &Settings,
+    limit: &mut Limit,
 ) -> Result<Vec<Derivation>, AllocError>
     ensures { IfOk result (λ found. map found_of found.items ≡
         listing.text_ways fold text.now from bytes.now (captures_of captures.now)) }
 {
     if stands_at(text, from, bytes, fold) {
-        leaf_if(alloc, true, from + bytes.len(), captures)
+        leaf_if(alloc, true, from + bytes.len(), captures, limit)
     } else {
         Ok(Vec::new(alloc))
     }
@@ -128,13 +121,16 @@ fn put_behind(
     found: Vec<Derivation>,
     may_be_empty: bool,
     rows: &mut Vec<Row>,
+    limit: &mut Limit,
 ) -> Result<(), AllocError>
     ensures { OnOk result (map begun_of rows.new.items ≡
         map begun_of rows.old.items
         ++ each_behind may_be_empty (begun_of row.now) (map found_of found.items)) }
 {
+    let steps = row.ways.steps().saturating_add(1);
     for one in found {
         if may_be_empty || row.to < one.to {
+            limit.take(steps)?;
             let mut ways = row.ways.copy(alloc)?;
             ways.held.push(OwnedStep {
                 to: one.to,
@@ -158,17 +154,15 @@ fn go_on(
     text: &[u8],
     rows: &[Row],
     may_be_empty: bool,
+    limit: &mut Limit,
 ) -> Result<Vec<Row>, AllocError>
     ensures { IfOk result (λ longer. map begun_of longer.items ≡
         listing.go_on may_be_empty (all_ways text.now (view ere.now)) (map begun_of rows.now)) }
 {
     let mut longer = Vec::new(alloc);
     for row in rows {
-        let found = ways_of(alloc, ere, text, row.to, &row.captures)?;
-        put_behind(alloc, row, found, may_be_empty, &mut longer)?;
-        if steps_of(longer.as_slice()) > MAX_STEPS {
-            return Err(AllocError);
-        }
+        let found = ways_of(alloc, ere, text, row.to, &row.captures, limit)?;
+        put_behind(alloc, row, found, may_be_empty, &mut longer, limit)?;
     }
     Ok(longer)
 }
@@ -179,6 +173,7 @@ fn start(
     text: &[u8],
     from: usize,
     captures: &Settings,
+    limit: &mut Limit,
 ) -> Result<Vec<Row>, AllocError>
     ensures { IfOk result (λ rows. map begun_of rows.items ≡
         begin text.now from (captures_of captures.now)) }
@@ -187,6 +182,7 @@ fn start(
     if from > text.len() {
         return Ok(rows);
     }
+    limit.take(captures.steps())?;
     let captures = captures.copy(alloc)?;
     let ways = OwnedWays {
         held: Vec::new(alloc),
@@ -207,13 +203,14 @@ fn rows_of_parts(
     text: &[u8],
     from: usize,
     captures: &Settings,
+    limit: &mut Limit,
 ) -> Result<Vec<Row>, AllocError>
     ensures { IfOk result (λ rows. map begun_of rows.items ≡
         all_rows text.now (trees_in all.now) (begin text.now from (captures_of captures.now))) }
 {
-    let mut rows = start(alloc, text, from, captures)?;
+    let mut rows = start(alloc, text, from, captures, limit)?;
     for part in all.as_slice() {
-        rows = go_on(alloc, part, text, rows.as_slice(), true)?;
+        rows = go_on(alloc, part, text, rows.as_slice(), true, limit)?;
     }
     Ok(rows)
 }
@@ -228,26 +225,22 @@ fn rows_of_members(
     captures: &Settings,
     least: u32,
     more: usize,
+    limit: &mut Limit,
 ) -> Result<Vec<Row>, AllocError>
     ensures { IfOk result (λ rows. map begun_of rows.items ≡
         at_most (all_ways text.now (view inner.now)) more
         (required (all_ways text.now (view inner.now)) least (begin text.now from (captures_of captures.now)))) }
 {
-    let mut rows = start(alloc, text, from, captures)?;
+    let mut rows = start(alloc, text, from, captures, limit)?;
     for _ in 0..least {
-        rows = go_on(alloc, inner, text, rows.as_slice(), true)?;
+        rows = go_on(alloc, inner, text, rows.as_slice(), true, limit)?;
     }
     let mut all = Vec::new(alloc);
-    let mut steps: usize = 0;
     for _ in 0..more {
         if rows.is_empty() {
             return Ok(all);
         }
-        let longer = go_on(alloc, inner, text, rows.as_slice(), false)?;
-        steps = steps.saturating_add(steps_of(rows.as_slice()));
-        if steps > MAX_STEPS {
-            return Err(AllocError);
-        }
+        let longer = go_on(alloc, inner, text, rows.as_slice(), false, limit)?;
         all.append(&mut rows)?;
         rows = longer;
     }
@@ -293,12 +286,14 @@ fn found_in_group(
     held: Vec<Derivation>,
     number: u32,
     from: usize,
+    limit: &mut Limit,
 ) -> Result<Vec<Derivation>, AllocError>
     ensures { IfOk result (λ found. map found_of found.items ≡
         map (found_inside number from) (map found_of held.items)) }
 {
     let mut found = Vec::new(alloc);
     for one in held {
+        limit.take(3)?;
         let mut captures = one.captures;
         captures.set(number, from, one.to)?;
         let way = Box::new(alloc, one.way)?;
@@ -317,11 +312,13 @@ fn put_chosen(
     index: usize,
     held: Vec<Derivation>,
     found: &mut Vec<Derivation>,
+    limit: &mut Limit,
 ) -> Result<(), AllocError>
     ensures { OnOk result (map found_of found.new.items ≡
         map found_of found.old.items ++ map (found_chosen index) (map found_of held.items)) }
 {
     for one in held {
+        limit.take(3)?;
         let way = Box::new(alloc, one.way)?;
         found.push(Derivation {
             way: OwnedWay::Chosen { index, way },
@@ -340,14 +337,15 @@ fn ways_of_alternatives(
     text: &[u8],
     from: usize,
     captures: &Settings,
+    limit: &mut Limit,
 ) -> Result<Vec<Derivation>, AllocError>
     ensures { IfOk result (λ found. map found_of found.items ≡
         alternatives text.now (trees_in all.now) 0 from (captures_of captures.now)) }
 {
     let mut found = Vec::new(alloc);
     for (index, one) in all.as_slice().iter().enumerate() {
-        let held = ways_of(alloc, one, text, from, captures)?;
-        put_chosen(alloc, index, held, &mut found)?;
+        let held = ways_of(alloc, one, text, from, captures, limit)?;
+        put_chosen(alloc, index, held, &mut found, limit)?;
     }
     Ok(found)
 }
@@ -374,6 +372,7 @@ fn ways_of_repeat(
     text: &[u8],
     from: usize,
     captures: &Settings,
+    limit: &mut Limit,
 ) -> Result<Vec<Derivation>, AllocError>
     ensures { IfOk result (λ found. map found_of found.items ≡
         repeat_ways text.now (all_ways text.now (view inner.now)) least (further least most (length text.now - from))
@@ -383,7 +382,7 @@ fn ways_of_repeat(
         None => Ok(Vec::new(alloc)),
         Some(more) => found_members(
             alloc,
-            rows_of_members(alloc, inner, text, from, captures, least, more)?,
+            rows_of_members(alloc, inner, text, from, captures, least, more, limit)?,
         ),
     }
 }
@@ -396,16 +395,17 @@ fn ways_of(
     text: &[u8],
     from: usize,
     captures: &Settings,
+    limit: &mut Limit,
 ) -> Result<Vec<Derivation>, AllocError>
     ensures { IfOk result (λ found. map found_of found.items ≡
         all_ways text.now (view ere.now) from (captures_of captures.now)) }
 {
     match ere {
-        Ere::Empty => leaf_if(alloc, from <= text.len(), from, captures),
-        Ere::Plain(run) => text_ways(alloc, text, from, run.as_slice(), false, captures),
+        Ere::Empty => leaf_if(alloc, from <= text.len(), from, captures, limit),
+        Ere::Plain(run) => text_ways(alloc, text, from, run.as_slice(), false, captures, limit),
         Ere::Set(set) => {
             if is_in_set_at(set, text, from) {
-                leaf_if(alloc, true, from + 1, captures)
+                leaf_if(alloc, true, from + 1, captures, limit)
             } else {
                 Ok(Vec::new(alloc))
             }
@@ -415,21 +415,26 @@ fn ways_of(
             from == 0 || is_newline_at(text, from - 1),
             from,
             captures,
+            limit,
         ),
         Ere::LineEnd => leaf_if(
             alloc,
             from == text.len() || is_newline_at(text, from),
             from,
             captures,
+            limit,
         ),
-        Ere::Cat(all) => found_parts(alloc, rows_of_parts(alloc, all, text, from, captures)?),
-        Ere::Alt(all) => ways_of_alternatives(alloc, all, text, from, captures),
+        Ere::Cat(all) => found_parts(
+            alloc,
+            rows_of_parts(alloc, all, text, from, captures, limit)?,
+        ),
+        Ere::Alt(all) => ways_of_alternatives(alloc, all, text, from, captures, limit),
         Ere::Repeat { inner, least, most } => ways_of_repeat(
-            alloc, inner, *least, *most, text, from, captures,
+            alloc, inner, *least, *most, text, from, captures, limit,
         ),
         Ere::Group { number, inner } => {
-            let held = ways_of(alloc, inner, text, from, captures)?;
-            found_in_group(alloc, held, *number, from)
+            let held = ways_of(alloc, inner, text, from, captures, limit)?;
+            found_in_group(alloc, held, *number, from, limit)
         }
         Ere::Ref { number, fold } => match captures.get(*number) {
             None => Ok(Vec::new(alloc)),
@@ -440,6 +445,7 @@ fn ways_of(
                 part_of(text, start, end),
                 *fold,
                 captures,
+                limit,
             ),
         },
     }
@@ -453,6 +459,7 @@ pub fn derivations(
     ere: &Ere,
     text: &[u8],
     from: usize,
+    limit: &mut Limit,
 ) -> Result<Vec<Derivation>, AllocError>
     ensures sound { IfOk result (λ found. AreDerivations text.now (view ere.now) from empty found.items) }
     ensures complete { IfOk result (λ found.
@@ -460,7 +467,7 @@ pub fn derivations(
     ensures order { IfOk result (λ found. map found_of found.items ≡ all_ways text.now (view ere.now) from empty) }
 {
     let unset = Settings::none(alloc);
-    ways_of(alloc, ere, text, from, &unset)
+    ways_of(alloc, ere, text, from, &unset, limit)
 }
 
 /// Whether the first derivation is preferred to the second.
@@ -529,6 +536,7 @@ fn derived_from(
     ere: &Ere,
     slice: &[u8],
     start: usize,
+    limit: &mut Limit,
 ) -> Result<Option<Derivation>, AllocError>
     requires { HasNoHitBefore slice.now (view ere.now) start }
     ensures { IfOk result (λ found. MatchOption found
@@ -538,7 +546,7 @@ fn derived_from(
     if !may_begin(ere, slice, start) {
         return Ok(None);
     }
-    Ok(most_preferred(derivations(alloc, ere, slice, start)?))
+    Ok(most_preferred(derivations(alloc, ere, slice, start, limit)?))
 }
 
 /// The most preferred derivation of the expression from the first place of a slice that has one, with that place.
@@ -551,8 +559,9 @@ fn first_derived(
         (HasNoHit slice.now (view ere.now))
         (λ hit. IsHit slice.now (view ere.now) hit.0 hit.1.to (captures_of hit.1.captures))) }
 {
+    let mut limit = Limit::new();
     for start in 0..slice.len() + 1 {
-        if let Some(best) = derived_from(alloc, ere, slice, start)? {
+        if let Some(best) = derived_from(alloc, ere, slice, start, &mut limit)? {
             return Ok(Some((start, best)));
         }
     }
@@ -614,6 +623,7 @@ pub fn slow_hit_from(
     text: &[u8],
     from: usize,
     start: usize,
+    limit: &mut Limit,
 ) -> Result<Option<Hit>, AllocError>
     requires before { HasNoHitBefore (drop from text.now) (view ere.now) start }
     ensures hit { IfOk result (λ found. MatchOption found
@@ -621,7 +631,7 @@ pub fn slow_hit_from(
         (TellsHit text.now (view ere.now) from)) }
 {
     let slice = behind(text, from);
-    match derived_from(alloc, ere, slice, start)? {
+    match derived_from(alloc, ere, slice, start, limit)? {
         None => Ok(None),
         Some(best) => Ok(Some(raised(alloc, ere, slice, from, start, &best)?)),
     }

@@ -38,6 +38,16 @@ pub struct OwnedWays {
 }
 
 impl OwnedWay {
+    /// How many steps a copy takes.
+    #[cycle(steps)]
+    pub(crate) fn steps(&self) -> usize {
+        match self {
+            OwnedWay::Leaf => 0,
+            OwnedWay::Parts(ways) | OwnedWay::Members(ways) => ways.steps(),
+            OwnedWay::Chosen { way, .. } | OwnedWay::Inside(way) => way.steps().saturating_add(2),
+        }
+    }
+
     #[cycle(copy)]
     pub(crate) fn copy(&self, alloc: Global) -> Result<OwnedWay, AllocError>
         ensures { IfOk result (λ w. way_of w ≡ way_of self.now) }
@@ -102,6 +112,16 @@ impl OwnedWay {
 }
 
 impl OwnedWays {
+    /// How many steps a copy takes.
+    #[cycle(steps)]
+    pub(crate) fn steps(&self) -> usize {
+        let mut steps: usize = 4;
+        for step in self.held.as_slice() {
+            steps = steps.saturating_add(step.way.steps()).saturating_add(1);
+        }
+        steps
+    }
+
     #[cycle(copy)]
     pub(crate) fn copy(&self, alloc: Global) -> Result<OwnedWays, AllocError>
         ensures { IfOk result (λ w. row_of w ≡ row_of self.now) }

@@ -38,6 +38,28 @@ fn a_span_tells_what_is_referred_to(rt: HostRuntime) -> Result<(), AllocError> {
     Ok(())
 }
 
+/// An expression, how many `a` stand before a `b`, and the hit, or that its ways are too many to be listed.
+const LISTED: &str = r"((a*))\2b => 2800 => 0-2801 0-1400 0-1400
+((a*))\2b => 2810 => no memory
+(a*)*\1b => 15 => 0-16 13-14
+(a*)*\1b => 16 => no memory
+(a*)*\1b => 2000 => no memory
+((a*))*\2b => 100 => no memory";
+
+/// Whether that is found in words of the row.
+fn is_told_among(alloc: Global, row: &str) -> Result<bool, AllocError> {
+    let Some((pattern, rest)) = row.split_once(" => ") else {
+        return Ok(false);
+    };
+    let Some((count, due)) = rest.split_once(" => ") else {
+        return Ok(false);
+    };
+    let Ok(count) = count.parse::<usize>() else {
+        return Ok(false);
+    };
+    Ok(told_among(alloc, pattern, count)?.as_str() == due)
+}
+
 /// What is found of an expression in so many `a` and a `b`, in words. Want of memory is told as such.
 fn told_among(alloc: Global, pattern: &str, count: usize) -> Result<String, AllocError> {
     let mut text = vec![in alloc; b'a'; count]?;
@@ -59,9 +81,8 @@ fn tries_end_at_their_limit(rt: HostRuntime) -> Result<(), AllocError> {
 
 #[test]
 fn listings_end_at_their_limit(rt: HostRuntime) -> Result<(), AllocError> {
-    let below = told_among(rt.alloc(), r"((a*))\2b", 3_160)?;
-    assert!(rt; below.as_str() == "0-3161 0-1580 0-1580", "{below}");
-    let above = told_among(rt.alloc(), r"((a*))\2b", 3_162)?;
-    assert!(rt; above.as_str() == "no memory", "{above}");
+    for row in LISTED.lines() {
+        assert!(rt; is_told_among(rt.alloc(), row)?, "{row}");
+    }
     Ok(())
 }

@@ -1,13 +1,13 @@
 //! Worked examples of what is found where, and in how many ways.
 use crate::rows::{bytes_of, four, three};
 use crate::shown::in_words;
-use ere_slow::{derivations, slow_hit};
+use ere_slow::{Limit, derivations, slow_hit};
 use ere_tree::{ByteRun, Ere, EreList, parse};
 use std::alloc::{AllocError, Global};
 
 /// How many derivations there are in the text from its start on, and the hit in words.
 fn told(alloc: Global, ere: &Ere, text: &[u8]) -> Result<String, AllocError> {
-    let ways = derivations(alloc, ere, text, 0)?.len();
+    let ways = derivations(alloc, ere, text, 0, &mut Limit::new())?.len();
     let hit = slow_hit(alloc, ere, text, 0)?;
     let words = in_words(alloc, &hit)?;
     format!(in alloc; "{ways} ways, {words}")
