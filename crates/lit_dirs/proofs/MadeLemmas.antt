@@ -1,8 +1,8 @@
 -- The texts of a test, from that of its file.
 -- Shown: what the file's text is cut into, and what is made of the pieces, are the texts of the test's paths.
 -- Idea: each part of a path stands behind a slash. The hard one is `its_name`, that a path is its directory and its name.
-use Rattle.std.proofs.Common.{◌≡◌, ◌≢◌, ◌==◌, ℕ, ◌-◌, true, false, List, [], ◌∷◌, ◌++◌, length, take, codes, All, refl, sym, ap, ◌∙◌, arith, suc, append-nil, append_assoc}
-use Rattle.std.specs.List.{flat_map, list_all}
+use Rattle.std.proofs.Common.{◌≡◌, ◌≢◌, ◌==◌, ◌||◌, ℕ, ◌-◌, Bool, true, false, cond, List, [], ◌∷◌, ◌++◌, length, take, codes, All, refl, sym, ap, ◌∙◌, arith, suc, append-nil, append_assoc}
+use Rattle.std.specs.List.{flat_map, list_all, list_any}
 use Rattle.std.proofs.Math.Seq.{take-length, take-suc}
 use Rattle.std.proofs.lemmas.Grind.{flat_map-append}
 use Rattle.std.proofs.lemmas.List.Folds.{list_all-append}
@@ -13,7 +13,7 @@ use Rattle.lit_paths.proofs.LawLemmas.{path_in_text_of}
 use Rattle.lit_paths.proofs.PartLemmas.{and_left, and_right, no_slash}
 use Rattle.lit_suite.specs.declared.suite_file.Part.{Part}
 use Rattle.lit_suite.specs.declared.suite_file.Suite.{Suite}
-use Rattle.lit_dirs.specs.Tests.{features_of, name_of, parts_over, substitutions_of}
+use Rattle.lit_dirs.specs.Tests.{features_of, holds_path, name_of, parts_over, substitutions_of}
 
 -- ---- texts of paths
 
@@ -113,3 +113,27 @@ pub same_substitutions : (suite : Suite) (one below : Parts) → (suite.parts �
 same_substitutions suite one below same =
     ap (λ parts. flat_map (λ part. part.substitutions) parts ++ suite.substitutions)
     (parts_over_same suite.parts one below same)
+
+none_kept : (holds rest : Bool) (part : Part) (kept : List Part) → (holds || rest) ≡ false → (rest ≡ false → kept ≡ [])
+    → cond holds (part ∷ kept) kept ≡ []
+none_kept true rest part kept none next = absurd (cc)
+none_kept false rest part kept none next = next none
+
+none_over : (parts : List Part) (below : Parts) → list_any (holds_path below) parts ≡ false
+    → parts_over parts below ≡ []
+none_over [] below none = refl
+none_over (part ∷ parts) below none =
+    none_kept (holds_path below part) (list_any (holds_path below) parts) part (parts_over parts below) none
+    (none_over parts below)
+
+-- where no part holds a path, its suite's are all
+pub own_features : (suite : Suite) (below : Parts) → list_any (holds_path below) suite.parts ≡ false
+    → features_of suite below ≡ suite.features
+own_features suite below none =
+    ap (λ parts. suite.features ++ flat_map (λ part. part.features) parts) (none_over suite.parts below none)
+    ∙ append-nil suite.features
+
+pub own_substitutions : (suite : Suite) (below : Parts) → list_any (holds_path below) suite.parts ≡ false
+    → substitutions_of suite below ≡ suite.substitutions
+own_substitutions suite below none =
+    ap (λ parts. flat_map (λ part. part.substitutions) parts ++ suite.substitutions) (none_over suite.parts below none)

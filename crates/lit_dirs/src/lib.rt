@@ -9,6 +9,7 @@ mod making;
 mod names;
 mod passing;
 
+pub use additions::tools_of;
 pub use fault::DiscoverFault;
 pub use looking::{list_dir, look_in};
 pub use making::{name_of, test_of};

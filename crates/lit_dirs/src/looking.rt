@@ -41,8 +41,9 @@ pub fn list_dir<T: Tree>(
         Err(TreeFault::NotDirectory) => Ok(None),
         Err(TreeFault::Missing) => Err(DiscoverFault::Missing(path)),
         Err(TreeFault::Failed) => Err(DiscoverFault::TreeFault),
-        // A tree that is listed never answers `TooLarge`.
-        Err(TreeFault::TooLarge | TreeFault::NoMemory) => Err(DiscoverFault::NoMemory),
+        // A tree that is listed never answers this.
+        Err(TreeFault::TooLarge) => unreachable!(),
+        Err(TreeFault::NoMemory) => Err(DiscoverFault::NoMemory),
     }
 }
 
@@ -84,8 +85,9 @@ fn read_in<T: Tree>(alloc: Global, tree: &mut T, dir: &[Bytes]) -> Result<Suite,
         Err(TreeFault::Missing) => Err(DiscoverFault::Missing(path)),
         Err(TreeFault::TooLarge) => Err(DiscoverFault::SuiteTooLarge(path)),
         Err(TreeFault::Failed) => Err(DiscoverFault::TreeFault),
-        // A file that is read is never answered by `NotDirectory`.
-        Err(TreeFault::NotDirectory | TreeFault::NoMemory) => Err(DiscoverFault::NoMemory),
+        // A file that is read is never answered by this.
+        Err(TreeFault::NotDirectory) => unreachable!(),
+        Err(TreeFault::NoMemory) => Err(DiscoverFault::NoMemory),
     }
 }
 

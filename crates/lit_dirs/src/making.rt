@@ -1,17 +1,17 @@
 //! A test from its path and its suite.
-ghost use Rattle.std.specs.Prelude.{◌≡◌, ◌≢◌, ◌++◌, ◌∷◌, ℕ, [], IfOk, List, codes, true};
+ghost use Rattle.std.specs.Prelude.{◌≡◌, ◌≢◌, ◌++◌, ◌∷◌, ℕ, [], IfOk, List, codes, map, true};
 ghost use Rattle.std.specs.List.{list_all};
 ghost use Rattle.tt_outside.specs.TreeMap.{is_part};
 ghost use Rattle.lit_paths.specs.Paths.{Parts, cut, dir_of, inner_text_of, slashed, text_of};
 ghost use Rattle.lit_suite.specs.Whole.{IsWhole};
-ghost use Rattle.lit_dirs.specs.Tests.{IsTestOf, work_dir_of};
+ghost use Rattle.lit_dirs.specs.Tests.{IsTestOf, tool_of, work_dir_of};
 
-use crate::additions::{add_pairs, features_of, substitutions_of, tools_of};
+use crate::additions::{features_of, substitutions_of};
 use lit_paths::{add_slashed, behind_path, chained, cut, cut_name, joined};
 use lit_suite::Suite;
 use std::alloc::Global;
 use tt_base::{Bytes, Items, NoMemory};
-use tt_outside::{Pair, Test};
+use tt_outside::{Pair, SharedItems, Test};
 
 /// The text of a path whose parts are written so, each behind a slash.
 fn whole_text(alloc: Global, text: Bytes) -> Result<Bytes, NoMemory>
@@ -85,15 +85,6 @@ fn parts_below(alloc: Global, suite: &Suite, inner: &[u8]) -> Result<Items<Bytes
     cut(alloc, inner)
 }
 
-/// Copies of pairs.
-fn copied_pairs(alloc: Global, pairs: &[Pair]) -> Result<Items<Pair>, NoMemory>
-    ensures { IfOk result (λ copy. copy ≡ pairs.now) }
-{
-    let mut copy = Items::new(alloc);
-    add_pairs(alloc, &mut copy, pairs)?;
-    Ok(copy)
-}
-
 /// The name of the test of a file below the directory of its suite.
 pub fn name_of(alloc: Global, root: &[Bytes], suite: &Suite, path: &[u8]) -> Result<Bytes, NoMemory>
     ensures { (below : Parts) → path.now ≡ text_of (root.now ++ below) → below ≢ []
@@ -103,10 +94,19 @@ pub fn name_of(alloc: Global, root: &[Bytes], suite: &Suite, path: &[u8]) -> Res
     full_name(alloc, suite.name.as_slice(), inner)
 }
 
-/// The test of a file below the directory of its suite.
+/// The test of a file below the directory of its suite. `tools` are the paths of the suite's programs; `last` is the test
+/// that was made before it, if there is one, with which it shares lists that are equal.
 #[tactic(auto, using(crate::proofs::NamedLemmas::replacements_are_named))]
-pub fn test_of(alloc: Global, root: &[Bytes], suite: &Suite, path: Bytes) -> Result<Test, NoMemory>
-    requires { IsWhole suite.now }
+pub fn test_of(
+    alloc: Global,
+    root: &[Bytes],
+    suite: &Suite,
+    tools: &SharedItems<Pair>,
+    path: Bytes,
+    last: Option<&Test>,
+) -> Result<Test, NoMemory>
+    requires whole { IsWhole suite.now }
+    requires tools { tools.now ≡ map (tool_of root.now) suite.now.tools }
     ensures { (below : Parts) → path ≡ text_of (root.now ++ below) → list_all is_part below ≡ true → below ≢ []
         → IfOk result (IsTestOf root.now suite.now below) }
 {
@@ -120,10 +120,10 @@ pub fn test_of(alloc: Global, root: &[Bytes], suite: &Suite, path: Bytes) -> Res
         temp_dir: temp_dir_of(alloc, work.as_slice())?,
         temp: temp_of(alloc, work.as_slice(), name)?,
         work_dir: whole_text(alloc, work)?,
-        features: features_of(alloc, suite, below.as_slice())?,
-        substitutions: substitutions_of(alloc, suite, below.as_slice())?,
-        tools: tools_of(alloc, root, suite.tools.as_slice())?,
-        environment: copied_pairs(alloc, suite.environment.as_slice())?,
+        features: features_of(alloc, suite, below.as_slice(), last)?,
+        substitutions: substitutions_of(alloc, suite, below.as_slice(), last)?,
+        tools: tools.share()?,
+        environment: suite.environment.share()?,
         path,
     })
 }

@@ -1,9 +1,11 @@
 -- The tests of files.
 -- Shown: a file in a directory of a suite lies below the suite's root, and its test is right. Idea: a text tells its path.
 -- The hard one is `filed`.
-use Rattle.std.proofs.Common.{◌≡◌, ◌≢◌, true, ℕ, List, [], ◌∷◌, ◌++◌, drop, length, Some, refl, sym, ap, ◌∙◌, subst, append_assoc}
+use Rattle.std.proofs.Common.{◌≡◌, ◌≢◌, true, ℕ, List, [], ◌∷◌, ◌++◌, drop, length, Some, Result, IfOk, refl, sym, ap, ◌∙◌, subst, append_assoc}
 use Rattle.std.specs.List.{list_all}
 use Rattle.std.proofs.Math.Seq.{drop-append_seam}
+use Rattle.std.proofs.lemmas.Result.{IfOk-weaker}
+use Rattle.tt_base.specs.declared.memory.NoMemory.{NoMemory}
 use Rattle.tt_outside.specs.TreeMap.{is_part}
 use Rattle.tt_outside.specs.declared.test_data.Test.{Test}
 use Rattle.tt_outside.specs.declared.tree.Node.{Node}
@@ -18,7 +20,7 @@ use Rattle.lit_find.specs.Found.{IsRight}
 use Rattle.lit_find.specs.Walk.{IsTestFile}
 use Rattle.lit_find.specs.declared.place.TestFile.{TestFile}
 use Rattle.lit_find.proofs.PathLemmas.{name_behind, path_in_word}
-use Rattle.lit_find.proofs.ReachLemmas.{one_part, parts_both}
+use Rattle.lit_find.proofs.ReachLemmas.{one_part, parts_both, parts_right}
 
 -- a name in a directory that lies in that of a suite
 pub filed : (root : SuiteRoot) (dir : Parts) (name text : List ℕ) → LiesIn root.dir dir → is_part name ≡ true
@@ -49,6 +51,19 @@ pub test_is : (file : TestFile) (test : Test) → IsFiled file
 test_is file test is made =
     equal_tests test (test_in file) made.named (made.file ∙ sym is.is) made.source made.work made.temps made.temporary
     made.features made.substitutions made.tools made.environment
+
+-- what is made by the directory and the suite of a file is its test
+pub test_made : (file : TestFile) (root : SuiteRoot) (dir : Parts) (made : Result Test NoMemory) → IsFiled file
+    → root ≡ file.suite → dir ≡ root.dir
+    → ((below : Parts) → file.path ≡ text_of (dir ++ below) → list_all is_part below ≡ true → below ≢ []
+    → IfOk made (IsTestOf dir root.suite below)) → IfOk made (λ test. test ≡ test_in file)
+test_made file root dir made is same at gives =
+    let its : dir ≡ file.suite.dir = at ∙ ap (λ one. one.dir) same in
+    IfOk-weaker made (IsTestOf dir root.suite (below_of file)) (λ test. test ≡ test_in file)
+    (λ test right. test_is file test is (subst (λ (path : Parts). IsTestOf path file.suite.suite (below_of file) test) its
+    (subst (λ (one : SuiteRoot). IsTestOf dir one.suite (below_of file) test) same right)))
+    (gives (below_of file) (is.is ∙ ap (λ path. text_of (path ++ below_of file)) (sym its))
+    (parts_right file.suite.dir (below_of file) is.parts) is.some)
 
 not_behind : (xs ys : Parts) → ys ≢ [] → xs ++ ys ≢ []
 not_behind [] ys some none = some none

@@ -41,14 +41,15 @@ fn name_in(alloc: Global, file: &TestFile) -> Result<Bytes, NoMemory>
     )
 }
 
-/// The test of a file.
-fn test_in(alloc: Global, file: TestFile) -> Result<Test, NoMemory>
+/// The test of a file. `last` is the test that was made before it.
+fn test_in(alloc: Global, file: TestFile, last: Option<&Test>) -> Result<Test, NoMemory>
     requires { IsFiled file }
     ensures { IfOk result (λ test. test ≡ test_in file) }
 {
     let TestFile { path, suite } = file;
     let root = suite.get();
-    test_of(alloc, root.dir.as_slice(), &root.suite, path)
+    let dir = root.dir.as_slice();
+    test_of(alloc, dir, &root.suite, suite.tools(), path, last)
 }
 
 /// The names of the tests of files.
@@ -70,7 +71,8 @@ fn tests_in(alloc: Global, files: Vec<TestFile>) -> Result<Items<Test>, NoMemory
 {
     let mut tests = Items::new(alloc);
     for file in files {
-        tests.push(test_in(alloc, file)?)?;
+        let test = test_in(alloc, file, tests.as_slice().last())?;
+        tests.push(test)?;
     }
     Ok(tests)
 }

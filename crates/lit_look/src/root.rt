@@ -1,12 +1,15 @@
 //! The root of a suite, which all that is found below it shares.
-ghost use Rattle.std.specs.Prelude.{◌≡◌, IfOk};
+ghost use Rattle.std.specs.Prelude.{◌≡◌, IfOk, map};
+ghost use Rattle.lit_dirs.specs.Tests.{tool_of};
 ghost use Rattle.lit_suite.specs.Whole.{IsWhole};
 
+use lit_dirs::tools_of;
 use lit_suite::Suite;
 use std::alloc::Global;
 use std::marker::Model;
 use std::sync::Arc;
 use tt_base::{Bytes, Items, NoMemory};
+use tt_outside::{Pair, SharedItems};
 
 /// A directory with its suite.
 #[derive(Drop, Debug)]
@@ -16,10 +19,18 @@ pub struct SuiteRoot {
     pub ghost whole: { IsWhole suite },
 }
 
+/// A directory with its suite, and the paths of the suite's programs.
+#[derive(Drop, Debug)]
+struct ToolRoot {
+    root: SuiteRoot,
+    tools: SharedItems<Pair>,
+    ghost joined: { tools ≡ map (tool_of root.dir) root.suite.tools },
+}
+
 /// The root of a suite, held once for all that is found below it.
 #[derive(Drop, Debug)]
 pub struct SharedRoot {
-    held: Arc<SuiteRoot>,
+    held: Arc<ToolRoot>,
 }
 
 impl Model for SharedRoot {
@@ -28,7 +39,7 @@ impl Model for SharedRoot {
 
     ghost Value = { SuiteRoot };
 
-    ghost view = { λ root. arc_value root.held };
+    ghost view = { λ shared. (arc_value shared.held).root };
 }
 
 impl SharedRoot {
@@ -36,7 +47,8 @@ impl SharedRoot {
     pub fn new(alloc: Global, root: SuiteRoot) -> Result<SharedRoot, NoMemory>
         ensures { IfOk result (λ shared. shared ≡ root) }
     {
-        match Arc::new(alloc, root) {
+        let tools = tools_of(alloc, root.dir.as_slice(), root.suite.tools.as_slice())?;
+        match Arc::new(alloc, ToolRoot { root, tools }) {
             Ok(held) => Ok(SharedRoot { held }),
             Err(_) => Err(NoMemory),
         }
@@ -56,6 +68,13 @@ impl SharedRoot {
     pub fn get(&self) -> &SuiteRoot
         ensures { result.now ≡ self.now }
     {
-        &self.held
+        &self.held.root
+    }
+
+    /// The paths of the programs of its suite.
+    pub fn tools(&self) -> &SharedItems<Pair>
+        ensures { result.now ≡ map (tool_of self.now.dir) self.now.suite.tools }
+    {
+        &self.held.tools
     }
 }

@@ -14,7 +14,7 @@ use std::alloc::Global;
 use std::str;
 use toml::{Table, Value};
 use tt_base::{Bytes, Items, NoMemory};
-use tt_outside::Pair;
+use tt_outside::{Pair, SharedItems};
 
 /// The keys of a suite; the last is one from version 2 on.
 const KEYS: [&str; 10] = [
@@ -185,11 +185,11 @@ fn suite_of(alloc: Global, table: &Table) -> Result<Suite, SuiteFail>
         name,
         suffixes,
         excludes,
-        features,
+        features: SharedItems::new(alloc, features)?,
         exec_root,
-        substitutions,
+        substitutions: SharedItems::new(alloc, substitutions)?,
         tools,
-        environment,
+        environment: SharedItems::new(alloc, environment)?,
         parts,
     })
 }

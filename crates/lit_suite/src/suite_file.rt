@@ -2,9 +2,9 @@
 ghost use Rattle.std.specs.Prelude.{◌≡◌};
 
 use tt_base::{Bytes, Items, NoMemory};
-use tt_outside::Pair;
+use tt_outside::{Pair, SharedItems};
 
-/// What `lit.suite.toml` says of the tests below its directory.
+/// What `lit.suite.toml` says of the tests below its directory. What each of them holds as it is said stands once.
 #[derive(Drop, Debug)]
 pub struct Suite {
     pub name: Bytes,
@@ -12,13 +12,13 @@ pub struct Suite {
     pub suffixes: Items<Bytes>,
     /// The names of files and directories that are passed over.
     pub excludes: Items<Bytes>,
-    pub features: Items<Bytes>,
+    pub features: SharedItems<Bytes>,
     /// Where the commands run, if not at the suite's root.
     pub exec_root: Option<Bytes>,
-    pub substitutions: Items<Pair>,
+    pub substitutions: SharedItems<Pair>,
     pub tools: Items<Pair>,
     /// What is added to the inherited environment.
-    pub environment: Items<Pair>,
+    pub environment: SharedItems<Pair>,
     pub parts: Items<Part>,
 }
 

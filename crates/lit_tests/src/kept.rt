@@ -1,10 +1,19 @@
 //! Which tests are kept.
+ghost use Rattle.std.specs.Prelude.{◌≡◌, IfOk, []};
+
 use crate::rows::three;
 use ere_tree::{Ere, parse};
 use lit_select::select;
 use std::alloc::Global;
 use tt_base::{Bytes, Items, NoMemory};
-use tt_outside::Test;
+use tt_outside::{SharedItems, Test};
+
+/// No items, shared.
+fn none<T: Drop>(alloc: Global) -> Result<SharedItems<T>, NoMemory>
+    ensures { IfOk result (λ shared. shared ≡ []) }
+{
+    SharedItems::new(alloc, Items::new(alloc))
+}
 
 /// A test of this name.
 fn named(alloc: Global, name: &[u8]) -> Result<Test, NoMemory> {
@@ -15,10 +24,10 @@ fn named(alloc: Global, name: &[u8]) -> Result<Test, NoMemory> {
         work_dir: Bytes::new(alloc),
         temp_dir: Bytes::new(alloc),
         temp: Bytes::new(alloc),
-        features: Items::new(alloc),
-        substitutions: Items::new(alloc),
-        tools: Items::new(alloc),
-        environment: Items::new(alloc),
+        features: none(alloc)?,
+        substitutions: none(alloc)?,
+        tools: none(alloc)?,
+        environment: none(alloc)?,
     })
 }
 

@@ -2,7 +2,7 @@
 ghost use Rattle.std.specs.Prelude.{IfOk};
 ghost use Rattle.lit_suite.specs.Whole.{IsWhole};
 
-use lit_dirs::test_of;
+use lit_dirs::{test_of, tools_of};
 use lit_paths::read_path;
 use lit_suite::{Suite, read_suite};
 use std::alloc::Global;
@@ -31,13 +31,19 @@ fn suite_of(alloc: Global) -> Result<Suite, NoMemory>
     }
 }
 
-/// The test of a path below `/w/s`.
-fn made(alloc: Global, below: &str) -> Result<Test, NoMemory> {
+/// The test of a path below `/w/s`, and behind another where there is one.
+fn made_behind(alloc: Global, below: &str, last: Option<&Test>) -> Result<Test, NoMemory> {
     let suite = suite_of(alloc)?;
     let root = read_path(alloc, b"/w/s".as_slice())?;
     let mut path = Bytes::from_slice(alloc, b"/w/s/".as_slice())?;
     path.append(below.as_bytes())?;
-    test_of(alloc, root.as_slice(), &suite, path)
+    let tools = tools_of(alloc, root.as_slice(), suite.tools.as_slice())?;
+    test_of(alloc, root.as_slice(), &suite, &tools, path, last)
+}
+
+/// The test of a path below `/w/s`.
+fn made(alloc: Global, below: &str) -> Result<Test, NoMemory> {
+    made_behind(alloc, below, None)
 }
 
 /// What a test has under a name.
@@ -99,6 +105,30 @@ fn a_part_adds_to_the_tests_below_it(rt: HostRuntime) -> Result<(), NoMemory> {
     let test = made(rt.alloc(), "x/b.t")?;
     for (what, due) in SECOND.lines().enumerate() {
         assert!(rt; has(&test, what, due), "{due}");
+    }
+    Ok(())
+}
+
+/// Whether the tests of these paths are what each is by itself, where one is made behind the other.
+fn are_their_own(alloc: Global, first: &str, second: &str) -> Result<bool, NoMemory> {
+    let before = made(alloc, first)?;
+    let behind = made_behind(alloc, second, Some(&before))?;
+    Ok(behind.same(&made(alloc, second)?))
+}
+
+#[test]
+fn a_test_is_the_same_behind_any_other(rt: HostRuntime) -> Result<(), NoMemory> {
+    for (first, second) in [
+        ("a.t", "b.t"),
+        ("a.t", "x/b.t"),
+        ("x/a.t", "x/b.t"),
+        ("x/a.t", "y/b.t"),
+        ("y/a.t", "z.t"),
+    ] {
+        assert!(rt;
+            are_their_own(rt.alloc(), first, second)?,
+            "{first} {second}"
+        );
     }
     Ok(())
 }

@@ -1,8 +1,10 @@
 //! The tests of a suite `demo` at `/w/demo`, over planned replies.
+ghost use Rattle.std.specs.Prelude.{◌≡◌, IfOk, []};
+
 use crate::rows::both;
 use std::alloc::Global;
 use tt_base::{Bytes, Items, NoMemory};
-use tt_outside::{Finish, Planned, Reply, Test};
+use tt_outside::{Finish, Planned, Reply, SharedItems, Test};
 
 /// A suite's tests, in order, and the replies that their commands get.
 #[derive(Drop)]
@@ -27,6 +29,13 @@ fn dirs(alloc: Global) -> Result<(Bytes, Bytes, Bytes), NoMemory> {
     Ok((source_dir, work_dir, temp_dir))
 }
 
+/// No items, shared.
+fn none<T: Drop>(alloc: Global) -> Result<SharedItems<T>, NoMemory>
+    ensures { IfOk result (λ shared. shared ≡ []) }
+{
+    SharedItems::new(alloc, Items::new(alloc))
+}
+
 /// The test of a file.
 fn test_of(alloc: Global, file: &str) -> Result<Test, NoMemory> {
     let (name, path, temp) = paths(alloc, file)?;
@@ -38,10 +47,10 @@ fn test_of(alloc: Global, file: &str) -> Result<Test, NoMemory> {
         work_dir,
         temp_dir,
         temp,
-        features: Items::new(alloc),
-        substitutions: Items::new(alloc),
-        tools: Items::new(alloc),
-        environment: Items::new(alloc),
+        features: none(alloc)?,
+        substitutions: none(alloc)?,
+        tools: none(alloc)?,
+        environment: none(alloc)?,
     })
 }
 

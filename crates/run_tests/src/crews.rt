@@ -2,7 +2,9 @@
 use crate::rows::bytes_of;
 use std::alloc::Global;
 use tt_base::{Bytes, Items, NoMemory};
-use tt_outside::{Entry, Finish, MemCrew, Pair, Planned, Reply, Request, Stream, Test};
+use tt_outside::{
+    Entry, Finish, MemCrew, Pair, Planned, Reply, Request, SharedItems, Stream, Test,
+};
 
 fn pair(alloc: Global, name: &str, value: &str) -> Result<Pair, NoMemory> {
     let name = bytes_of(alloc, name)?;
@@ -15,6 +17,11 @@ fn one<T: Drop>(alloc: Global, item: T) -> Result<Items<T>, NoMemory> {
     let mut items = Items::new(alloc);
     items.push(item)?;
     Ok(items)
+}
+
+/// One item, shared.
+fn one_shared<T: Drop>(alloc: Global, item: T) -> Result<SharedItems<T>, NoMemory> {
+    SharedItems::new(alloc, one(alloc, item)?)
 }
 
 /// The file of a test, and its directory, which is another than the one in which its commands run.
@@ -33,10 +40,12 @@ fn places(alloc: Global) -> Result<(Bytes, Bytes, Bytes), NoMemory> {
 }
 
 /// What a suite gives its tests: the feature `linux`, the tool `tool` at `/bin/tool`, and E as `e` in the environment.
-fn given(alloc: Global) -> Result<(Items<Bytes>, Items<Pair>, Items<Pair>), NoMemory> {
-    let features = one(alloc, bytes_of(alloc, "linux")?)?;
-    let tools = one(alloc, pair(alloc, "tool", "/bin/tool")?)?;
-    let environment = one(alloc, pair(alloc, "E", "e")?)?;
+fn given(
+    alloc: Global,
+) -> Result<(SharedItems<Bytes>, SharedItems<Pair>, SharedItems<Pair>), NoMemory> {
+    let features = one_shared(alloc, bytes_of(alloc, "linux")?)?;
+    let tools = one_shared(alloc, pair(alloc, "tool", "/bin/tool")?)?;
+    let environment = one_shared(alloc, pair(alloc, "E", "e")?)?;
     Ok((features, tools, environment))
 }
 
@@ -53,7 +62,7 @@ pub(crate) fn test_at_w(alloc: Global) -> Result<Test, NoMemory> {
         temp_dir,
         temp,
         features,
-        substitutions: Items::new(alloc),
+        substitutions: SharedItems::new(alloc, Items::new(alloc))?,
         tools,
         environment,
     })

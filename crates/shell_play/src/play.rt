@@ -63,7 +63,7 @@ fn request_of(
                 running.command.words.as_slice(),
             )?,
             dir: text(alloc, &running.dir)?,
-            env: pairs(alloc, &test.environment)?,
+            env: pairs(alloc, test.environment.as_slice())?,
             input: text(alloc, input)?,
             limit: LIMIT,
         }),

@@ -21,7 +21,7 @@ fn pair(alloc: Global, name: &[u8], value: &Bytes) -> Result<Pair, NoMemory>
 pub(crate) fn texts_of(alloc: Global, test: &Test) -> Result<Texts, NoMemory>
     ensures { IfOk result (λ texts. texts.pairs ≡ pairs_of test.now) }
 {
-    let mut all = pairs(alloc, &test.substitutions)?;
+    let mut all = pairs(alloc, test.substitutions.as_slice())?;
     all.push(pair(alloc, b"%s", &test.path)?)?;
     all.push(pair(alloc, b"%S", &test.source_dir)?)?;
     all.push(pair(alloc, b"%p", &test.source_dir)?)?;

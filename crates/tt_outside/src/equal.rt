@@ -43,11 +43,11 @@ pub fn texts(alloc: Global, items: &Items<Bytes>) -> Result<Items<Bytes>, NoMemo
 }
 
 /// Equal pairs.
-pub fn pairs(alloc: Global, items: &Items<Pair>) -> Result<Items<Pair>, NoMemory>
+pub fn pairs(alloc: Global, items: &[Pair]) -> Result<Items<Pair>, NoMemory>
     ensures { IfOk result (λ copy. copy ≡ items.now) }
 {
     let mut copy = Items::new(alloc);
-    add_pairs(alloc, &mut copy, items.as_slice())?;
+    add_pairs(alloc, &mut copy, items)?;
     Ok(copy)
 }
 
@@ -59,7 +59,7 @@ fn same_text(one: &Bytes, other: &Bytes) -> bool
 }
 
 /// Whether texts are equal, one by one.
-fn same_texts(one: &[Bytes], other: &[Bytes]) -> bool
+pub fn same_texts(one: &[Bytes], other: &[Bytes]) -> bool
     ensures { IsTrue result ↔ (one.now ≡ other.now) }
 {
     let mut rest = other;
@@ -76,7 +76,7 @@ fn same_texts(one: &[Bytes], other: &[Bytes]) -> bool
 }
 
 /// Whether pairs are equal, one by one.
-fn same_pairs(one: &[Pair], other: &[Pair]) -> bool
+pub fn same_pairs(one: &[Pair], other: &[Pair]) -> bool
     ensures { IsTrue result ↔ (one.now ≡ other.now) }
 {
     let mut rest = other;
@@ -112,7 +112,7 @@ impl Pair {
 }
 
 impl Test {
-    /// An equal test.
+    /// An equal test, which shares its lists with the first.
     #[tactic(auto, using(crate::proofs::EqualLemmas::equal_tests))]
     pub fn copy(&self, alloc: Global) -> Result<Test, NoMemory>
         ensures { IfOk result (λ copy. copy ≡ self.now) }
@@ -124,10 +124,10 @@ impl Test {
             work_dir: text(alloc, &self.work_dir)?,
             temp_dir: text(alloc, &self.temp_dir)?,
             temp: text(alloc, &self.temp)?,
-            features: texts(alloc, &self.features)?,
-            substitutions: pairs(alloc, &self.substitutions)?,
-            tools: pairs(alloc, &self.tools)?,
-            environment: pairs(alloc, &self.environment)?,
+            features: self.features.share()?,
+            substitutions: self.substitutions.share()?,
+            tools: self.tools.share()?,
+            environment: self.environment.share()?,
         })
     }
 
@@ -182,7 +182,7 @@ impl Request {
             } => Ok(Request::Spawn {
                 words: texts(alloc, words)?,
                 dir: text(alloc, dir)?,
-                env: pairs(alloc, env)?,
+                env: pairs(alloc, env.as_slice())?,
                 input: text(alloc, input)?,
                 limit: *limit,
             }),

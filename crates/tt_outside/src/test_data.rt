@@ -2,9 +2,11 @@
 ghost use Rattle.std.specs.Prelude.{All, ◌<◌, length};
 
 use crate::request::Pair;
-use tt_base::{Bytes, Items};
+use crate::shared::SharedItems;
+use tt_base::Bytes;
 
-/// A test of a suite, complete in itself. Paths are normal and begin with `/`.
+/// A test of a suite, complete in itself. Paths are normal and begin with `/`. Its lists stand once for all tests that
+/// share them.
 #[derive(Drop, Debug)]
 pub struct Test {
     /// The suite's name, ` :: `, and the path below the suite's root.
@@ -19,12 +21,12 @@ pub struct Test {
     pub temp_dir: Bytes,
     /// How the paths of its temporary files begin.
     pub temp: Bytes,
-    pub features: Items<Bytes>,
+    pub features: SharedItems<Bytes>,
     /// The replacements of its suite, in order.
-    pub substitutions: Items<Pair>,
+    pub substitutions: SharedItems<Pair>,
     /// The paths of programs by their names.
-    pub tools: Items<Pair>,
+    pub tools: SharedItems<Pair>,
     /// What is added to the inherited environment.
-    pub environment: Items<Pair>,
+    pub environment: SharedItems<Pair>,
     ghost named: { All (λ pair. 0 < length pair.name) substitutions },
 }

@@ -1,6 +1,6 @@
-use Rattle.std.proofs.Common.{◌≡◌, ◌≢◌, ◌++◌, ◌∷◌, [], map, sym, ap, ◌∙◌, codes}
+use Rattle.std.proofs.Common.{◌≡◌, ◌≢◌, ◌++◌, ◌∷◌, [], sym, ap, ◌∙◌, codes}
 use Rattle.lit_paths.specs.Paths.{cut, dir_of, inner_text_of, slashed, text_of}
-use Rattle.lit_dirs.specs.Tests.{name_of, temp_dir_of, tool_of, work_dir_of}
+use Rattle.lit_dirs.specs.Tests.{name_of, temp_dir_of, work_dir_of}
 use Rattle.lit_dirs.proofs.MadeLemmas.{below_text, cut_below, file_text, name_whole, same_features, same_substitutions, slashed_append}
 use Rattle.lit_dirs.proofs.making.test_of.Goals as goal
 
@@ -30,6 +30,6 @@ returns c = λ below is parts some.
           (λ have. c.as_slice-6.ensures ∙ own have) c.in_ok-features_of.ensures;
       substitutions = c.in_ok-substitutions_of.ensures ∙ same_substitutions suite c.as_slice-7.result.now below
           (λ have. c.as_slice-7.ensures ∙ own have);
-      tools = c.in_ok-tools_of.ensures ∙ ap (map (tool_of root)) c.as_slice-8.ensures;
-      environment = c.in_ok-copied_pairs.ensures ∙ c.as_slice-9.ensures;
+      tools = c.in_ok-share.ensures ∙ c.requires.tools;
+      environment = c.in_ok-share-2.ensures;
     }

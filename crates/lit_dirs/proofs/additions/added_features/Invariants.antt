@@ -1,7 +1,7 @@
 use Rattle.std.proofs.Common.{◌≡◌, ◌++◌, drop}
 use Rattle.std.specs.List.{flat_map}
 use Rattle.lit_dirs.specs.Tests.{features_of, parts_over}
-use Rattle.lit_dirs.proofs.additions.features_of.Given as goal
+use Rattle.lit_dirs.proofs.additions.added_features.Given as goal
 
 abbrev pub invariant-loop-part : goal.invariant-loop-part
 invariant-loop-part l =
