@@ -1,5 +1,6 @@
 -- A round behind which one seat has all that was drawn: what the hands began is counted by it, and where a number past the round was
--- drawn, all tests were begun. Sorted by number, the trials are those of the tests in order.
+-- drawn, all tests were begun. Sorted by number, the trials are those of the tests in order. The hard one is `runs_round`: the numbers
+-- of the trials are the round's, since as many of them lie below each bound.
 use Rattle.std.proofs.Common.{◌≡◌, ◌+◌, ◌-◌, ◌<◌, ◌∙◌, ℕ, min, List, length, slice_get, sym, ap, subst, arith}
 use Rattle.std.proofs.lemmas.List.{length-map}
 use Rattle.std.proofs.lemmas.List.FromFn.{length-range_with_len}

@@ -1,4 +1,6 @@
--- Lists of trials that grow, and what they tell of entries, numbers and faults.
+-- Lists of trials that grow, and what they tell of entries, numbers and faults: of two lists put together (`numbers_both`,
+-- `entries_both`, `fault_either`), and of one more trial (`broken_on`, `calm_on`), where faults of the outside are counted before,
+-- between and behind. None is hard: each is a sum, a map or an `any` over lists that are put together.
 use Rattle.std.proofs.Common.{◌≡◌, ◌+◌, ◌*◌, ◌^◌, ◌≤◌, ◌||◌, ◌∙◌, ℕ, Bool, true, false, true≢false, List, [], ◌∷◌, ◌++◌, length, refl, sym, ap, arith}
 use Rattle.std.proofs.lemmas.List.{map-append}
 use Rattle.std.proofs.lemmas.List.Elements.{All-weaker}

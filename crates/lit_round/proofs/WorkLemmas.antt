@@ -1,5 +1,6 @@
 -- What workers did adds up: of one worker from the numbers that it drew (`works_by`), of a worker and others together (`works_both`),
--- field by field, since each is a sum over lists that are put together. None is hard.
+-- field by field, since each is a sum over lists that are put together. `Counts` keeps, test by test, that the numbers begun and the
+-- place that is due are those that were drawn (`counts_on`). None is hard.
 use Rattle.std.proofs.Common.{◌≡◌, ◌+◌, ◌-◌, ◌≤◌, ◌<◌, ◌||◌, ◌&&◌, ◌⊎◌, inl, inr, ◌∙◌, ℕ, Bool, true, false, true≢false, min, nat_lt, if◌then◌else◌, List, [], ◌∷◌, ◌++◌, length, map, refl, sym, ap, subst, arith, lt_of_not-le}
 use Rattle.std.proofs.lemmas.Bool.Decides.{nat_tests}
 use Rattle.std.proofs.lemmas.List.{append_assoc, length-append, length-map, map-append}

@@ -1,4 +1,6 @@
--- A call of lit, put together of what its steps left.
+-- A call of lit, put together of what its steps left. Each lemma is a way to end it: memory was wanting, the words are refused, names
+-- are shown, tests are run, or no test is. Where no test was run the status is the one that was handed on (`status_is`), and no hand
+-- was hired. None is hard: the definitions go by cases of what was asked, and each lemma is in one of them.
 use Rattle.std.proofs.Common.{◌≡◌, ℕ, true, false, List, Ok, Err, sym, ◌∙◌, ap, subst, inl, inr}
 use Rattle.lit_words.specs.Asked.{Wanted, asked_by}
 use Rattle.lit_words.specs.declared.fault.WordsFault.{WordsFault}

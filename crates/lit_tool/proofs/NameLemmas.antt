@@ -1,4 +1,6 @@
--- What is made of tests and then named is made of their names.
+-- What is made of tests and then named is made of their names. Where no expression selects, the code keeps names and no tests, so
+-- what is promised of tests is carried over from their names: a shard of names is the names of that shard (`names_kept`), and what
+-- is written of names is what is written of tests (`shows_names`), or why there are none is told (`shows_stop`). None is hard.
 use Rattle.std.proofs.Common.{◌≡◌, ℕ, ◌+◌, Bool, true, false, if◌then◌else◌, List, [], ◌∷◌, ◌++◌, map, codes, inl, inr, subst, Option, Some, None, IfOk, Result, Ok, Err, ap, sym, ◌∙◌, refl}
 use Rattle.std.specs.Option.{option_map}
 use Rattle.std.proofs.lemmas.List.Folds.{flat_map-map}

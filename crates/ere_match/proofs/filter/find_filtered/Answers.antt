@@ -1,4 +1,6 @@
 -- What the filter told is kept from try to try: no hit begins before the place at hand. Each try moves that place.
+-- The text behind `from` is what the filter saw, so its facts are carried over by the split (`split_at`).
+-- The hard one is `loop-found-preserved`: a try that found nothing rules out its own place.
 use Rattle.std.proofs.Common.{MatchOption, ◌+◌, drop, length, sym, ap, subst, arith}
 use Rattle.ere_match.proofs.FilterLemmas.{fewer, no_hit_begins, no_hit_behind}
 use Rattle.ere_match.specs.Begins.{NoneBefore}

@@ -1,5 +1,6 @@
 -- Ends are tried from the greatest down; the list before each try is that of no captures.
--- The loop says which ends were passed. The hard one is `returns-in-Some`, where the length of that list is the number of groups.
+-- The loop says which ends were passed: those at which the expression without references has no end, or no way of the whole ends.
+-- The hard one is `returns-in-Some`, where the length of that list is the number of groups.
 use Rattle.std.proofs.Common.{◌≡◌, ℕ, ◌-◌, Option, List, true, length, sym, ap, ◌∙◌, subst, arith}
 use Rattle.std.specs.FinMap.{empty}
 use Rattle.ere_tree.proofs.CapturesLemmas.{length-caps_of}

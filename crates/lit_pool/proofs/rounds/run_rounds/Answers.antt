@@ -1,5 +1,6 @@
 -- The loop over rounds, with its four ways out: memory was wanting in a round, or for its trials, a trial was refused, and the end. Lemmas
--- of CrewLemmas tell of the hands and those of RunLemmas of the trials; what is left here is which name holds what.
+-- of CrewLemmas tell of the hands and those of RunLemmas of the trials; what is left here is which name holds what. The hard ones are those
+-- of a refusal, where the trials behind the refused one are cut off and it is taken off the end.
 use Rattle.std.proofs.Common.{rules, arith, ◌≡◌, ◌+◌, ◌<◌, ◌++◌, length, take, drop, vec_len, sym, ap, subst, ◌∙◌}
 use Rattle.std.proofs.lemmas.List.{drop_at, length-append, length-map, length-take}
 use Rattle.std.proofs.lemmas.Option.{slice_get_within}

@@ -1,5 +1,6 @@
 -- The four ways out of a run: no room for a trial, a test that met want of memory, a trial that the desk refused, and the end of the
--- tests. Lemmas of RunLemmas give each; what is left here is which of the names holds what.
+-- tests. Lemmas of RunLemmas give each; what is left here is which of the names holds what. The longest is the step to the next test
+-- (`loop-test-preserved`), since the invariant has a field for each clause.
 use Rattle.std.proofs.Common.{◌≡◌, ◌+◌, ◌++◌, ◌∷◌, ◌∙◌, [], length, ap, subst, arith}
 use Rattle.std.proofs.lemmas.List.{length-append}
 use Rattle.std.proofs.lemmas.List.Sums.{sum_by_push}

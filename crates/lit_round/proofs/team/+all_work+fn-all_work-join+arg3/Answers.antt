@@ -1,5 +1,6 @@
 -- The last hand works in this thread, and any other in one of its own; what a worker did is added to what the others did. Lemmas of
--- WorkLemmas add; what is left here is that hands and seats are those that were taken off their lists.
+-- WorkLemmas add; what is left here is that hands and seats are those that were taken off their lists. The hard one is
+-- `join-worked-requires-after_bounds`: what the two sides of the join ask for, side by side.
 use Rattle.std.proofs.Common.{rules, arith, ◌≡◌, ◌++◌, ◌∷◌, [], ◌<◌, length, Some, ap, ◌∙◌}
 use Rattle.std.proofs.lemmas.List.{length_push, nil_from_length}
 use Rattle.std.proofs.lemmas.List.Elements.{All-pop}

@@ -1,5 +1,6 @@
 -- A worker's loop: a place was drawn, and the tests of all places before it were run. It ends by a place past the round, or where memory is
--- wanting in a test or for its trial. Lemmas of WorkLemmas give each; what is left here is which name holds what.
+-- wanting in a test or for its trial. Lemmas of WorkLemmas give each; what is left here is which name holds what. The longest is the step to
+-- the next place (`loop-place-preserved`), with a field for each fact; the three ends are the branches of `returns-clause-works`.
 use Rattle.std.proofs.Common.{rules, arith, ◌≡◌, ◌+◌, ◌++◌, ◌∷◌, [], length, Some, ap, refl, sym, subst, ◌∙◌}
 use Rattle.std.proofs.lemmas.List.{append_assoc, length-append}
 use Rattle.std.proofs.lemmas.List.Elements.{All-push}
