@@ -1,4 +1,6 @@
 //! The words of a command line that is made up.
+ghost use Rattle.std.specs.Io.{WritesAtMost};
+
 use std::alloc::Global;
 use std::env::{Env, FillError};
 use std::io;
@@ -9,7 +11,9 @@ use tt_main::{with_variable, words};
 struct Line<'a>(&'a [&'a str], Option<&'a str>);
 
 /// Fills the front of a buffer.
-fn fill(buf: &mut [u8], bytes: &[u8]) -> Result<usize, FillError> {
+fn fill(buf: &mut [u8], bytes: &[u8]) -> Result<usize, FillError>
+    ensures { WritesAtMost result buf.new }
+{
     if bytes.len() > buf.len() {
         return Err(FillError::TooLong);
     }
