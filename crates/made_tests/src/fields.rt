@@ -1,0 +1,15 @@
+//! Fields of rows.
+use std::alloc::Global;
+use tt_base::{Bytes, NoMemory};
+
+/// The bytes of a field: newlines stand as `/`.
+pub(crate) fn field_of(alloc: Global, field: &str) -> Result<Bytes, NoMemory> {
+    let mut bytes = Bytes::new(alloc);
+    for byte in field.bytes() {
+        bytes.append(&[match byte {
+            b'/' => b'\n',
+            _ => byte,
+        }])?;
+    }
+    Ok(bytes)
+}
