@@ -12,7 +12,7 @@ ghost use Rattle.ere_tree.specs.View.{view};
 use crate::literal::earliest;
 use crate::span::find_span;
 use ere_auto::{Auto, Steps};
-use ere_refs::{Tries, settled, try_from};
+use ere_refs::{Tries, refs_fit, try_from};
 use ere_relaxed::relaxed;
 use ere_slow::{Limit, slow_hit_from};
 use ere_tree::{Cap, Ere, Hit};
@@ -76,8 +76,8 @@ impl Filter {
     }
 }
 
-/// The hit that begins where a span does, in the slice from `from` to the text's end, with offsets of the text. Where spans
-/// of parts don't tell what later parts refer to, or there are very many parts, derivations are listed.
+/// The hit that begins where a span does, in the slice from `from` to the text's end, with offsets of the text. Where there
+/// are very many parts, derivations are listed.
 fn hit_at(
     ere: &Ere,
     free: &Ere,
@@ -93,7 +93,7 @@ fn hit_at(
     ensures { IfOk result (λ found. MatchOption found (HasNoHitBefore (drop from text.now) (view ere.now) (span.from + 1))
         (TellsHit text.now (view ere.now) from)) }
 {
-    if ere.size() > MAX_TRIED || !settled(ere, ere.groups()) {
+    if ere.size() > MAX_TRIED || !refs_fit(ere, ere.groups()) {
         let alloc = budget.tries.memory();
         return slow_hit_from(alloc, ere, text, from, span.from, &mut budget.limit);
     }

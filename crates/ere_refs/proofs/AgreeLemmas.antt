@@ -1,21 +1,23 @@
 -- Captures that agree on what is referred to: the same way derives the same part from either, and they agree behind it.
 -- And what a derivation leaves as it was: groups that don't stand in its tree. By induction on the tree.
 -- The hard one is `alike`: each setting of a group is the same in both, and each reference reads what is the same.
-use Rattle.std.proofs.Common.{◌≡◌, ◌≢◌, ℕ, zero, suc, ◌==◌, ◌||◌, false, Some, List, refl, sym, ap, ◌∙◌, subst, inl, inr, true≢false, eq-eqb}
-use Rattle.std.proofs.lemmas.Bool.{cases_eq, ne_eqb}
+use Rattle.std.proofs.Common.{◌≡◌, ◌≢◌, ℕ, zero, suc, ◌==◌, false, Some, List, refl, sym, ap, ◌∙◌, subst, inl, inr, true≢false, eq-eqb}
+use Rattle.std.proofs.lemmas.Bool.{cases_eq}
 use Rattle.ere_tree.proofs.FreeLemmas.{no_left, no_right}
 use Rattle.std.proofs.lemmas.Option.{none-some}
 use Rattle.std.specs.FinMap.{get, insert}
 use Rattle.ere_captures.proofs.KeepLemmas.{get_set, get_other}
+use Rattle.std.specs.List.{Contains}
+use Rattle.ere_refs.specs.Lists.{TellsAll}
 use Rattle.ere_refs.specs.Refers.{Agree, Refers, OneRefers}
-use Rattle.ere_refs.specs.Settled.{sets, any_sets, reads, any_reads, read_inside}
+use Rattle.ere_refs.specs.Sets.{sets, any_sets}
 use Rattle.ere_tree.proofs.CapturesLemmas.{some_same}
 use Rattle.ere_tree.specs.Captures.{Captures}
 use Rattle.ere_tree.specs.Derivation.{Way, Ways, leaf, parts, members, chosen, inside, done, next, Derives, DerivesAll, DerivesEach, tree_at}
 use Rattle.ere_tree.specs.Tree.{Tree, Trees, empty, plain, set, line_start, line_end, cat, alt, repeat, group, back, none, then}
 
 -- a group that is set in both to the same
-insert_agrees : (P : ℕ → Type 0) (c b : Captures) (number : ℕ) (p : ℕ × ℕ) → Agree P c b
+pub insert_agrees : (P : ℕ → Type 0) (c b : Captures) (number : ℕ) (p : ℕ × ℕ) → Agree P c b
     → Agree P (insert c number p) (insert b number p)
 insert_agrees P c b number p same n passes = elim (cases_eq n number) [
   | inl own ↦
@@ -30,7 +32,7 @@ IsAlike s P t =
     (w : Way) (i j : ℕ) (c d b : Captures) → Agree P c b → Derives s t w i j c d
     → (e : Captures) × Derives s t w i j b e × Agree P d e
 
-each_alike : (s : List ℕ) (P : ℕ → Type 0) (t : Tree) → IsAlike s P t → (least : ℕ) (ws : Ways) (i j : ℕ)
+pub each_alike : (s : List ℕ) (P : ℕ → Type 0) (t : Tree) → IsAlike s P t → (least : ℕ) (ws : Ways) (i j : ℕ)
     (c d b : Captures) → Agree P c b → DerivesEach s t least ws i j c d
     → (e : Captures) × DerivesEach s t least ws i j b e × Agree P d e
 each_alike s P t f least done i j c d b same h = (b, (h.0, h.1, refl), subst (λ x. Agree P x b) (sym h.2) same)
@@ -131,59 +133,21 @@ mutual
   each_stays s t (suc least) (next k w ws) i j c d h n unset =
       each_stays s t least ws k j h.0 d h.2 n unset ∙ stays s t w i k c h.0 h.1 n unset
 
-both_stay : (s : List ℕ) (t : Tree) (w v : Way) (i j : ℕ) (c d e : Captures) → Derives s t w i j c d
+pub both_stay : (s : List ℕ) (t : Tree) (w v : Way) (i j : ℕ) (c d e : Captures) → Derives s t w i j c d
     → Derives s t v i j c e → (n : ℕ) → sets t n ≡ false → get d n ≡ get e n
 both_stay s t w v i j c d e h g n unset = stays s t w i j c d h n unset ∙ sym (stays s t v i j c e g n unset)
 
-group_sets : (s : List ℕ) (number : ℕ) (t : Tree) (w : Way) (i j : ℕ) (c d : Captures)
-    → Derives s (group number t) w i j c d → get d number ≡ Some (i, j)
-group_sets s number t (inside w) i j c d h = ap (λ x. get x number) h.2 ∙ get_set h.0 number (i, j)
-group_sets s number t w i j c d h = absurd h
-
-mutual
-  -- what a tree refers to, and doesn't stand in another
-  not_read : (u t : Tree) (n : ℕ) → reads u t ≡ false → Refers t n → sets u n ≡ false
-  not_read u (cat ts) n unread r = none_read u ts n unread r
-  not_read u (alt ts) n unread r = none_read u ts n unread r
-  not_read u (repeat t least most) n unread r = not_read u t n unread r
-  not_read u (group number t) n unread r = not_read u t n unread r
-  not_read u (back number fold) n unread r = ap (sets u) (sym r) ∙ unread
-  not_read u t n unread r = absurd r
-
-  none_read : (u : Tree) (ts : Trees) (n : ℕ) → any_reads u ts ≡ false → OneRefers ts n → sets u n ≡ false
-  none_read u (then t ts) n unread (inl r) = not_read u t n (no_left (reads u t) (any_reads u ts) unread) r
-  none_read u (then t ts) n unread (inr r) = none_read u ts n (no_right (reads u t) (any_reads u ts) unread) r
-  none_read u none n unread r = absurd r
-
--- a group of another number is one that the tree inside has
-unset_but : (number n : ℕ) (t : Tree) → n ≢ number → sets t n ≡ false → sets (group number t) n ≡ false
-unset_but number n t other unset = (λ i. ne_eqb number n (λ e. other (sym e)) i || sets t n) ∙ unset
-
--- of two derivations of one span what the trees behind refer to is the same
-pub leaves_same : (s : List ℕ) (t : Tree) (ts : Trees) (w v : Way) (i j : ℕ) (c d e : Captures)
-    → read_inside t ts ≡ false → Derives s t w i j c d → Derives s t v i j c e → Agree (OneRefers ts) d e
-leaves_same s (group number t) ts w v i j c d e unread h g n refers = elim (cases_eq n number) [
-  | inl own ↦
-      ap (get d) own ∙ group_sets s number t w i j c d h
-      ∙ sym (ap (get e) own ∙ group_sets s number t v i j c e g)
-  | inr other ↦
-      both_stay s (group number t) w v i j c d e h g n (unset_but number n t other (none_read t ts n unread refers))
-]
-leaves_same s empty ts w v i j c d e unread h g n refers =
-    both_stay s empty w v i j c d e h g n (none_read empty ts n unread refers)
-leaves_same s (plain bytes) ts w v i j c d e unread h g n refers =
-    both_stay s (plain bytes) w v i j c d e h g n (none_read (plain bytes) ts n unread refers)
-leaves_same s (set bytes) ts w v i j c d e unread h g n refers =
-    both_stay s (set bytes) w v i j c d e h g n (none_read (set bytes) ts n unread refers)
-leaves_same s line_start ts w v i j c d e unread h g n refers =
-    both_stay s line_start w v i j c d e h g n (none_read line_start ts n unread refers)
-leaves_same s line_end ts w v i j c d e unread h g n refers =
-    both_stay s line_end w v i j c d e h g n (none_read line_end ts n unread refers)
-leaves_same s (cat all) ts w v i j c d e unread h g n refers =
-    both_stay s (cat all) w v i j c d e h g n (none_read (cat all) ts n unread refers)
-leaves_same s (alt all) ts w v i j c d e unread h g n refers =
-    both_stay s (alt all) w v i j c d e h g n (none_read (alt all) ts n unread refers)
-leaves_same s (repeat t least most) ts w v i j c d e unread h g n refers =
-    both_stay s (repeat t least most) w v i j c d e h g n (none_read (repeat t least most) ts n unread refers)
-leaves_same s (back number fold) ts w v i j c d e unread h g n refers =
-    both_stay s (back number fold) w v i j c d e h g n (none_read (back number fold) ts n unread refers)
+-- a group's inside tells, and so does the group
+pub tells_group : (n : ℕ) (t : Tree) (live : List ℕ) → TellsAll t live → TellsAll (group n t) live
+tells_group n t live tells s (inside w) (inside v) i j c d e h g = λ m has.
+    ap (λ x. get x m) h.2
+    ∙ insert_agrees (Contains live) h.0 g.0 n (i, j) (tells s w v i j c h.0 g.0 h.1 g.1) m has
+    ∙ sym (ap (λ x. get x m) g.2)
+tells_group n t live tells s (inside w) leaf i j c d e h g = absurd g
+tells_group n t live tells s (inside w) (parts vs) i j c d e h g = absurd g
+tells_group n t live tells s (inside w) (members vs) i j c d e h g = absurd g
+tells_group n t live tells s (inside w) (chosen k v) i j c d e h g = absurd g
+tells_group n t live tells s leaf v i j c d e h g = absurd h
+tells_group n t live tells s (parts ws) v i j c d e h g = absurd h
+tells_group n t live tells s (members ws) v i j c d e h g = absurd h
+tells_group n t live tells s (chosen k w) v i j c d e h g = absurd h

@@ -52,3 +52,21 @@ pub at_held : (start : ℕ) (c : Captures) (number : ℕ) (caps : List (Option C
 at_held start c number caps x one some room is here =
     sym (held_at start c (length caps) number x some room)
     ∙ ap (λ (xs : List (Option Cap)). get_or xs (number - 1) x) (sym is) ∙ here
+
+-- what two lists hold alike, two captures do
+pub same_held : (start : ℕ) (c d : Captures) (number : ℕ) → cap_of start c number ≡ cap_of start d number
+    → get c number ≡ get d number
+same_held start c d number is = each (get c number) (get d number) is
+  where
+    cap : ℕ × ℕ → Cap
+    cap part = record { from = start + part.0; to = start + part.1 }
+
+    each : (x y : Option (ℕ × ℕ)) → option_map cap x ≡ option_map cap y → x ≡ y
+    each None None is = refl
+    each None (Some p) is = absurd (none-some (cap p) is)
+    each (Some p) None is = absurd (none-some (cap p) (sym is))
+    each (Some p) (Some q) is =
+        let same = some_same (cap p) (cap q) is in
+        let from : p.0 ≡ q.0 = omega (arith, ap (λ (x : Cap). x.from) same) in
+        let to : p.1 ≡ q.1 = omega (arith, ap (λ (x : Cap). x.to) same) in
+        ap Some (λ i. (from i, to i))

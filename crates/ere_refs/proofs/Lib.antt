@@ -1,5 +1,10 @@
 pub mod AgreeLemmas
+pub mod CourseLemmas
 pub mod HeldLemmas
+pub mod ListedLemmas
+pub mod LiveLemmas
+pub mod MachineLemmas
 pub mod OverLemmas
+pub mod RestLemmas
 pub mod RowLemmas
 pub mod TryingLemmas

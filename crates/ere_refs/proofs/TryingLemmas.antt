@@ -1,8 +1,9 @@
 -- A try from one place: each end that was passed by is no end of a derivation, and what is found at the first one that is,
 -- is preferred to all others. The hard one is `best_to`.
-use Rattle.std.proofs.Common.{◌≡◌, ◌↔◌, ℕ, ◌+◌, ◌-◌, ◌<◌, ◌≤◌, false, IsTrue, Option, Some, List, Vec, Global, sym, ap, ◌∙◌, subst, inl, inr, arith, true≢false}
+use Rattle.std.proofs.Common.{◌≡◌, ◌↔◌, ℕ, ◌+◌, ◌-◌, ◌<◌, ◌≤◌, false, IsTrue, Option, List, [], ◌∷◌, Vec, Global, length, map, get_or, sym, ap, ◌∙◌, subst, inl, inr, arith, true≢false}
 use Rattle.std.proofs.lemmas.Bool.{cases_lt}
 use Rattle.std.specs.FinMap.{empty}
+use Rattle.std.specs.List.{Contains}
 use Rattle.ere_captures.proofs.BestLemmas.{not_less}
 use Rattle.ere_places.specs.Seen.{is_held}
 use Rattle.ere_places.specs.declared.seen.Seen.{Seen}
@@ -13,7 +14,9 @@ use Rattle.ere_tree.specs.Preference.{within}
 use Rattle.ere_tree.specs.Shape.{greatest_group}
 use Rattle.ere_tree.specs.Tree.{Tree}
 use Rattle.ere_tree.specs.declared.hit.Cap.{Cap}
-use Rattle.ere_refs.specs.Over.{DerivesNone, GoesOver, IsBestTo}
+use Rattle.ere_refs.proofs.ListedLemmas.{head_best, none_over}
+use Rattle.ere_refs.specs.Lists.{AreOver, Listed, ListsOver, lists_of}
+use Rattle.ere_refs.specs.Over.{DerivesNone, IsBestTo}
 use Rattle.ere_refs.specs.declared.trying.Found.{Found}
 
 -- no derivation ends at a place of the last so many
@@ -37,21 +40,35 @@ pub no_end : (s : List ℕ) (t free : Tree) (i m k : ℕ) (seen : Seen) → AreB
 no_end s t free i m k seen bytes spans are unheld high v d shows =
     true≢false (sym ((are k).1 (spans s v i k d bytes shows, high)) ∙ unheld)
 
+-- of the lists behind a span, the first is that of a way to which none is preferred
 pub best_to : (s : List ℕ) (t : Tree) (start i m back count : ℕ) (old : List (Option Cap)) (held : Vec (Option Cap) Global)
-    (found : Found) → count ≡ greatest_group t → old ≡ caps_of start empty count → Passed s t i m back
-    → m ≤ found.to + back → GoesOver s t start i found.to count old (Some held) → found.groups ≡ held.items
-    → IsBestTo s t start i m found
-best_to s t start i m back count old held found all is passed next goes same =
-    let b = goes empty is in
-    record {
-      way = b.0;
-      captures = b.1;
-      shows = b.2;
+    (others : List (Vec (Option Cap) Global)) (found : Found) → count ≡ greatest_group t → old ≡ caps_of start empty count
+    → Passed s t i m back → m ≤ found.to + back → ListsOver s t start i found.to count (Contains []) old (held ∷ others)
+    → found.groups ≡ held.items → IsBestTo s t start i m found
+best_to s t start i m back count old held others found all is passed next lists same = first (lists empty is)
+  where
+    first : (listed : Listed) × AreOver s t i found.to empty (Contains []) listed
+        × (map (λ one. one.items) (held ∷ others) ≡ lists_of start count listed) → IsBestTo s t start i m found
+    first ([], over, held_is) = let long = ap length held_is in absurd (omega (arith, long))
+    first (x ∷ xs, over, held_is) = record {
+      way = x.0;
+      captures = x.1;
+      shows = over.each.0;
       preferred = λ k v d high shows less. elim (cases_lt found.to k) [
         | inl later ↦ passed k v d (omega (arith, later, next)) high shows
         | inr not_later ↦
-            not_less found.to k (within v b.0) not_later
-            (λ at. b.3 v d (subst (λ n. Derives s t v i n empty d) at shows)) less
+            not_less found.to k (within v x.0) not_later
+            (λ at. head_best s t i found.to empty (Contains []) x xs over v d (subst (λ n. Derives s t v i n empty d) at shows)) less
       ];
-      are = same ∙ b.4 ∙ ap (caps_of start b.1) all;
+      are = same ∙ ap (λ zs. get_or zs 0 []) held_is ∙ ap (caps_of start x.1) all;
     }
+
+-- where there is no list, nothing derives the span
+pub none_from : (s : List ℕ) (t : Tree) (start i j count : ℕ) (old : List (Option Cap)) (c : Captures)
+    → old ≡ caps_of start c count → ListsOver s t start i j count (Contains []) old [] → DerivesNone s t i j c
+none_from s t start i j count old c is lists = none (lists c is)
+  where
+    none : (listed : Listed) × AreOver s t i j c (Contains []) listed
+        × (map (λ (one : Vec (Option Cap) Global). one.items) [] ≡ lists_of start count listed) → DerivesNone s t i j c
+    none ([], over, held_is) = none_over s t i j c (Contains []) over
+    none (x ∷ xs, over, held_is) = let long = ap length held_is in absurd (omega (arith, long))

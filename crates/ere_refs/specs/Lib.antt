@@ -1,3 +1,7 @@
+pub mod Course
+pub mod Lists
+pub mod Live
+pub mod Machine
 pub mod Over
 pub mod Refers
-pub mod Settled
+pub mod Sets

@@ -1,16 +1,15 @@
 -- What groups hold behind a part, and what an expression matches from one place.
 -- Own rule: POSIX.1 XBD 9.4 fixes the span, and preference among the derivations of that span, from what groups hold
 -- before, tells what they hold behind it.
-use Rattle.std.specs.Prelude.{◌≡◌, ◌↔◌, ℕ, ◌≤◌, ◌==◌, Bool, true, false, length, IsTrue, MatchOption, Option, Some, None, List, Vec}
-use Rattle.std.specs.declared.alloc.Global.{Global}
+use Rattle.std.specs.Prelude.{◌≡◌, ◌↔◌, ℕ, ◌≤◌, ◌==◌, Bool, true, false, length, IsTrue, Option, Some, None, List}
 use Rattle.std.specs.FinMap.{empty, get}
 use Rattle.std.specs.declared.cmp.Ordering.TheVariants.{Less}
 use Rattle.ere_places.specs.Seen.{is_held}
 use Rattle.ere_tree.specs.Captures.{Captures, caps_of}
-use Rattle.ere_tree.specs.Derivation.{Way, Ways, Derives, DerivesAll, IsSameText, Spans, part}
-use Rattle.ere_tree.specs.Preference.{IsPreferred, within, in_order}
+use Rattle.ere_tree.specs.Derivation.{Way, Derives, IsSameText, Spans, part}
+use Rattle.ere_tree.specs.Preference.{IsPreferred, within}
 use Rattle.ere_tree.specs.Shape.{greatest_group, has_refs}
-use Rattle.ere_tree.specs.Tree.{Tree, Trees}
+use Rattle.ere_tree.specs.Tree.{Tree}
 use Rattle.ere_tree.specs.declared.hit.Cap.{Cap}
 use Rattle.ere_refs.specs.declared.ends.Ends.{Ends}
 use Rattle.ere_refs.specs.declared.ends.Ends.TheVariants.{Any, Held, Only}
@@ -24,31 +23,6 @@ IsBestFrom s t w i j c = (v : Way) (d : Captures) → Derives s t v i j c d → 
 abbrev pub DerivesNone : List ℕ → Tree → ℕ → ℕ → Captures → Type 0
 DerivesNone s t i j c = (v : Way) (d : Captures) → Derives s t v i j c d → ⊥
 
--- the same of trees one behind the other
-abbrev pub AreBestFrom : List ℕ → Trees → Ways → ℕ → ℕ → Captures → Type 0
-AreBestFrom s ts ws i j c = (vs : Ways) (d : Captures) → DerivesAll s ts vs i j c d → in_order vs ws ≡ Less → ⊥
-
-abbrev pub DeriveNone : List ℕ → Trees → ℕ → ℕ → Captures → Type 0
-DeriveNone s ts i j c = (vs : Ways) (d : Captures) → DerivesAll s ts vs i j c d → ⊥
-
--- a list of what groups hold, or None
-abbrev pub Holding : Type 0
-Holding = Option (Vec (Option Cap) Global)
-
--- From captures that a list holds: the list of those behind a best way over [i, j), or None where nothing derives there.
-abbrev pub GoesOver : List ℕ → Tree → ℕ → ℕ → ℕ → ℕ → List (Option Cap) → Holding → Type 0
-GoesOver s t start i j count old found =
-    (c : Captures) → old ≡ caps_of start c count
-    → MatchOption found (DerivesNone s t i j c) (λ new. (w : Way) × (d : Captures) × Derives s t w i j c d
-    × IsBestFrom s t w i j c × (new.items ≡ caps_of start d count))
-
--- The same of trees one behind the other.
-abbrev pub GoOver : List ℕ → Trees → ℕ → ℕ → ℕ → ℕ → List (Option Cap) → Holding → Type 0
-GoOver s ts start i j count old found =
-    (c : Captures) → old ≡ caps_of start c count
-    → MatchOption found (DeriveNone s ts i j c) (λ new. (ws : Ways) × (d : Captures) × DerivesAll s ts ws i j c d
-    × AreBestFrom s ts ws i j c × (new.items ≡ caps_of start d count))
-
 -- whether [i, j) is what the group of this number holds, by a list of what groups hold
 abbrev pub RefersTo : List ℕ → ℕ → ℕ → ℕ → ℕ → Bool → List (Option Cap) → Bool → Type 0
 RefersTo s start i j number fold caps answer =
@@ -60,6 +34,12 @@ abbrev pub may_be : Ends → ℕ → Bool
 may_be (Held seen last) end = is_held seen end
 may_be (Only only) end = only == end
 may_be Any end = true
+
+-- whether these are all the ends, and ends alone
+abbrev pub is_known : Ends → Bool
+is_known (Held seen last) = true
+is_known (Only only) = false
+is_known Any = false
 
 -- the tree's ends from i, up to j, are among these
 abbrev pub AreEnds : List ℕ → Tree → ℕ → ℕ → ℕ → ℕ → List (Option Cap) → Ends → Type 0

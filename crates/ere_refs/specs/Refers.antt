@@ -1,9 +1,9 @@
 -- What references of an expression name.
 -- Own rule: captures that agree on that are as good as equal for what the expression derives.
-use Rattle.std.specs.Prelude.{◌≡◌, ℕ, ◌⊎◌}
+use Rattle.std.specs.Prelude.{◌≡◌, ℕ, ◌⊎◌, Bool, true, ◌&&◌, nat_le, nat_lt}
 use Rattle.std.specs.FinMap.{get}
 use Rattle.ere_tree.specs.Captures.{Captures}
-use Rattle.ere_tree.specs.Tree.{Tree, Trees, cat, alt, repeat, group, back, none, then}
+use Rattle.ere_tree.specs.Tree.{Tree, Trees, empty, plain, set, line_start, line_end, cat, alt, repeat, group, back, none, then}
 
 abbrev mutual
   -- a reference to this number stands in the tree
@@ -23,3 +23,22 @@ abbrev mutual
 -- the groups that pass hold the same in both
 abbrev pub Agree : (ℕ → Type 0) → Captures → Captures → Type 0
 Agree P c b = (n : ℕ) → P n → get c n ≡ get b n
+
+abbrev mutual
+  -- whether each reference is to one of so many groups
+  pub refs_fit : ℕ → Tree → Bool
+  refs_fit count empty = true
+  refs_fit count (plain bytes) = true
+  refs_fit count (set bytes) = true
+  refs_fit count line_start = true
+  refs_fit count line_end = true
+  refs_fit count (cat ts) = all_refs_fit count ts
+  refs_fit count (alt ts) = all_refs_fit count ts
+  refs_fit count (repeat t least most) = refs_fit count t
+  refs_fit count (group number t) = refs_fit count t
+  refs_fit count (back number fold) = nat_lt 0 number && nat_le number count
+
+  -- of all of these trees
+  pub all_refs_fit : ℕ → Trees → Bool
+  all_refs_fit count none = true
+  all_refs_fit count (then t ts) = refs_fit count t && all_refs_fit count ts

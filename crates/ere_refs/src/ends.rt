@@ -2,8 +2,8 @@
 ghost use Rattle.std.specs.List.{Contains};
 ghost use Rattle.std.specs.Prelude.{◌≡◌, ◌↔◌, ℕ, ◌+◌, ◌<◌, ◌≤◌, ◌^◌, true, false, IsTrue, length, IfOk};
 ghost use Rattle.ere_places.specs.Seen.{is_held};
-ghost use Rattle.ere_refs.specs.Over.{AreEnds, IsLast, may_be};
-ghost use Rattle.ere_refs.specs.Settled.{settled};
+ghost use Rattle.ere_refs.specs.Over.{AreEnds, IsLast, is_known, may_be};
+ghost use Rattle.ere_refs.specs.Refers.{refs_fit};
 ghost use Rattle.ere_tree.specs.Derivation.{Spans};
 ghost use Rattle.ere_tree.specs.Shape.{has_refs};
 ghost use Rattle.ere_tree.specs.View.{view};
@@ -33,6 +33,16 @@ impl Ends {
             Ends::Held(seen, _) => seen.has(end),
             Ends::Only(only) => *only == end,
             Ends::Any => true,
+        }
+    }
+
+    /// Whether these are exactly the ends.
+    pub(crate) fn is_known(&self) -> bool
+        ensures { result ≡ is_known self.now }
+    {
+        match self {
+            Ends::Held(_, _) => true,
+            Ends::Only(_) | Ends::Any => false,
         }
     }
 
@@ -114,7 +124,7 @@ pub(crate) fn ends_of(
     part: Part,
     caps: &[Option<Cap>],
 ) -> Result<Ends, AllocError>
-    requires settled { settled (length caps.now) (view ere.now) ≡ true }
+    requires refs { refs_fit (length caps.now) (view ere.now) ≡ true }
     requires order { part.from ≤ part.to }
     requires within { part.to ≤ length text.now }
     requires fits { part.start + length text.now < 2 ^ 64 }

@@ -1,14 +1,18 @@
-//! How often something may be tried.
+//! How often something may be tried, and how much may be kept.
 use std::alloc::{AllocError, Global};
 
 /// How many ends of parts one search may look at. One that wants more is given up as for want of memory.
-pub const MAX_TRIES: usize = 2_000_000;
+pub const MAX_TRIES: usize = 10_000_000;
 
-/// How many ends a search may still look at.
+/// How many states one search may keep at a time. One that wants more is given up as for want of memory.
+pub const MAX_KEPT: usize = 800_000;
+
+/// How many ends a search may still look at, and how many states it may still keep.
 #[derive(Drop, Debug)]
 pub struct Tries {
     pub(crate) alloc: Global,
     left: usize,
+    free: usize,
 }
 
 impl Tries {
@@ -17,6 +21,7 @@ impl Tries {
         Tries {
             alloc,
             left: MAX_TRIES,
+            free: MAX_KEPT,
         }
     }
 
@@ -32,5 +37,19 @@ impl Tries {
         }
         self.left -= count;
         Ok(())
+    }
+
+    /// One more state is kept.
+    pub(crate) fn keep(&mut self) -> Result<(), AllocError> {
+        if self.free == 0 {
+            return Err(AllocError);
+        }
+        self.free -= 1;
+        Ok(())
+    }
+
+    /// So many states are kept no longer.
+    pub(crate) fn release(&mut self, count: usize) {
+        self.free = self.free.saturating_add(count);
     }
 }

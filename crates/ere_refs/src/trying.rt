@@ -1,14 +1,15 @@
 //! What an expression matches from one place.
 ghost use Rattle.std.specs.Prelude.{◌≡◌, ◌+◌, ◌<◌, ◌≤◌, ◌^◌, true, false, length, IfOk};
+ghost use Rattle.ere_refs.specs.Lists.{IsFirst};
 ghost use Rattle.ere_refs.specs.Over.{TellsBest};
-ghost use Rattle.ere_refs.specs.Settled.{settled};
+ghost use Rattle.ere_refs.specs.Refers.{refs_fit};
 ghost use Rattle.ere_relaxed.specs.Relaxed.{SpansAll};
 ghost use Rattle.ere_tree.specs.Shape.{greatest_group, has_refs};
 ghost use Rattle.ere_tree.specs.View.{view};
 
 use crate::ends::ends_between;
 use crate::held::{Part, none_held};
-use crate::over::over;
+use crate::lists::over;
 use crate::tries::Tries;
 use ere_tree::{Cap, Caps, Ere};
 use std::alloc::AllocError;
@@ -18,6 +19,16 @@ use std::alloc::AllocError;
 pub struct Found {
     pub to: usize,
     pub groups: Caps,
+}
+
+/// The first of some lists.
+fn first_of(lists: Vec<Vec<Option<Cap>>>) -> Option<Vec<Option<Cap>>>
+    ensures { IsFirst lists.items result }
+{
+    for held in lists {
+        return Some(held);
+    }
+    None
 }
 
 /// The preferred match that begins where the span does, and ends where it does at the latest. `free` is an expression without
@@ -30,7 +41,7 @@ pub fn try_from(
     span: Cap,
     tries: &mut Tries,
 ) -> Result<Option<Found>, AllocError>
-    requires settled { settled (greatest_group (view ere.now)) (view ere.now) ≡ true }
+    requires refs { refs_fit (greatest_group (view ere.now)) (view ere.now) ≡ true }
     requires no_refs { has_refs (view free.now) ≡ false }
     requires spans { SpansAll (view ere.now) (view free.now) }
     requires order { span.from ≤ span.to }
@@ -49,7 +60,8 @@ pub fn try_from(
                 from: span.from,
                 to,
             };
-            if let Some(held) = over(ere, slice, part, none.as_slice(), tries)? {
+            let lists = over(ere, false, slice, part, none.as_slice(), &[], tries)?;
+            if let Some(held) = first_of(lists) {
                 return Ok(Some(Found {
                     to,
                     groups: Caps::from_vec(held),

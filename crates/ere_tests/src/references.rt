@@ -38,13 +38,12 @@ fn a_span_tells_what_is_referred_to(rt: HostRuntime) -> Result<(), AllocError> {
     Ok(())
 }
 
-/// An expression, how many `a` stand before a `b`, and the hit, or that its ways are too many to be listed.
-const LISTED: &str = r"((a*))\2b => 2800 => 0-2801 0-1400 0-1400
-((a*))\2b => 2810 => no memory
-(a*)*\1b => 15 => 0-16 13-14
-(a*)*\1b => 16 => no memory
-(a*)*\1b => 2000 => no memory
-((a*))*\2b => 100 => no memory";
+/// An expression, how many `a` stand before a `b`, and the hit.
+const AMONG: &str = r"((a*))\2b => 3162 => 0-3163 0-1581 0-1581
+(a*)(\1)b => 200 => 0-201 0-100 100-200
+(a*)*\1b => 16 => 0-17 14-15
+(a*)*\1b => 200 => 0-201 198-199
+((a*))*\2b => 100 => 0-101 98-99 98-99";
 
 /// Whether that is found in words of the row.
 fn is_told_among(alloc: Global, row: &str) -> Result<bool, AllocError> {
@@ -71,18 +70,18 @@ fn told_among(alloc: Global, pattern: &str, count: usize) -> Result<String, Allo
 }
 
 #[test]
-fn tries_end_at_their_limit(rt: HostRuntime) -> Result<(), AllocError> {
-    let below = told_among(rt.alloc(), r"(a*)(\1)b", 2_000)?;
-    assert!(rt; below.as_str() == "0-2001 0-1000 1000-2000", "{below}");
-    let above = told_among(rt.alloc(), r"(a*)(\1)b", 4_000)?;
-    assert!(rt; above.as_str() == "no memory", "{above}");
+fn ways_that_agree_are_one(rt: HostRuntime) -> Result<(), AllocError> {
+    for row in AMONG.lines() {
+        assert!(rt; is_told_among(rt.alloc(), row)?, "{row}");
+    }
     Ok(())
 }
 
 #[test]
-fn listings_end_at_their_limit(rt: HostRuntime) -> Result<(), AllocError> {
-    for row in LISTED.lines() {
-        assert!(rt; is_told_among(rt.alloc(), row)?, "{row}");
-    }
+fn tries_end_at_their_limit(rt: HostRuntime) -> Result<(), AllocError> {
+    let below = told_among(rt.alloc(), r"(a*)*\1b", 2_000)?;
+    assert!(rt; below.as_str() == "0-2001 1998-1999", "{below}");
+    let above = told_among(rt.alloc(), r"(a*)*\1b", 3_200)?;
+    assert!(rt; above.as_str() == "no memory", "{above}");
     Ok(())
 }
