@@ -1,7 +1,9 @@
 -- The answer of filecheck is a function of its words, of what reading the check file gave, and of what reading the input gave; and
 -- where the streams have room it is what is written. Own rule.
-use Rattle.std.specs.Prelude.{◌≡◌, ◌≤◌, ℕ, List, length, Option, Result, Ok, Err}
-use Rattle.tt_run.specs.Run.{Files, Source, Stream, Taken, Written, files, source}
+use Rattle.std.specs.Prelude.{◌≡◌, ◌≤◌, ℕ, List, length, Result, Ok, Err}
+use Rattle.tt_outside.specs.declared.files.Files.{Ghosts as OfFiles}
+use Rattle.tt_outside.specs.declared.source.Source.{Ghosts as OfSource}
+use Rattle.tt_run.specs.Run.{Files, Source, Stream, Taken, Written, files_of, source_of}
 use Rattle.tt_run.specs.declared.answer.Answer.{Answer}
 use Rattle.tt_run.specs.declared.reading.Reading.{Reading}
 use Rattle.filecheck_words.specs.declared.fault.WordsFault.{WordsFault}
@@ -42,13 +44,11 @@ AnswersSo files later input limit most job program outcome =
     → (file : Reading) × (read : Reading) × IsAnswer job file read (answer_to outcome)
 
 -- Law: it is so over any files and any input, by what is seen of them.
-abbrev pub RunsAnswerSo : {F I : Type 0} → (F → Option (List ℕ → Option (List ℕ))) → (F → Type 0) → (F → ℕ)
-    → (I → Option (List ℕ)) → (I → Type 0) → (I → ℕ) → Type 0
-RunsAnswerSo {F} {I} held steady faults left flows failures =
+abbrev pub RunsAnswerSo : {F I : Type 0} → OfFiles F → OfSource I → Type 0
+RunsAnswerSo {F} {I} of given =
     (first middle last : F) (input rest : I) (limit most : ℕ) (job : Result Job WordsFault) (program : Result Program Stop)
     (outcome : Result Report Stop)
-    → AnswersSo (files held steady faults first middle) (files held steady faults middle last)
-    (source left flows failures input rest) limit most job program outcome
+    → AnswersSo (files_of of first middle) (files_of of middle last) (source_of given input rest) limit most job program outcome
 
 -- Law: where both streams have room for an answer, it is written whole, and its status is the run's.
 abbrev pub RoomLeavesOne : Type 0

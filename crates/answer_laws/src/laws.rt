@@ -12,5 +12,5 @@ pub fn law_of_answers()
 
 /// What a run tells is that answer, over any files and any input.
 pub fn law_of_runs<F: Files, I: Source>()
-    ensures { RunsAnswerSo F.held F.steady F.faults I.left I.steady I.faults }
+    ensures { RunsAnswerSo F.Files I.Source }
 {}

@@ -5,33 +5,24 @@
 mod pages;
 
 use crate::pages::{HELP, VERSION};
-use not_count::count_run;
+use not_count::{COUNT, count_run};
 use std::process::ExitCode;
-use tt_main::{Page, no_words, page_of, show_page, words};
+use tt_main::{Pages, words_or_page};
 use tt_real::{StdErr, StdOut, StdSource};
 
+/// What it tells of itself.
+const PAGES: Pages = Pages {
+    help: HELP,
+    version: VERSION,
+};
+
 fn main(rt: HostRuntime) -> ExitCode {
+    let mut out = StdOut::new(rt.stdout());
     let mut err = StdErr::new(rt.stderr());
-    let words = match words(&rt) {
+    let words = match words_or_page(&rt, COUNT, PAGES, &mut out, &mut err) {
         Ok(words) => words,
-        Err(error) => {
-            return ExitCode::from(no_words(
-                &error,
-                b"count: error: a word isn't text\n",
-                b"count: error: out of memory\n",
-                &mut err,
-            ));
-        }
+        Err(status) => return ExitCode::from(status),
     };
-    if let Some(page) = page_of(words.as_slice()) {
-        let text = match page {
-            Page::Help => HELP,
-            Page::Version => VERSION,
-        };
-        let mut out = StdOut::new(rt.stdout());
-        let fault = b"count: error: cannot write\n";
-        return ExitCode::from(show_page(text.as_bytes(), fault, &mut out, &mut err));
-    }
     let mut input = StdSource::new(rt.stdin());
     ExitCode::from(count_run(words.as_slice(), &mut input, &mut err))
 }

@@ -11,10 +11,7 @@ use Rattle.filecheck_messages.specs.declared.finding.Remark.{Remark}
 use Rattle.filecheck_messages.specs.declared.finding.Remark.TheVariants.{ScanningFrom, MatchWasHere, PreviousEnded, FoundHere}
 use Rattle.filecheck_messages.specs.declared.report.Made.{Made}
 use Rattle.filecheck_messages.specs.declared.spot.Spot.{Spot}
-
--- the end of a line
-abbrev pub newline : List ℕ
-newline = 10 ∷ []
+use Rattle.tt_run.specs.Frame.{error_text, newline}
 
 -- a message at a spot: what is told, the text of the line, and `^` below the column
 abbrev pub placed : Spot → List ℕ → List ℕ
@@ -24,7 +21,7 @@ placed spot what =
 
 -- a message that is told of no place
 abbrev pub unplaced : List ℕ → List ℕ
-unplaced text = codes "filecheck: error: " ++ text ++ newline
+unplaced text = error_text (codes "filecheck") text
 
 -- ---- what is found amiss
 
@@ -92,10 +89,3 @@ abbrev pub made_text : Made → List ℕ
 made_text made =
     codes "generated: checks " ++ decimal made.checks ++ codes ", input bytes " ++ decimal made.bytes
     ++ codes ", faults " ++ decimal made.faults ++ newline
-
--- the two that tell a fault of the run itself
-abbrev pub cannot_write : List ℕ
-cannot_write = unplaced (codes "cannot write")
-
-abbrev pub out_of_memory : List ℕ
-out_of_memory = unplaced (codes "out of memory")

@@ -1,14 +1,15 @@
 -- What a run of filecheck does to the objects that it is given.
 -- Own rule: the check file is read where the words are accepted, and the input where the check file was accepted; with
 -- --generate both are made, and nothing is read.
-use Rattle.std.specs.Prelude.{◌≡◌, ℕ, ◌^◌, List, Option, Some, None, Result, Ok, Err}
+use Rattle.std.specs.Prelude.{◌≡◌, ℕ, ◌^◌, List, codes, Option, Some, None, Result, Ok, Err}
+use Rattle.filecheck_words.specs.Job.{asked_by}
 use Rattle.filecheck_words.specs.declared.checking.Input.{Input}
 use Rattle.filecheck_words.specs.declared.checking.Input.TheVariants.{Standard, Named}
 use Rattle.filecheck_words.specs.declared.fault.WordsFault.{WordsFault}
 use Rattle.filecheck_words.specs.declared.job.Job.{Job}
 use Rattle.generator.specs.Generated.{checks_text, input_text}
-use Rattle.tt_outside.specs.Faults.{Rose}
-use Rattle.tt_run.specs.Run.{Files, FileRead, FilesRest, Source, SourceRead, SourceRests, StaysSteady, files}
+use Rattle.tt_outside.specs.declared.files.Files.{Ghosts as OfFiles}
+use Rattle.tt_run.specs.Run.{Answers, Files, FileRead, FilesRest, Source, SourceRead, SourceRests, StaysSteady, Stream, files_of}
 use Rattle.tt_run.specs.declared.answer.Answer.{Answer}
 use Rattle.tt_run.specs.declared.reading.Reading.{Reading}
 use Rattle.tt_run.specs.declared.reading.Reading.TheVariants.{Whole}
@@ -24,8 +25,8 @@ use Rattle.filecheck_messages.specs.declared.report.Report.{Report}
 use Rattle.filecheck_tool.specs.declared.start.Start.{Start}
 
 -- files behind a run hold what they held, and are steady where they were
-abbrev pub IsKept : {F : Type 0} → (F → Option (List ℕ → Option (List ℕ))) → (F → Type 0) → F → F → Type 0
-IsKept held steady old new = (held new ≡ held old) × StaysSteady steady old new
+abbrev pub IsKept : {F : Type 0} → OfFiles F → F → F → Type 0
+IsKept of old new = (of.held new ≡ of.held old) × StaysSteady of.steady old new
 
 -- nobody touched the files and the input
 abbrev pub AreUnread : {F I : Type 0} → F → F → I → I → Type 0
@@ -60,19 +61,18 @@ OutcomeFrom files input limit (Ok program) outcome =
 OutcomeFrom files input limit (Err stop) outcome = FilesRest files × SourceRests input × (outcome ≡ Err stop)
 
 -- from words to what is told: the check file is read within its limit, and then the input within its own
-abbrev pub OutcomeOf : {F : Type 0} → (F → Option (List ℕ → Option (List ℕ))) → (F → Type 0) → (F → ℕ) → F → F → Source
-    → Result Job WordsFault → Result Report Stop → Type 0
-OutcomeOf {F} held steady faults old new input job outcome =
+abbrev pub OutcomeOf : {F : Type 0} → OfFiles F → F → F → Source → Result Job WordsFault → Result Report Stop → Type 0
+OutcomeOf {F} of old new input job outcome =
     (middle : F) × (program : Result Program Stop)
-    × ProgramFrom (files held steady faults old middle) (2 ^ 24) job program × IsKept held steady old middle
-    × OutcomeFrom (files held steady faults middle new) input (2 ^ 26) program outcome
+    × ProgramFrom (files_of of old middle) (2 ^ 24) job program × IsKept of old middle
+    × OutcomeFrom (files_of of middle new) input (2 ^ 26) program outcome
 
 -- and the answer to it
-abbrev pub AnswerOf : {F : Type 0} → (F → Option (List ℕ → Option (List ℕ))) → (F → Type 0) → (F → ℕ) → F → F → Source
-    → Result Job WordsFault → Answer → Type 0
-AnswerOf held steady faults old new input job answer =
-    (outcome : Result Report Stop) × OutcomeOf held steady faults old new input job outcome × (answer ≡ answer_to outcome)
+abbrev pub AnswerOf : {F : Type 0} → OfFiles F → F → F → Source → Result Job WordsFault → Answer → Type 0
+AnswerOf of old new input job answer =
+    (outcome : Result Report Stop) × OutcomeOf of old new input job outcome × (answer ≡ answer_to outcome)
 
--- an object counted a fault from one moment to another
-abbrev pub Failed : {S : Type 0} → (S → ℕ) → S → S → Type 0
-Failed faults old new = Rose (faults old) (faults new)
+-- that answer is told, and gives the status; but for want of memory
+abbrev pub Checks : {F : Type 0} → List (List ℕ) → OfFiles F → F → F → Source → ℕ → Stream → Stream → Type 0
+Checks words of old new input result out err =
+    Answers (codes "filecheck") (AnswerOf of old new input (asked_by words)) result out err

@@ -11,5 +11,5 @@ mod verdict;
 pub use check_file::CheckFile;
 pub use filecheck_messages::{Finding, Made, Note, Refusal, Remark, Report, Spot, Stop};
 pub use program::Program;
-pub use run::{CHECK_LIMIT, INPUT_LIMIT, filecheck_run};
+pub use run::{CHECK_LIMIT, FILECHECK, INPUT_LIMIT, filecheck_run};
 pub use start::Start;

@@ -1,15 +1,13 @@
 //! The top call.
-ghost use Rattle.std.specs.Prelude.{◌≡◌, ◌⊎◌, ◌≤◌, ◌<◌, ◌≢◌, ◌+◌, ◌^◌, true, IfOk, IsErr, List, Result};
+ghost use Rattle.std.specs.Prelude.{◌≡◌, ◌⊎◌, ◌≤◌, ◌<◌, ◌≢◌, ◌+◌, ◌^◌, true, IfOk, IsErr, List, Result, codes};
 ghost use Rattle.tt_outside.specs.Transfer.{TakesAtMost};
-ghost use Rattle.tt_run.specs.Run.{Told, Written, files, source, stream};
+ghost use Rattle.tt_run.specs.Run.{Failed, LacksMemory, files_of, source_of, stream_of};
 ghost use Rattle.std.specs.Str.{is_utf8};
 ghost use Rattle.opt_words.specs.Step.{texts};
 ghost use Rattle.tt_run.specs.Run.{FileRead, IsShort};
-ghost use Rattle.filecheck_messages.specs.Message.{cannot_write, out_of_memory};
 ghost use Rattle.filecheck_tool.specs.Program.{IsSound, IsSoundFile};
-ghost use Rattle.filecheck_tool.specs.Run.{AnswerOf, AreUnread, ChecksRead, Failed, InputRead, IsKept, OutcomeFrom, OutcomeOf, ProgramFrom};
+ghost use Rattle.filecheck_tool.specs.Run.{AnswerOf, AreUnread, Checks, ChecksRead, InputRead, IsKept, OutcomeFrom, OutcomeOf, ProgramFrom};
 ghost use Rattle.filecheck_tool.specs.Start.{IsStart};
-ghost use Rattle.tt_run.specs.declared.answer.Answer.{Answer};
 ghost use Rattle.filecheck_words.specs.Job.{IsSound as IsSoundJob, asked_by};
 
 use crate::check_file::CheckFile;
@@ -24,7 +22,10 @@ use std::mem::drop;
 use std::str::from_utf8;
 use tt_base::NoMemory;
 use tt_outside::{Files, Sink, Source};
-use tt_run::{Answer, Reading, read_named, read_source, tell, write_answer};
+use tt_run::{Answer, Frame, Reading, read_named, read_source};
+
+/// The name of FileCheck.
+pub const FILECHECK: Frame = Frame { name: b"filecheck" };
 
 /// The greatest length of a check file, in bytes.
 pub const CHECK_LIMIT: u64 = 16_777_216;
@@ -43,25 +44,22 @@ pub fn filecheck_run<F: Files, I: Source, O: Sink, E: Sink>(
     out: &mut O,
     err: &mut E,
 ) -> u8
-    ensures answer { result ≢ 4 → (answer : Answer)
-        × AnswerOf F.held F.steady F.faults from.old from.new (source I.left I.steady I.faults input.old input.new)
-        (asked_by (texts words.now)) answer × Written cannot_write answer result
-        (stream O.held O.faults O.room out.old out.new) (stream E.held E.faults E.room err.old err.new) }
+    ensures answer { Checks (texts words.now) F.Files from.old from.new (source_of I.Source input.old input.new)
+        result (stream_of O.Sink out.old out.new) (stream_of E.Sink err.old err.new) }
     ensures fault { result ≡ 3 → Failed F.faults from.old from.new ⊎ Failed I.faults input.old input.new
         ⊎ Failed O.faults out.old out.new ⊎ Failed E.faults err.old err.new }
     ensures calm { F.steady from.old → I.steady input.old → result ≡ 3 →
         Failed O.faults out.old out.new ⊎ Failed E.faults err.old err.new }
     ensures unread { IsErr (asked_by (texts words.now)) → AreUnread from.old from.new input.old input.new }
-    ensures memory { result ≡ 4 → (O.held out.new ≡ O.held out.old)
-        × Told out_of_memory (stream E.held E.faults E.room err.old err.new) }
+    ensures memory { LacksMemory (codes "filecheck") result (stream_of O.Sink out.old out.new) (stream_of E.Sink err.old err.new) }
     ensures taken { TakesAtMost (I.left input.old) (I.left input.new) (2 ^ 26 + 1) }
-    ensures files_stay { IsKept F.held F.steady from.old from.new }
+    ensures files_stay { IsKept F.Files from.old from.new }
     ensures no_other { result ≤ 4 }
 {
     let Ok(answer) = answer_from(alloc, words, from, input) else {
-        return tell_memory(err);
+        return FILECHECK.out_of_memory(err);
     };
-    write_answer(b"filecheck: error: cannot write\n", &answer, out, err)
+    answer.write(FILECHECK, out, err)
 }
 
 /// What is told of words, check file and input.
@@ -71,15 +69,15 @@ fn answer_from<F: Files, I: Source>(
     from: &mut F,
     input: &mut I,
 ) -> Result<Answer, NoMemory>
-    ensures answer { IfOk result (AnswerOf F.held F.steady F.faults from.old from.new
-        (source I.left I.steady I.faults input.old input.new) (asked_by (texts words.now))) }
+    ensures answer { IfOk result (AnswerOf F.Files from.old from.new
+        (source_of I.Source input.old input.new) (asked_by (texts words.now))) }
     ensures fault { IfOk result (λ answer. answer.status ≡ 3 →
         Failed F.faults from.old from.new ⊎ Failed I.faults input.old input.new) }
     ensures calm { IfOk result (λ answer. F.steady from.old → I.steady input.old → answer.status ≢ 3) }
     ensures unread { IsErr (asked_by (texts words.now)) → AreUnread from.old from.new input.old input.new }
     ensures small { IfOk result (λ answer. answer.status ≤ 3) }
     ensures taken { TakesAtMost (I.left input.old) (I.left input.new) (2 ^ 26 + 1) }
-    ensures files_stay { IsKept F.held F.steady from.old from.new }
+    ensures files_stay { IsKept F.Files from.old from.new }
 {
     let outcome = outcome_of(alloc, words, from, input)?;
     let told = answer_to(alloc, &outcome);
@@ -96,11 +94,11 @@ fn outcome_of<F: Files, I: Source>(
     from: &mut F,
     input: &mut I,
 ) -> Result<Result<Report, Stop>, NoMemory>
-    ensures value { IfOk result (OutcomeOf F.held F.steady F.faults from.old from.new
-        (source I.left I.steady I.faults input.old input.new) (asked_by (texts words.now))) }
+    ensures value { IfOk result (OutcomeOf F.Files from.old from.new
+        (source_of I.Source input.old input.new) (asked_by (texts words.now))) }
     ensures unread { IsErr (asked_by (texts words.now)) → AreUnread from.old from.new input.old input.new }
     ensures taken { TakesAtMost (I.left input.old) (I.left input.new) (2 ^ 26 + 1) }
-    ensures files_stay { IsKept F.held F.steady from.old from.new }
+    ensures files_stay { IsKept F.Files from.old from.new }
 {
     let program = program_from(alloc, words, from)?;
     let outcome = outcome_from(alloc, program, from, input)?;
@@ -113,11 +111,11 @@ fn program_from<F: Files>(
     words: &[String],
     from: &mut F,
 ) -> Result<Result<Program, Stop>, NoMemory>
-    ensures value { IfOk result (ProgramFrom (files F.held F.steady F.faults from.old from.new) (2 ^ 24)
+    ensures value { IfOk result (ProgramFrom (files_of F.Files from.old from.new) (2 ^ 24)
         (asked_by (texts words.now))) }
     ensures sound { IfOk result (λ program. IfOk program IsSound) }
     ensures unread { IsErr (asked_by (texts words.now)) → from.new ≡ from.old }
-    ensures files_stay { IsKept F.held F.steady from.old from.new }
+    ensures files_stay { IsKept F.Files from.old from.new }
 {
     let job = match asked_by(alloc, words) {
         Ok(job) => job,
@@ -134,9 +132,9 @@ fn program_by<F: Files>(
     from: &mut F,
 ) -> Result<Result<Program, Stop>, NoMemory>
     requires { IsSoundJob job }
-    ensures value { IfOk result (ProgramFrom (files F.held F.steady F.faults from.old from.new) (2 ^ 24) (Ok job)) }
+    ensures value { IfOk result (ProgramFrom (files_of F.Files from.old from.new) (2 ^ 24) (Ok job)) }
     ensures sound { IfOk result (λ program. IfOk program IsSound) }
-    ensures files_stay { IsKept F.held F.steady from.old from.new }
+    ensures files_stay { IsKept F.Files from.old from.new }
 {
     let start = start_of(alloc, job)?;
     let Ok(file) = read_checks(alloc, &start, from) else {
@@ -154,11 +152,11 @@ fn outcome_from<F: Files, I: Source>(
     input: &mut I,
 ) -> Result<Result<Report, Stop>, NoMemory>
     requires { IfOk program IsSound }
-    ensures value { IfOk result (OutcomeFrom (files F.held F.steady F.faults from.old from.new)
-        (source I.left I.steady I.faults input.old input.new) (2 ^ 26) program) }
+    ensures value { IfOk result (OutcomeFrom (files_of F.Files from.old from.new)
+        (source_of I.Source input.old input.new) (2 ^ 26) program) }
     ensures unread { IsErr program → AreUnread from.old from.new input.old input.new }
     ensures taken { TakesAtMost (I.left input.old) (I.left input.new) (2 ^ 26 + 1) }
-    ensures files_stay { IsKept F.held F.steady from.old from.new }
+    ensures files_stay { IsKept F.Files from.old from.new }
 {
     match program {
         Ok(program) => {
@@ -175,9 +173,9 @@ fn outcome_from<F: Files, I: Source>(
 /// What reading the check file gave, or the one that is made.
 fn read_checks<F: Files>(alloc: Global, start: &Start, from: &mut F) -> Result<Reading, NoMemory>
     requires { IsStart start.now }
-    ensures read { IfOk result (ChecksRead (files F.held F.steady F.faults from.old from.new) (2 ^ 24) start.now) }
+    ensures read { IfOk result (ChecksRead (files_of F.Files from.old from.new) (2 ^ 24) start.now) }
     ensures short { IfOk result (IsShort (2 ^ 24)) }
-    ensures files_stay { IsKept F.held F.steady from.old from.new }
+    ensures files_stay { IsKept F.Files from.old from.new }
 {
     match start.made {
         Some(count) => Ok(Reading::Whole(checks_text(alloc, count)?)),
@@ -193,11 +191,11 @@ fn read_input<F: Files, I: Source>(
     input: &mut I,
 ) -> Result<Reading, NoMemory>
     requires { IsSoundFile file.now }
-    ensures read { IfOk result (InputRead (files F.held F.steady F.faults from.old from.new)
-        (source I.left I.steady I.faults input.old input.new) (2 ^ 26) file.now.made file.now.asked.input) }
+    ensures read { IfOk result (InputRead (files_of F.Files from.old from.new)
+        (source_of I.Source input.old input.new) (2 ^ 26) file.now.made file.now.asked.input) }
     ensures short { IfOk result (IsShort (2 ^ 26)) }
     ensures taken { TakesAtMost (I.left input.old) (I.left input.new) (2 ^ 26 + 1) }
-    ensures files_stay { IsKept F.held F.steady from.old from.new }
+    ensures files_stay { IsKept F.Files from.old from.new }
 {
     match file.made {
         Some(count) => Ok(Reading::Whole(input_text(alloc, count)?)),
@@ -218,21 +216,12 @@ fn read_file<F: Files>(
 ) -> Result<Reading, NoMemory>
     requires text { is_utf8 name.now ≡ true }
     requires small { limit < 2 ^ 62 }
-    ensures read { IfOk result (FileRead (files F.held F.steady F.faults from.old from.new) limit name.now) }
+    ensures read { IfOk result (FileRead (files_of F.Files from.old from.new) limit name.now) }
     ensures short { IfOk result (IsShort limit) }
-    ensures files_stay { IsKept F.held F.steady from.old from.new }
+    ensures files_stay { IsKept F.Files from.old from.new }
 {
     match from_utf8(name) {
         Ok(name) => read_named(alloc, name, limit, from),
         Err(_) => Ok(Reading::Missing),
     }
-}
-
-/// Tells the want of memory, as far as the error stream takes it, and answers 4.
-fn tell_memory<E: Sink>(err: &mut E) -> u8
-    ensures status { result ≡ 4 }
-    ensures told { Told out_of_memory (stream E.held E.faults E.room err.old err.new) }
-{
-    tell(b"filecheck: error: out of memory\n", err);
-    4
 }

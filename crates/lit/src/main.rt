@@ -10,23 +10,22 @@ use std::env::{self, Env};
 use std::io::{self, ErrorKind};
 use std::process::ExitCode;
 use tt_base::Bytes;
-use tt_main::{Page, no_words, page_of, show_page, with_variable, words};
+use tt_main::{Pages, no_words, with_variable, words_or_page};
 use tt_outside::Sink;
 use tt_real::{StdCrew, StdErr, StdOut, StdTree};
-use tt_run::{answer_on, tell};
+use tt_run::{Frame, answer_on};
 
 /// The variable of the environment whose words stand before those of the command line.
 const VARIABLE: &str = "LIT_OPTS";
 
-/// Tells why there are no words.
-fn refused<E: Sink>(error: &io::Error, err: &mut E) -> ExitCode {
-    ExitCode::from(no_words(
-        error,
-        b"lit: error: a word isn't text\n",
-        b"lit: error: out of memory\n",
-        err,
-    ))
-}
+/// The name of lit.
+const LIT: Frame = Frame { name: b"lit" };
+
+/// What it tells of itself.
+const PAGES: Pages = Pages {
+    help: HELP,
+    version: VERSION,
+};
 
 /// The path that words are joined to: that of the current directory.
 fn base<R: Env + AllocGlobal>(rt: &R) -> io::Result<Bytes> {
@@ -40,39 +39,27 @@ fn base<R: Env + AllocGlobal>(rt: &R) -> io::Result<Bytes> {
 /// Tells why there is no such path.
 fn no_base<E: Sink>(error: &io::Error, err: &mut E) -> u8 {
     match error.kind() {
-        ErrorKind::OutOfMemory => {
-            tell(b"lit: error: out of memory\n", err);
-            4
-        }
+        ErrorKind::OutOfMemory => LIT.out_of_memory(err),
         _ => answer_on(b"lit: error: cannot read the tree\n", 3, err),
     }
 }
 
 fn main(rt: HostRuntime) -> ExitCode {
     let alloc = rt.alloc();
+    let mut out = StdOut::new(rt.stdout());
     let mut err = StdErr::new(rt.stderr());
-    let words = match words(&rt) {
+    let words = match words_or_page(&rt, LIT, PAGES, &mut out, &mut err) {
         Ok(words) => words,
-        Err(error) => return refused(&error, &mut err),
+        Err(status) => return ExitCode::from(status),
     };
-    if let Some(page) = page_of(words.as_slice()) {
-        let text = match page {
-            Page::Help => HELP,
-            Page::Version => VERSION,
-        };
-        let mut out = StdOut::new(rt.stdout());
-        let fault = b"lit: error: cannot write\n";
-        return ExitCode::from(show_page(text.as_bytes(), fault, &mut out, &mut err));
-    }
     let words = match with_variable(&rt, VARIABLE, words) {
         Ok(words) => words,
-        Err(error) => return refused(&error, &mut err),
+        Err(error) => return ExitCode::from(no_words(&error, LIT, &mut err)),
     };
     let base = match base(&rt) {
         Ok(base) => base,
         Err(error) => return ExitCode::from(no_base(&error, &mut err)),
     };
-    let mut out = StdOut::new(rt.stdout());
     let mut tree = StdTree::current(rt, base);
     let mut crew = StdCrew::new(alloc, rt);
     let end = lit_run(

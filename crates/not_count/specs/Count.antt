@@ -4,6 +4,7 @@ use Rattle.std.specs.Prelude.{◌≡◌, ⊤, ℕ, ◌^◌, ◌==◌, if◌then�
 use Rattle.std.specs.List.{concat}
 use Rattle.opt_words.specs.Fault.{text_before, text_behind, word_of}
 use Rattle.opt_words.specs.declared.fault.WordFault.{WordFault}
+use Rattle.tt_run.specs.Frame.{error_text, newline}
 use Rattle.tt_run.specs.Run.{Answered, Source, SourceRests, Stream}
 use Rattle.not_count.specs.Asked.{IsTold, asked}
 use Rattle.not_count.specs.Lines.{IsCounted}
@@ -29,15 +30,12 @@ IsToldOf count (Compared wanted counted) = ⊤
 
 -- ---- what is told of it, and the status
 
-abbrev pub newline : List ℕ
-newline = 10 ∷ []
-
 abbrev pub faulty_word_text : List ℕ → WordFault → List ℕ
 faulty_word_text word fault = concat (codes "count: error: " ∷ text_before fault ∷ word ∷ text_behind fault ∷ newline ∷ [])
 
 abbrev pub refusal_text : List (List ℕ) → Refusal → List ℕ
 refusal_text words (FaultyWord fault) = faulty_word_text (slice_index_or words (word_of fault) []) fault
-refusal_text words NotOneNumber = codes "count: error: one number is needed" ++ newline
+refusal_text words NotOneNumber = error_text (codes "count") (codes "one number is needed")
 
 abbrev pub expected_text : ℕ → ℕ → List ℕ
 expected_text wanted lines =
@@ -48,8 +46,8 @@ lines_text wanted lines = if lines == wanted then [] else expected_text wanted l
 
 abbrev pub compared_text : ℕ → Counted → List ℕ
 compared_text wanted (Lines lines) = lines_text wanted lines
-compared_text wanted TooLong = codes "count: error: input too long" ++ newline
-compared_text wanted Failed = codes "count: error: cannot read '<stdin>'" ++ newline
+compared_text wanted TooLong = error_text (codes "count") (codes "input too long")
+compared_text wanted Failed = error_text (codes "count") (codes "cannot read '<stdin>'")
 
 abbrev pub text_of : List (List ℕ) → Outcome → List ℕ
 text_of words (Refused refusal) = refusal_text words refusal

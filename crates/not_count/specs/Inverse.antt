@@ -1,6 +1,6 @@
 -- What `not` makes of the end of a program. After the tool of that name in LLVM's tree: it turns success and failure round,
 -- and with `--crash` it asks for an end by a signal. Own rule: the texts, the limits and the statuses 2 and 3.
-use Rattle.std.specs.Prelude.{◌≡◌, ◌⊎◌, ⊤, ℕ, ◌<◌, ◌≤◌, ◌==◌, Bool, true, false, if◌then◌else◌, List, [], ◌∷◌, ◌++◌, drop, codes, slice_index_or, Result, Ok, Err}
+use Rattle.std.specs.Prelude.{◌≡◌, ◌⊎◌, ⊤, ℕ, ◌^◌, ◌<◌, ◌≤◌, ◌==◌, Bool, true, false, if◌then◌else◌, List, [], ◌∷◌, ◌++◌, drop, codes, slice_index_or, Result, Ok, Err}
 use Rattle.opt_words.specs.Fault.{text_before, text_behind, word_of}
 use Rattle.tt_outside.specs.Faults.{Rose}
 use Rattle.tt_outside.specs.Gave.{Gave}
@@ -12,11 +12,12 @@ use Rattle.tt_outside.specs.declared.request.Request.{Request}
 use Rattle.tt_outside.specs.declared.request.Request.TheVariants.{Spawn}
 use Rattle.tt_outside.specs.declared.request.Reply.{Reply}
 use Rattle.tt_outside.specs.declared.request.Reply.TheVariants as replies
-use Rattle.tt_run.specs.Run.{Source, SourceRead, SourceRests}
+use Rattle.tt_run.specs.Frame.{error_text}
+use Rattle.tt_run.specs.Run.{Answers, Crew, Source, SourceRead, SourceRests, Stream}
 use Rattle.tt_run.specs.declared.answer.Answer.{Answer}
 use Rattle.tt_run.specs.declared.reading.Reading.{Reading}
 use Rattle.tt_run.specs.declared.reading.Reading.TheVariants as readings
-use Rattle.not_count.specs.Command.{IsToldWord}
+use Rattle.not_count.specs.Command.{IsToldWord, command_in}
 use Rattle.not_count.specs.declared.command.Command.{Command}
 use Rattle.not_count.specs.declared.command.NoCommand.{NoCommand}
 use Rattle.not_count.specs.declared.command.NoCommand.TheVariants.{FaultyWord, Missing}
@@ -94,12 +95,9 @@ abbrev pub status_at : Bool → Finish → ℕ
 status_at true finish = if crashed finish then 0 else 1
 status_at false finish = if failed finish then 0 else 1
 
-abbrev pub newline : List ℕ
-newline = 10 ∷ []
-
 -- the answer with a message and nothing else
 abbrev pub telling : ℕ → List ℕ → Answer
-telling status text = record { out = []; err = codes "not: error: " ++ text ++ newline; status = status }
+telling status text = record { out = []; err = error_text (codes "not") text; status = status }
 
 abbrev pub word_text : List ℕ → List ℕ → List ℕ → List ℕ
 word_text before word behind = before ++ word ++ behind
@@ -125,8 +123,14 @@ inverse_answer words inverses.Unread = telling 3 (codes "cannot read '<stdin>'")
 inverse_answer words (inverses.Replied command reply) =
     reply_answer (slice_index_or words command.first []) command.crash reply
 
-abbrev pub not_cannot_write : List ℕ
-not_cannot_write = codes "not: error: cannot write" ++ newline
+-- ---- a run
 
-abbrev pub not_out_of_memory : List ℕ
-not_out_of_memory = codes "not: error: out of memory" ++ newline
+-- what words, an input and a crew come to gives this answer
+abbrev pub AnswerOf : List (List ℕ) → Source → Crew → Answer → Type 0
+AnswerOf words input crew answer =
+    (outcome : Inverse) × OutcomeFrom input crew.gave (2 ^ 26) words (command_in words) outcome
+    × HandsOf crew.old crew.new outcome × (answer ≡ inverse_answer words outcome)
+
+-- that answer is told, and gives the status; but for want of memory
+abbrev pub Inverts : List (List ℕ) → Source → Crew → ℕ → Stream → Stream → Type 0
+Inverts words input crew result out err = Answers (codes "not") (AnswerOf words input crew) result out err

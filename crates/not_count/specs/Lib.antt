@@ -3,4 +3,3 @@ pub mod Command
 pub mod Count
 pub mod Inverse
 pub mod Lines
-pub mod Parts

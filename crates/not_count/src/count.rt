@@ -1,19 +1,20 @@
 //! The top call of `count`.
 ghost use Rattle.std.specs.Prelude.{◌≡◌, ◌⊎◌, ◌≤◌, ◌+◌, ◌^◌, length};
-ghost use Rattle.tt_outside.specs.Faults.{Rose};
 ghost use Rattle.tt_outside.specs.Transfer.{TakesAtMost};
-ghost use Rattle.tt_run.specs.Run.{Answered, source, stream};
+ghost use Rattle.tt_run.specs.Run.{Answered, Failed, source_of, stream_of};
 ghost use Rattle.opt_words.specs.Step.{texts};
 ghost use Rattle.not_count.specs.Asked.{IsTold, asked};
 ghost use Rattle.not_count.specs.Count.{Counts, IsToldOf, OutcomeFrom, compared_status, compared_text, expected_text, faulty_word_text, lines_status, lines_text, refusal_text, status_of, text_of};
 
 use crate::asked::{Refusal, asked};
 use crate::lines::{Counted, count_lines};
-use crate::parts::answer_parts;
 use itoa::Buffer;
 use opt_words::WordFault;
 use tt_outside::{Sink, Source};
-use tt_run::answer_on;
+use tt_run::{Frame, answer_on, answer_parts};
+
+/// The name of `count`.
+pub const COUNT: Frame = Frame { name: b"count" };
 
 /// What a run of `count` comes to.
 #[derive(Clone, Copy, Debug, PartialEq, Eq)]
@@ -26,10 +27,9 @@ pub enum Outcome {
 /// says, 1 where it has another number, 2 where the words are refused or the input has more than 2^40 bytes, and 3 at a
 /// fault of the input or of `err`. It takes no memory.
 pub fn count_run<I: Source, E: Sink>(words: &[String], input: &mut I, err: &mut E) -> u8
-    ensures answer { Counts (texts words.now) (source I.left I.steady I.faults input.old input.new) result
-        (stream E.held E.faults E.room err.old err.new) }
-    ensures fault { result ≡ 3 → Rose (I.faults input.old) (I.faults input.new)
-        ⊎ Rose (E.faults err.old) (E.faults err.new) }
+    ensures answer { Counts (texts words.now) (source_of I.Source input.old input.new) result
+        (stream_of E.Sink err.old err.new) }
+    ensures fault { result ≡ 3 → Failed I.faults input.old input.new ⊎ Failed E.faults err.old err.new }
     ensures taken { TakesAtMost (I.left input.old) (I.left input.new) (2 ^ 40 + 1) }
     ensures no_other { result ≤ 3 }
 {
@@ -39,7 +39,7 @@ pub fn count_run<I: Source, E: Sink>(words: &[String], input: &mut I, err: &mut 
 
 /// What the words and the input come to.
 fn outcome_from<I: Source>(words: &[String], input: &mut I) -> Outcome
-    ensures value { OutcomeFrom (source I.left I.steady I.faults input.old input.new) (2 ^ 40) (asked (texts words.now)) result }
+    ensures value { OutcomeFrom (source_of I.Source input.old input.new) (2 ^ 40) (asked (texts words.now)) result }
     ensures told { IsToldOf (length words.now) result }
     ensures taken { TakesAtMost (I.left input.old) (I.left input.new) (2 ^ 40 + 1) }
 {
@@ -53,7 +53,7 @@ fn outcome_from<I: Source>(words: &[String], input: &mut I) -> Outcome
 fn answer<E: Sink>(words: &[String], outcome: Outcome, err: &mut E) -> u8
     requires { IsToldOf (length words.now) outcome }
     ensures answered { Answered (text_of (texts words.now) outcome) (status_of outcome) result
-        (stream E.held E.faults E.room err.old err.new) }
+        (stream_of E.Sink err.old err.new) }
     ensures range { result ≤ 3 }
 {
     match outcome {
@@ -66,7 +66,7 @@ fn answer<E: Sink>(words: &[String], outcome: Outcome, err: &mut E) -> u8
 fn refuse<E: Sink>(words: &[String], refusal: Refusal, err: &mut E) -> u8
     requires { IsTold (length words.now) refusal }
     ensures answered { Answered (refusal_text (texts words.now) refusal) 2 result
-        (stream E.held E.faults E.room err.old err.new) }
+        (stream_of E.Sink err.old err.new) }
     ensures range { result ≤ 3 }
 {
     match refusal {
@@ -78,7 +78,7 @@ fn refuse<E: Sink>(words: &[String], refusal: Refusal, err: &mut E) -> u8
 /// Tells what is wrong with a word.
 fn tell_fault<E: Sink>(word: &[u8], fault: WordFault, err: &mut E) -> u8
     ensures answered { Answered (faulty_word_text word.now fault) 2 result
-        (stream E.held E.faults E.room err.old err.new) }
+        (stream_of E.Sink err.old err.new) }
     ensures range { result ≤ 3 }
 {
     answer_parts(
@@ -97,7 +97,7 @@ fn tell_fault<E: Sink>(word: &[u8], fault: WordFault, err: &mut E) -> u8
 /// Tells how the lines compare with the number that was asked for.
 fn compare<E: Sink>(wanted: u64, counted: Counted, err: &mut E) -> u8
     ensures answered { Answered (compared_text wanted counted) (compared_status wanted counted) result
-        (stream E.held E.faults E.room err.old err.new) }
+        (stream_of E.Sink err.old err.new) }
     ensures range { result ≤ 3 }
 {
     match counted {
@@ -109,7 +109,7 @@ fn compare<E: Sink>(wanted: u64, counted: Counted, err: &mut E) -> u8
 
 fn compare_lines<E: Sink>(wanted: u64, lines: u64, err: &mut E) -> u8
     ensures answered { Answered (lines_text wanted lines) (lines_status wanted lines) result
-        (stream E.held E.faults E.room err.old err.new) }
+        (stream_of E.Sink err.old err.new) }
     ensures range { result ≤ 3 }
 {
     if lines == wanted {
@@ -122,7 +122,7 @@ fn compare_lines<E: Sink>(wanted: u64, lines: u64, err: &mut E) -> u8
 /// Tells the number of lines that was asked for, and the one that was found.
 fn tell_lines<E: Sink>(wanted: u64, lines: u64, err: &mut E) -> u8
     ensures answered { Answered (expected_text wanted lines) 1 result
-        (stream E.held E.faults E.room err.old err.new) }
+        (stream_of E.Sink err.old err.new) }
     ensures range { result ≤ 3 }
 {
     let (mut due, mut found) = (Buffer::new(), Buffer::new());

@@ -1,19 +1,21 @@
 //! The top call of `not`.
-ghost use Rattle.std.specs.Prelude.{◌≡◌, ◌≢◌, ◌⊎◌, ◌≤◌, ◌<◌, ◌+◌, ◌^◌, [], IfOk, MatchResult, length, true};
-ghost use Rattle.tt_outside.specs.Faults.{Rose};
+ghost use Rattle.std.specs.Prelude.{◌≡◌, ◌≢◌, ◌⊎◌, ◌≤◌, ◌<◌, ◌+◌, ◌^◌, [], IfOk, MatchResult, codes, length, true};
 ghost use Rattle.tt_outside.specs.Fits.{fits};
 ghost use Rattle.tt_outside.specs.Gave.{SameGave};
 ghost use Rattle.tt_outside.specs.Transfer.{TakesAtMost};
-ghost use Rattle.tt_run.specs.Run.{Told, Written, source, stream};
+ghost use Rattle.tt_run.specs.Run.{Failed, LacksMemory, crew_of, source_of, stream_of};
 ghost use Rattle.opt_words.specs.Step.{texts};
 ghost use Rattle.not_count.specs.Command.{IsToldWord, command_in};
-ghost use Rattle.not_count.specs.Inverse.{AskedOnce, AtMostOneHand, HandFailed, HandsOf, IsToldInverse, OutcomeFrom, Replied, inverse_answer, no_command_text, not_cannot_write, not_out_of_memory, reply_answer, status_at, telling, word_text};
+ghost use Rattle.not_count.specs.Inverse.{AskedOnce, AtMostOneHand, HandFailed, HandsOf, Inverts, IsToldInverse, OutcomeFrom, Replied, inverse_answer, no_command_text, reply_answer, status_at, telling, word_text};
 
 use crate::command::{Command, NoCommand, bytes_of, command_in};
 use std::alloc::Global;
 use tt_base::{Bytes, Items, NoMemory};
 use tt_outside::{Crew, Finish, Reply, Request, Runner, Sink, Source};
-use tt_run::{Answer, Reading, read_source, tell, write_answer};
+use tt_run::{Answer, Frame, Reading, read_source};
+
+/// The name of `not`.
+pub const NOT: Frame = Frame { name: b"not" };
 
 /// The greatest length of an input, and of each stream of the program, in bytes.
 pub const INPUT_LIMIT: u64 = 67_108_864;
@@ -43,18 +45,11 @@ pub fn not_run<C: Crew, I: Source, O: Sink, E: Sink>(
     err: &mut E,
 ) -> u8
     requires { C.ready crew.old }
-    ensures answer { result ≢ 4 → (outcome : Inverse)
-        × OutcomeFrom (source I.left I.steady I.faults input.old input.new) (C.gave crew.old) (2 ^ 26) (texts words.now)
-        (command_in (texts words.now)) outcome
-        × HandsOf (C.hands crew.old) (C.hands crew.new) outcome
-        × Written not_cannot_write (inverse_answer (texts words.now) outcome) result
-        (stream O.held O.faults O.room out.old out.new) (stream E.held E.faults E.room err.old err.new) }
-    ensures fault { result ≡ 3 → Rose (I.faults input.old) (I.faults input.new)
-        ⊎ HandFailed (C.hands crew.old) (C.hands crew.new)
-        ⊎ Rose (O.faults out.old) (O.faults out.new)
-        ⊎ Rose (E.faults err.old) (E.faults err.new) }
-    ensures memory { result ≡ 4 → (O.held out.new ≡ O.held out.old)
-        × Told not_out_of_memory (stream E.held E.faults E.room err.old err.new) }
+    ensures answer { Inverts (texts words.now) (source_of I.Source input.old input.new) (crew_of C.Crew crew.old crew.new)
+        result (stream_of O.Sink out.old out.new) (stream_of E.Sink err.old err.new) }
+    ensures fault { result ≡ 3 → Failed I.faults input.old input.new ⊎ HandFailed (C.hands crew.old) (C.hands crew.new)
+        ⊎ Failed O.faults out.old out.new ⊎ Failed E.faults err.old err.new }
+    ensures memory { LacksMemory (codes "not") result (stream_of O.Sink out.old out.new) (stream_of E.Sink err.old err.new) }
     ensures few { result ≡ 4 → AtMostOneHand (C.hands crew.old) (C.hands crew.new) }
     ensures taken { TakesAtMost (I.left input.old) (I.left input.new) (2 ^ 26 + 1) }
     ensures seats { C.seats crew.new ≡ C.seats crew.old }
@@ -63,12 +58,12 @@ pub fn not_run<C: Crew, I: Source, O: Sink, E: Sink>(
     ensures no_other { result ≤ 4 }
 {
     let Ok(outcome) = outcome_from(alloc, words, crew, input) else {
-        return tell_memory(err);
+        return NOT.out_of_memory(err);
     };
     let Ok(answer) = answer_to(alloc, words, outcome) else {
-        return tell_memory(err);
+        return NOT.out_of_memory(err);
     };
-    write_answer(b"not: error: cannot write\n", &answer, out, err)
+    answer.write(NOT, out, err)
 }
 
 /// What the words, the input and the command come to.
@@ -79,7 +74,7 @@ fn outcome_from<C: Crew, I: Source>(
     input: &mut I,
 ) -> Result<Inverse, NoMemory>
     requires { C.ready crew.old }
-    ensures value { IfOk result (OutcomeFrom (source I.left I.steady I.faults input.old input.new) (C.gave crew.old) (2 ^ 26)
+    ensures value { IfOk result (OutcomeFrom (source_of I.Source input.old input.new) (C.gave crew.old) (2 ^ 26)
         (texts words.now) (command_in (texts words.now))) }
     ensures hands { MatchResult result (HandsOf (C.hands crew.old) (C.hands crew.new))
         (λ fault. AtMostOneHand (C.hands crew.old) (C.hands crew.new)) }
@@ -244,13 +239,4 @@ fn status_at(crash: bool, finish: Finish) -> u8
         Finish::Code(_) => crash as u8,
         Finish::Signal(_) => !crash as u8,
     }
-}
-
-/// Tells the want of memory, as far as the error stream takes it, and answers 4.
-fn tell_memory<E: Sink>(err: &mut E) -> u8
-    ensures status { result ≡ 4 }
-    ensures told { Told not_out_of_memory (stream E.held E.faults E.room err.old err.new) }
-{
-    tell(b"not: error: out of memory\n", err);
-    4
 }

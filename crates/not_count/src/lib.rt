@@ -7,7 +7,6 @@ mod command;
 mod count;
 mod inverse;
 mod lines;
-mod parts;
 
-pub use count::count_run;
-pub use inverse::not_run;
+pub use count::{COUNT, count_run};
+pub use inverse::{NOT, not_run};

@@ -2,7 +2,7 @@
 ghost use Rattle.std.specs.Prelude.{◌≡◌, ◌+◌, ◌≤◌, ◌^◌, count_by, drop, length, take};
 ghost use Rattle.tt_base.specs.Place.{is_newline};
 ghost use Rattle.tt_outside.specs.Transfer.{TakesAtMost};
-ghost use Rattle.tt_run.specs.Run.{source};
+ghost use Rattle.tt_run.specs.Run.{source_of};
 ghost use Rattle.not_count.specs.Lines.{IsCounted, lines_of};
 
 use std::simd::prelude::*;
@@ -61,7 +61,7 @@ fn newlines_at(piece: &[u8], at: usize) -> usize
 
 /// Counts the lines of a source.
 pub fn count_lines<I: Source>(input: &mut I) -> Counted
-    ensures counted { IsCounted (source I.left I.steady I.faults input.old input.new) (2 ^ 40) result }
+    ensures counted { IsCounted (source_of I.Source input.old input.new) (2 ^ 40) result }
     ensures taken { TakesAtMost (I.left input.old) (I.left input.new) (2 ^ 40 + 1) }
 {
     let mut buffer = [0; PIECE];

@@ -6,59 +6,36 @@
 mod pages;
 
 use crate::pages::{HELP, VERSION};
-use not_count::not_run;
+use not_count::{NOT, not_run};
 use std::io::{self, IsTerminal};
 use std::process::ExitCode;
-use tt_main::{Page, no_words, page_of, show_page, words};
+use tt_main::{Pages, words_or_page};
 use tt_real::{ReaderSource, StdCrew, StdErr, StdOut, StdSource};
+
+/// What it tells of itself.
+const PAGES: Pages = Pages {
+    help: HELP,
+    version: VERSION,
+};
 
 fn main(rt: HostRuntime) -> ExitCode {
     let alloc = rt.alloc();
-    let mut err = StdErr::new(rt.stderr());
-    let words = match words(&rt) {
-        Ok(words) => words,
-        Err(error) => {
-            return ExitCode::from(no_words(
-                &error,
-                b"not: error: a word isn't text\n",
-                b"not: error: out of memory\n",
-                &mut err,
-            ));
-        }
-    };
-    if let Some(page) = page_of(words.as_slice()) {
-        let text = match page {
-            Page::Help => HELP,
-            Page::Version => VERSION,
-        };
-        let mut out = StdOut::new(rt.stdout());
-        let fault = b"not: error: cannot write\n";
-        return ExitCode::from(show_page(text.as_bytes(), fault, &mut out, &mut err));
-    }
     let mut out = StdOut::new(rt.stdout());
+    let mut err = StdErr::new(rt.stderr());
+    let words = match words_or_page(&rt, NOT, PAGES, &mut out, &mut err) {
+        Ok(words) => words,
+        Err(status) => return ExitCode::from(status),
+    };
+    let words = words.as_slice();
     let stdin = rt.stdin();
     let mut crew = StdCrew::new(alloc, rt);
     // Nobody types an input for a command that reads none.
     let status = if stdin.is_terminal() {
         let mut nothing = ReaderSource::new(io::empty());
-        not_run(
-            alloc,
-            words.as_slice(),
-            &mut crew,
-            &mut nothing,
-            &mut out,
-            &mut err,
-        )
+        not_run(alloc, words, &mut crew, &mut nothing, &mut out, &mut err)
     } else {
         let mut input = StdSource::new(stdin);
-        not_run(
-            alloc,
-            words.as_slice(),
-            &mut crew,
-            &mut input,
-            &mut out,
-            &mut err,
-        )
+        not_run(alloc, words, &mut crew, &mut input, &mut out, &mut err)
     };
     ExitCode::from(status)
 }

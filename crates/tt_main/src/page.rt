@@ -1,16 +1,34 @@
 //! The pages that a program shows of itself.
 ghost use Rattle.std.specs.Prelude.{◌≡◌, map, string_bytes};
 ghost use Rattle.tt_main.specs.Page.{Shown, page_named, page_of};
-ghost use Rattle.tt_run.specs.Run.{stream};
+ghost use Rattle.tt_run.specs.Frame.{cannot_write};
+ghost use Rattle.tt_run.specs.Run.{stream_of};
 
 use tt_outside::{Sink, write_all};
-use tt_run::tell;
+use tt_run::Frame;
 
 /// A page that a program shows of itself.
 #[derive(Clone, Copy, Debug, PartialEq, Eq)]
 pub enum Page {
     Help,
     Version,
+}
+
+/// The texts of a program's pages.
+#[derive(Clone, Copy, Debug)]
+pub struct Pages {
+    pub help: &'static str,
+    pub version: &'static str,
+}
+
+impl Pages {
+    /// The text of a page.
+    pub(crate) fn text(self, page: Page) -> &'static [u8] {
+        match page {
+            Page::Help => self.help.as_bytes(),
+            Page::Version => self.version.as_bytes(),
+        }
+    }
 }
 
 /// The page that the words ask for. It is asked for by the only word: `--help`, `-h` or `--version`.
@@ -36,16 +54,13 @@ fn page_named(word: &[u8]) -> Option<Page>
     }
 }
 
-/// Shows a page: 0, or 3 where `out` fails; then `fault` is what is told on `err`.
-pub fn show_page<O: Sink, E: Sink>(text: &[u8], fault: &[u8], out: &mut O, err: &mut E) -> u8
-    ensures shown { Shown text.now fault.now result (stream O.held O.faults O.room out.old out.new)
-        (stream E.held E.faults E.room err.old err.new) (err.new ≡ err.old) }
+/// Shows a page: 0, or 3 where `out` fails, which is told on `err`.
+pub fn show_page<O: Sink, E: Sink>(text: &[u8], frame: Frame, out: &mut O, err: &mut E) -> u8
+    ensures shown { Shown text.now (cannot_write frame.name.now) result (stream_of O.Sink out.old out.new)
+        (stream_of E.Sink err.old err.new) (err.new ≡ err.old) }
 {
     match write_all(out, text) {
         Ok(()) => 0,
-        Err(_) => {
-            tell(fault, err);
-            3
-        }
+        Err(_) => frame.cannot_write(err),
     }
 }

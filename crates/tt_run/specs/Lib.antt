@@ -1,1 +1,3 @@
+pub mod Frame
+pub mod Parts
 pub mod Run

@@ -1,17 +1,24 @@
 -- What a run of a tool does to the objects that it is given.
 -- Own rule: an answer is written to out and then to err. A fault of out is told on err; after a fault of a stream
 -- nothing more is written to it. A fault is told only where the object's count of faults rose, and else the count stays.
-use Rattle.std.specs.Prelude.{◌≡◌, ◌⊎◌, ⊤, ℕ, ◌+◌, ◌<◌, ◌≤◌, List, length, Option, Ok, Err}
+use Rattle.std.specs.Prelude.{◌≡◌, ◌≢◌, ◌⊎◌, ⊤, ℕ, ◌+◌, ◌<◌, ◌≤◌, List, length, Option, Ok, Err}
 use Rattle.std.specs.Io.KnownBytes.{Appends, Consumes, IsAtEnd}
 use Rattle.tt_outside.specs.Faults.{Rose}
+use Rattle.tt_outside.specs.Gave.{Gave}
 use Rattle.tt_outside.specs.GivesFile.{GivesFile}
 use Rattle.tt_outside.specs.Transfer.{AppendsPart, TakesCount}
+use Rattle.tt_outside.specs.declared.crew.Crew.{Ghosts as OfCrew}
+use Rattle.tt_outside.specs.declared.crew.Left.{Left}
+use Rattle.tt_outside.specs.declared.files.Files.{Ghosts as OfFiles}
 use Rattle.tt_outside.specs.declared.files.FilesFault.TheVariants.{Missing as NoFile, TooLarge as TooLong}
+use Rattle.tt_outside.specs.declared.sink.Sink.{Ghosts as OfSink}
+use Rattle.tt_outside.specs.declared.source.Source.{Ghosts as OfSource}
+use Rattle.tt_run.specs.Frame.{cannot_write, out_of_memory}
 use Rattle.tt_run.specs.declared.answer.Answer.{Answer}
 use Rattle.tt_run.specs.declared.reading.Reading.{Reading}
-use Rattle.tt_run.specs.declared.reading.Reading.TheVariants.{Whole, Missing, TooLarge, Failed}
+use Rattle.tt_run.specs.declared.reading.Reading.TheVariants as reading
 
--- ---- objects as a run found and left them
+-- ---- objects as a run found and left them, by what a trait tells of them
 
 -- a stream: what it held and holds, its count of faults, and the room it had for certain
 pub record Stream : Type 0 where
@@ -25,6 +32,9 @@ abbrev pub stream : {S : Type 0} → (S → Option (List ℕ)) → (S → ℕ) �
 stream held faults room old new =
     record { old = held old; new = held new; before = faults old; now = faults new; room = room old }
 
+abbrev pub stream_of : {S : Type 0} → OfSink S → S → S → Stream
+stream_of sink old new = stream sink.held sink.faults sink.room old new
+
 -- files: whether nobody touched them, the bytes under each name, whether no call fails for certain, and the count of faults
 pub record Files : Type 1 where
   pub untouched : Type 0
@@ -33,9 +43,14 @@ pub record Files : Type 1 where
   pub before : ℕ
   pub now : ℕ
 
-abbrev pub files : {F : Type 0} → (F → Option (List ℕ → Option (List ℕ))) → (F → Type 0) → (F → ℕ) → F → F → Files
-files held steady faults old new =
-    record { untouched = new ≡ old; held = held old; steady = steady old; before = faults old; now = faults new }
+abbrev pub files_of : {F : Type 0} → OfFiles F → F → F → Files
+files_of files old new = record {
+  untouched = new ≡ old;
+  held = files.held old;
+  steady = files.steady old;
+  before = files.faults old;
+  now = files.faults new;
+}
 
 -- a source: whether nobody touched it, what it had and has left, whether no read fails for certain, and its count of faults
 pub record Source : Type 1 where
@@ -46,41 +61,54 @@ pub record Source : Type 1 where
   pub before : ℕ
   pub now : ℕ
 
-abbrev pub source : {S : Type 0} → (S → Option (List ℕ)) → (S → Type 0) → (S → ℕ) → S → S → Source
-source left steady faults old new = record {
+abbrev pub source_of : {S : Type 0} → OfSource S → S → S → Source
+source_of source old new = record {
   untouched = new ≡ old;
-  old = left old;
-  new = left new;
-  steady = steady old;
-  before = faults old;
-  now = faults new;
+  old = source.left old;
+  new = source.left new;
+  steady = source.steady old;
+  before = source.faults old;
+  now = source.faults new;
 }
+
+-- a crew: the replies that its hands may give, and what dismissed hands left before and after
+pub record Crew : Type 1 where
+  pub gave : Gave
+  pub old : List Left
+  pub new : List Left
+
+abbrev pub crew_of : {C H : Type 0} → OfCrew C H → C → C → Crew
+crew_of crew old new = record { gave = crew.gave old; old = crew.hands old; new = crew.hands new }
 
 -- ---- reading
 
 -- reading the file of a name gave this
 abbrev pub FileRead : Files → ℕ → List ℕ → Reading → Type 0
-FileRead f limit name (Whole bytes) =
+FileRead f limit name (reading.Whole bytes) =
     GivesFile f.held name limit (Ok bytes) × (length bytes ≤ limit) × (f.now ≡ f.before)
-FileRead f limit name Missing = GivesFile f.held name limit (Err NoFile) × (f.now ≡ f.before)
-FileRead f limit name TooLarge =
+FileRead f limit name reading.Missing = GivesFile f.held name limit (Err NoFile) × (f.now ≡ f.before)
+FileRead f limit name reading.TooLarge =
     (size : ℕ) × GivesFile f.held name limit (Err (TooLong size)) × (limit < size) × (f.now ≡ f.before)
-FileRead f limit name Failed = Rose f.before f.now × (f.steady → ⊥)
+FileRead f limit name reading.Failed = Rose f.before f.now × (f.steady → ⊥)
 
 -- reading a source to its end gave this: all that it had left, one byte more than the limit, or a fault
 abbrev pub SourceRead : Source → ℕ → Reading → Type 0
-SourceRead s limit (Whole bytes) =
+SourceRead s limit (reading.Whole bytes) =
     Consumes s.old s.new bytes × IsAtEnd s.new × (length bytes ≤ limit) × (s.now ≡ s.before)
-SourceRead s limit TooLarge = TakesCount s.old s.new (limit + 1) × (s.now ≡ s.before)
-SourceRead s limit Failed = Rose s.before s.now × (s.steady → ⊥)
-SourceRead s limit Missing = ⊥
+SourceRead s limit reading.TooLarge = TakesCount s.old s.new (limit + 1) × (s.now ≡ s.before)
+SourceRead s limit reading.Failed = Rose s.before s.now × (s.steady → ⊥)
+SourceRead s limit reading.Missing = ⊥
 
 -- what was read whole is within the limit
 abbrev pub IsShort : ℕ → Reading → Type 0
-IsShort limit (Whole bytes) = length bytes ≤ limit
-IsShort limit Missing = ⊤
-IsShort limit TooLarge = ⊤
-IsShort limit Failed = ⊤
+IsShort limit (reading.Whole bytes) = length bytes ≤ limit
+IsShort limit reading.Missing = ⊤
+IsShort limit reading.TooLarge = ⊤
+IsShort limit reading.Failed = ⊤
+
+-- an object counted a fault from one moment to another
+abbrev pub Failed : {S : Type 0} → (S → ℕ) → S → S → Type 0
+Failed faults old new = Rose (faults old) (faults new)
 
 -- files and a source that nobody touched
 abbrev pub FilesRest : Files → Type 0
@@ -117,3 +145,14 @@ abbrev pub Written : List ℕ → Answer → ℕ → Stream → Stream → Type 
 Written fault answer result out err =
     (Taken answer.out out × Answered answer.err answer.status result err)
     ⊎ ((result ≡ 3) × Stopped answer.out out × Told fault err)
+
+-- ---- a run of a tool
+
+-- the tool of a name answered: but for want of memory, an answer that is due was written
+abbrev pub Answers : List ℕ → (Answer → Type 0) → ℕ → Stream → Stream → Type 0
+Answers name IsDue status out err =
+    status ≢ 4 → (answer : Answer) × IsDue answer × Written (cannot_write name) answer status out err
+
+-- it told the want of memory, and wrote nothing else
+abbrev pub LacksMemory : List ℕ → ℕ → Stream → Stream → Type 0
+LacksMemory name status out err = status ≡ 4 → (out.new ≡ out.old) × Told (out_of_memory name) err

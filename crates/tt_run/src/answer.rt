@@ -1,7 +1,9 @@
 //! An answer, and how it is written.
 ghost use Rattle.std.specs.Prelude.{◌≤◌};
-ghost use Rattle.tt_run.specs.Run.{Answered, Told, Written, stream};
+ghost use Rattle.tt_run.specs.Frame.{cannot_write};
+ghost use Rattle.tt_run.specs.Run.{Answered, Told, Written, stream_of};
 
+use crate::frame::Frame;
 use tt_base::Bytes;
 use tt_outside::{Sink, write_all};
 
@@ -13,12 +15,27 @@ pub struct Answer {
     pub status: u8,
 }
 
+impl Answer {
+    /// Writes the answer of a tool, and answers its status, or 3 where a stream fails.
+    pub fn write<O: Sink, E: Sink>(&self, frame: Frame, out: &mut O, err: &mut E) -> u8
+        requires { self.now.status ≤ 3 }
+        ensures written { Written (cannot_write frame.name.now) self.now result
+            (stream_of O.Sink out.old out.new) (stream_of E.Sink err.old err.new) }
+        ensures range { result ≤ 3 }
+    {
+        if write_all(out, self.out.as_slice()).is_err() {
+            return frame.cannot_write(err);
+        }
+        answer_on(self.err.as_slice(), self.status, err)
+    }
+}
+
 /// Writes the answer, and answers its status, or 3 where a stream fails. `fault` is what is told on `err` where
 /// `out` fails.
 pub fn write_answer<O: Sink, E: Sink>(fault: &[u8], answer: &Answer, out: &mut O, err: &mut E) -> u8
     requires { answer.now.status ≤ 3 }
     ensures written { Written fault.now answer.now result
-        (stream O.held O.faults O.room out.old out.new) (stream E.held E.faults E.room err.old err.new) }
+        (stream_of O.Sink out.old out.new) (stream_of E.Sink err.old err.new) }
     ensures range { result ≤ 3 }
 {
     if write_all(out, answer.out.as_slice()).is_err() {
@@ -31,7 +48,7 @@ pub fn write_answer<O: Sink, E: Sink>(fault: &[u8], answer: &Answer, out: &mut O
 /// Writes a message, and answers the status, or 3 where the stream fails. It takes no memory.
 pub fn answer_on<E: Sink>(message: &[u8], status: u8, err: &mut E) -> u8
     requires { status ≤ 3 }
-    ensures answered { Answered message.now status result (stream E.held E.faults E.room err.old err.new) }
+    ensures answered { Answered message.now status result (stream_of E.Sink err.old err.new) }
     ensures range { result ≤ 3 }
 {
     match write_all(err, message) {
@@ -42,7 +59,7 @@ pub fn answer_on<E: Sink>(message: &[u8], status: u8, err: &mut E) -> u8
 
 /// Writes a message, as far as the stream takes it. It takes no memory.
 pub fn tell<E: Sink>(message: &[u8], err: &mut E)
-    ensures { Told message.now (stream E.held E.faults E.room err.old err.new) }
+    ensures { Told message.now (stream_of E.Sink err.old err.new) }
 {
     let _ = write_all(err, message);
 }

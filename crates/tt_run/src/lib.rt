@@ -1,9 +1,13 @@
-//! The frame of a tool's run: what reading gave, an answer before it is written, and how it is written.
-//! Each tool stands above, and says its contract in the words of specs/Run.antt.
+//! The frame of a tool's run: what reading gave, an answer before it is written, how it is written, and what every tool tells in the
+//! same words. Each tool stands above, and says its contract in the words of specs/Run.antt.
 #![tactic(auto)]
 
 mod answer;
+mod frame;
+mod parts;
 mod reading;
 
 pub use answer::{Answer, answer_on, tell, write_answer};
+pub use frame::Frame;
+pub use parts::answer_parts;
 pub use reading::{Reading, read_named, read_source};

@@ -1,7 +1,7 @@
 //! What reading gave.
 ghost use Rattle.std.specs.Prelude.{◌≡◌, ◌≤◌, ◌<◌, ◌+◌, ◌^◌, IfOk, IsErr};
 ghost use Rattle.tt_outside.specs.Transfer.{TakesAtMost};
-ghost use Rattle.tt_run.specs.Run.{FileRead, IsShort, SourceRead, StaysSteady, files, source};
+ghost use Rattle.tt_run.specs.Run.{FileRead, IsShort, SourceRead, StaysSteady, files_of, source_of};
 
 use std::alloc::Global;
 use tt_base::{Bytes, NoMemory};
@@ -28,7 +28,7 @@ pub fn read_named<F: Files>(
     from: &mut F,
 ) -> Result<Reading, NoMemory>
     requires { limit < 2 ^ 62 }
-    ensures read { IfOk result (FileRead (files F.held F.steady F.faults from.old from.new) limit name.now) }
+    ensures read { IfOk result (FileRead (files_of F.Files from.old from.new) limit name.now) }
     ensures short { IfOk result (IsShort limit) }
     ensures calm { IsErr result → F.faults from.new ≡ F.faults from.old }
     ensures stay { F.held from.new ≡ F.held from.old }
@@ -46,7 +46,7 @@ pub fn read_named<F: Files>(
 /// What reading a source to its end gave.
 pub fn read_source<S: Source>(alloc: Global, limit: u64, from: &mut S) -> Result<Reading, NoMemory>
     requires { limit < 2 ^ 62 }
-    ensures read { IfOk result (SourceRead (source S.left S.steady S.faults from.old from.new) limit) }
+    ensures read { IfOk result (SourceRead (source_of S.Source from.old from.new) limit) }
     ensures short { IfOk result (IsShort limit) }
     ensures calm { IsErr result → S.faults from.new ≡ S.faults from.old }
     ensures taken { TakesAtMost (S.left from.old) (S.left from.new) (limit + 1) }

@@ -5,7 +5,7 @@ use crate::rows::limited;
 use std::alloc::Global;
 use tt_base::{Bytes, Items, NoMemory};
 use tt_outside::{MemFiles, MemSink, MemSource, Named};
-use tt_run::{Answer, Reading, read_named, read_source, write_answer};
+use tt_run::{Answer, Frame, Reading, read_named, read_source};
 
 /// What a reading is, in a word or its bytes.
 fn shown(reading: &Reading) -> &[u8] {
@@ -128,12 +128,15 @@ fn joined(alloc: Global, status: u8, out: &MemSink, err: &MemSink) -> Result<Byt
     Ok(text)
 }
 
+/// A tool of a short name.
+const TOOL: Frame = Frame { name: b"t" };
+
 /// The status, the output and the errors of an answer, where there is so much room for them.
 fn ended(alloc: Global, out_room: usize, err_room: usize) -> Result<Bytes, NoMemory> {
     let answer = answer(alloc)?;
     let mut out = MemSink::new(alloc, out_room)?;
     let mut err = MemSink::new(alloc, err_room)?;
-    let status = write_answer(b"fault", &answer, &mut out, &mut err);
+    let status = answer.write(TOOL, &mut out, &mut err);
     joined(alloc, status, &out, &err)
 }
 
@@ -141,8 +144,8 @@ fn ended(alloc: Global, out_room: usize, err_room: usize) -> Result<Bytes, NoMem
 fn a_fault_of_the_output_is_told_once(rt: HostRuntime) -> Result<(), NoMemory> {
     for (out_room, err_room, due) in [
         (3, 3, "1 out err"),
-        (2, 9, "3 ou fault"),
-        (0, 2, "3  fa"),
+        (2, 30, "3 ou t: error: cannot write\n"),
+        (0, 2, "3  t:"),
         (3, 2, "3 out er"),
     ] {
         let ended = ended(rt.alloc(), out_room, err_room)?;

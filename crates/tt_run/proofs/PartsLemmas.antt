@@ -4,7 +4,7 @@ use Rattle.std.proofs.KnownBytes.{Appends-trans}
 use Rattle.tt_outside.specs.Transfer.{AppendsPart}
 use Rattle.std.proofs.lemmas.List.{append-nil}
 use Rattle.std.specs.Io.KnownBytes.{Appends}
-use Rattle.not_count.specs.Parts.{joined}
+use Rattle.tt_run.specs.Parts.{joined}
 use denote.Bor.{Bor}
 
 -- nothing was written

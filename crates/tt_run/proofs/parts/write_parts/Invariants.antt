@@ -1,7 +1,7 @@
 use Rattle.std.proofs.Common.{◌≡◌, ◌+◌, ◌≤◌, ◌++◌, ℕ, List, length, drop}
 use Rattle.std.specs.Io.KnownBytes.{Appends}
-use Rattle.not_count.specs.Parts.{joined}
-use Rattle.not_count.proofs.parts.answer_parts.Given as goal
+use Rattle.tt_run.specs.Parts.{joined}
+use Rattle.tt_run.proofs.parts.write_parts.Given as goal
 
 -- what was written and the parts that are left are the message
 abbrev pub invariant-loop-part : goal.invariant-loop-part
