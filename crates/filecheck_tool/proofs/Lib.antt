@@ -1,5 +1,5 @@
 pub mod FaultLemmas
-pub mod LieLemmas
+pub mod NumberLemmas
 pub mod ProgramLemmas
 pub mod TextLemmas
 pub mod VerdictLemmas

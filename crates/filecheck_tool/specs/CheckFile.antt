@@ -1,7 +1,7 @@
 -- The check file: its text and directives, or a refusal, and what is told of a directive.
 -- After LLVM Command Guide, FileCheck: the prefix with its suffix names a directive. Own rules: the file is read whole,
 -- and its first line that is refused refuses it; --implicit-check-not's directives are texts of their own, a line each.
-use Rattle.std.specs.Prelude.{◌≤◌, ◌^◌, ℕ, ◌+◌, ◌-◌, ◌&&◌, List, [], ◌++◌, codes, length, min, slice_get, slice_index_or, All, Option, Some, None, Result, Ok, Err}
+use Rattle.std.specs.Prelude.{◌<◌, ◌≤◌, ◌^◌, ℕ, ◌+◌, ◌-◌, ◌&&◌, List, [], ◌++◌, codes, length, min, slice_get, slice_index_or, All, Option, Some, None, Result, Ok, Err}
 use Rattle.check_lines.specs.Canonical.{canon}
 use Rattle.check_lines.specs.Checks.{IsPlaced, read_checks}
 use Rattle.check_lines.specs.Kind.{suffix_of}
@@ -71,6 +71,10 @@ pub record HasBodies (file : CheckFile) : Type 0 where
   pub placed : All (IsPlaced file.text (length file.asked.prefixes.checks)) file.directives
 
 -- ---- what is told of a directive, by its number: those of lines, and the implicit ones behind them
+
+-- a number is that of a directive
+abbrev pub IsNumber : CheckFile → ℕ → Type 0
+IsNumber file number = number < length file.directives + length file.asked.implicit
 
 -- the number of an implicit directive among them, from 0
 abbrev pub implicit_at : CheckFile → ℕ → ℕ

@@ -1,8 +1,10 @@
 -- The check file with its patterns, as a program or a refusal.
 -- After LLVM Command Guide, FileCheck: --ignore-case, --match-full-lines and -D. Own rule: the first body that is refused
 -- is told, and behind the bodies the first value of -D that defines nothing.
-use Rattle.std.specs.Prelude.{◌≡◌, ℕ, Bool, if◌then◌else◌, List, length, All, Result, Ok, Err}
+use Rattle.std.specs.Prelude.{◌≡◌, ℕ, Bool, if◌then◌else◌, List, ◌++◌, length, All, Result, Ok, Err}
 use Rattle.check_group.specs.Changes.{IsReady}
+use Rattle.check_group.specs.Lies.{numbers_of}
+use Rattle.check_group.specs.declared.directive.Check.{Check}
 use Rattle.check_program.specs.Compiled.{Body, Formats, IsProgram as HasPatterns, IsRefused, bodies_of}
 use Rattle.check_program.specs.declared.program.CompileOpts.{CompileOpts}
 use Rattle.check_program.specs.declared.program.Program.{Program as Patterns}
@@ -14,7 +16,7 @@ use Rattle.pattern_parse.specs.declared.fault.PatFault.{PatFault}
 use Rattle.pattern_parse.specs.declared.pattern.Frame.{Frame}
 use Rattle.pattern_parse.specs.declared.pattern.Frame.TheVariants.{Open, Spaced, Tight}
 use Rattle.pattern_vars.specs.declared.binding.Binding.{Binding}
-use Rattle.filecheck_tool.specs.CheckFile.{HasBodies, body_spot, check_file_read, start_behind}
+use Rattle.filecheck_tool.specs.CheckFile.{HasBodies, IsNumber, body_spot, check_file_read, start_behind}
 use Rattle.filecheck_messages.specs.Refusal.{LeadsTo, accepted}
 use Rattle.filecheck_messages.specs.Spot.{behind}
 use Rattle.filecheck_tool.specs.Start.{IsStart}
@@ -107,13 +109,19 @@ pub record IsSoundFile (file : CheckFile) : Type 0 where
   pub start : IsStart (start_behind file)
   pub bodies : HasBodies file
 
--- each directive's pattern can be sought
-pub record HasReady (parts : Parts) : Type 0 where
+-- directives are of a check file, by their numbers
+abbrev pub AreOf : CheckFile → List Check → Type 0
+AreOf file checks = All (IsNumber file) (numbers_of checks)
+
+-- each directive's pattern can be sought, and its number is one of the check file
+pub record HasReady (file : CheckFile) (parts : Parts) : Type 0 where
   pub ready : All (IsReady parts.vars) parts.checks
   pub always_ready : All (IsReady parts.vars) parts.always
+  pub numbers : AreOf file (parts.checks ++ parts.always)
 
--- and each directive's pattern can be sought
+-- and so of a program
 pub record IsSound (program : Program) : Type 0 where
   pub file : IsSoundFile program.file
   pub ready : All (IsReady program.vars) program.checks
   pub always_ready : All (IsReady program.vars) program.always
+  pub numbers : AreOf program.file (program.checks ++ program.always)

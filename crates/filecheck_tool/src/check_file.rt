@@ -1,7 +1,7 @@
 //! A check file: its text and its directives.
-ghost use Rattle.std.specs.Prelude.{◌≡◌, ◌≤◌, ◌-◌, ◌^◌, [], All, Contains, IfOk, IfSome, length, slice_get, slice_index_or};
+ghost use Rattle.std.specs.Prelude.{◌≡◌, ◌≤◌, ◌-◌, ◌^◌, [], All, Contains, IfOk, IfSome, None, length, slice_get, slice_index_or};
 ghost use Rattle.check_lines.specs.Checks.{IsPlaced};
-ghost use Rattle.filecheck_tool.specs.CheckFile.{HasBodies, body_spot, check_file_in, check_file_read, implicit_at, implicit_spot, kind_of, name_of, refusal_of, start_behind, whole, with_directives};
+ghost use Rattle.filecheck_tool.specs.CheckFile.{HasBodies, IsNumber, body_spot, check_file_in, check_file_read, implicit_spot, kind_of, name_of, refusal_of, start_behind, whole, with_directives};
 ghost use Rattle.filecheck_messages.specs.Refusal.{Gives, accepted};
 ghost use Rattle.filecheck_messages.specs.Spot.{spot_at};
 ghost use Rattle.tt_run.specs.Run.{IsShort};
@@ -147,9 +147,11 @@ fn bytes_at(all: &[Bytes], index: usize) -> &[u8]
     }
 }
 
+/// The directive of a number among those of lines, if it is one of these.
 fn directive_at(directives: &[Directive], number: usize) -> Option<Directive>
     ensures value { result ≡ slice_get directives.now number }
     ensures among { IfSome result (Contains directives.now) }
+    ensures past { result ≡ None → length directives.now ≤ number }
 {
     directives.get(number).copied()
 }
@@ -188,27 +190,18 @@ fn implicit_spot(alloc: Global, body: &[u8], index: usize) -> Result<Spot, NoMem
 }
 
 impl CheckFile {
-    /// The number of an implicit directive among them, from 0.
-    fn implicit_at(&self, number: usize) -> usize
-        ensures { result ≡ implicit_at self.now number }
-    {
-        number.saturating_sub(self.directives.len())
-    }
-
     /// Where the body of a directive begins, by its number; the implicit ones are behind those of lines.
     pub(crate) fn body_spot(&self, alloc: Global, number: usize) -> Result<Spot, NoMemory>
-        requires { HasBodies self.now }
+        requires bodies { HasBodies self.now }
+        requires number { IsNumber self.now number }
         ensures { IfOk result (λ spot. spot ≡ body_spot self.now number) }
     {
         match directive_at(self.directives.as_slice(), number) {
             Some(directive) => line_spot(alloc, self, directive),
             None => {
-                let index = self.implicit_at(number);
-                implicit_spot(
-                    alloc,
-                    bytes_at(self.asked.implicit.as_slice(), index),
-                    index,
-                )
+                let index = number - self.directives.len();
+                let body = self.asked.implicit.as_slice()[index].as_slice();
+                implicit_spot(alloc, body, index)
             }
         }
     }
@@ -225,12 +218,13 @@ impl CheckFile {
 
     /// The name by which a directive is told, by its number: its prefix with its suffix.
     pub(crate) fn name_of(&self, alloc: Global, number: usize) -> Result<Bytes, NoMemory>
+        requires { HasBodies self.now }
         ensures { IfOk result (λ name. name ≡ name_of self.now number) }
     {
         match directive_at(self.directives.as_slice(), number) {
             Some(directive) => {
-                let prefix = bytes_at(self.asked.prefixes.checks.as_slice(), directive.prefix);
-                let mut name = Bytes::from_slice(alloc, prefix)?;
+                let prefix = &self.asked.prefixes.checks.as_slice()[directive.prefix];
+                let mut name = Bytes::from_slice(alloc, prefix.as_slice())?;
                 name.append(row_of(directive.kind).suffix)?;
                 Ok(name)
             }

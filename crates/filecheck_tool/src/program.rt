@@ -1,8 +1,8 @@
 //! The check file with its patterns.
-ghost use Rattle.std.specs.Prelude.{◌≡◌, ◌^◌, IfOk};
+ghost use Rattle.std.specs.Prelude.{◌≡◌, ◌^◌, ◌++◌, IfOk};
 ghost use Rattle.check_program.specs.Ready.{IsScannable};
-ghost use Rattle.filecheck_tool.specs.CheckFile.{HasBodies};
-ghost use Rattle.filecheck_tool.specs.Program.{ArePatterns, HasReady, IsCompiledTo, IsCompiledWith, IsDefinedWith, IsProgram, IsSound, IsSoundFile, bad_body, frame_by, fresh_of, joined, started};
+ghost use Rattle.filecheck_tool.specs.CheckFile.{HasBodies, IsNumber};
+ghost use Rattle.filecheck_tool.specs.Program.{AreOf, ArePatterns, HasReady, IsCompiledTo, IsCompiledWith, IsDefinedWith, IsProgram, IsSound, IsSoundFile, bad_body, frame_by, fresh_of, joined, started};
 ghost use Rattle.filecheck_messages.specs.Refusal.{Ends};
 ghost use Rattle.filecheck_tool.specs.Start.{IsStart};
 ghost use Rattle.tt_run.specs.Run.{IsShort};
@@ -76,7 +76,7 @@ fn compiled(alloc: Global, file: CheckFile) -> Result<Program, StepFail>
 fn parts_of(alloc: Global, file: &CheckFile) -> Result<Parts, StepFail>
     requires { HasBodies file.now }
     ensures value { Ends (joined file.now result) (IsCompiledTo file.now) }
-    ensures ready { IfOk result HasReady }
+    ensures ready { IfOk result (HasReady file.now) }
 {
     let values = defined_by(alloc, file.asked.defines.as_slice())?;
     parts_with(alloc, file, values)
@@ -87,7 +87,7 @@ fn parts_of(alloc: Global, file: &CheckFile) -> Result<Parts, StepFail>
 fn parts_with(alloc: Global, file: &CheckFile, values: Defined) -> Result<Parts, StepFail>
     requires { HasBodies file.now }
     ensures value { Ends (joined file.now result) (IsCompiledWith file.now values) }
-    ensures ready { IfOk result HasReady }
+    ensures ready { IfOk result (HasReady file.now) }
 {
     let Defined { mut known, fresh } = values;
     let patterns = patterns_of(alloc, file, &mut known)?;
@@ -102,7 +102,7 @@ fn begun(
 ) -> Result<Parts, StepFail>
     requires { IsScannable patterns }
     ensures value { (file : CheckFile) → Ends (joined file result) (IsDefinedWith file patterns (fresh_of fresh)) }
-    ensures ready { IfOk result HasReady }
+    ensures ready { (file : CheckFile) → AreOf file (patterns.checks ++ patterns.always) → IfOk result (HasReady file) }
 {
     match fresh {
         Ok(fresh) => Ok(started(alloc, patterns, fresh)?),
@@ -114,7 +114,7 @@ fn begun(
 fn started(alloc: Global, patterns: Patterns, fresh: Bindings) -> Result<Parts, NoMemory>
     requires { IsScannable patterns }
     ensures value { IfOk result (λ parts. parts ≡ started patterns fresh) }
-    ensures ready { IfOk result HasReady }
+    ensures ready { (file : CheckFile) → AreOf file (patterns.checks ++ patterns.always) → IfOk result (HasReady file) }
 {
     let Patterns {
         checks,
@@ -176,7 +176,8 @@ fn bad_body(
     number: usize,
     fault: PatFault,
 ) -> Result<Refusal, NoMemory>
-    requires { HasBodies file.now }
+    requires bodies { HasBodies file.now }
+    requires number { IsNumber file.now number }
     ensures { IfOk result (λ refusal. refusal ≡ bad_body file.now number fault) }
 {
     let spot = file.body_spot(alloc, number)?;

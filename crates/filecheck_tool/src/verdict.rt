@@ -1,9 +1,9 @@
 //! Whether the input has what the check file asks for.
-ghost use Rattle.std.specs.Prelude.{◌≡◌, ◌≤◌, ◌<◌, ◌^◌, ◌∷◌, ◌++◌, [], All, IfOk, OnOk, length};
+ghost use Rattle.std.specs.Prelude.{◌≡◌, ◌≤◌, ◌<◌, ◌^◌, ◌∷◌, ◌++◌, [], All, Contains, IfOk, OnOk, length};
 ghost use Rattle.check_group.specs.Changes.{IsReady};
-ghost use Rattle.check_group.specs.Lies.{OffsetsLie};
+ghost use Rattle.check_group.specs.Lies.{FaultLies, OffsetsLie, numbers_of};
 ghost use Rattle.check_scan.specs.Verdict.{scan};
-ghost use Rattle.filecheck_tool.specs.CheckFile.{HasBodies};
+ghost use Rattle.filecheck_tool.specs.CheckFile.{HasBodies, IsNumber};
 ghost use Rattle.filecheck_tool.specs.Program.{IsSound};
 ghost use Rattle.filecheck_messages.specs.Refusal.{Gives, accepted};
 ghost use Rattle.filecheck_tool.specs.Verdict.{both_notes, filled, finding_of, findings_of, input_name, made_of, note_at, notes_of, one_note, report_of, told_times, verdict, verdict_read};
@@ -111,7 +111,7 @@ fn report_of(
 ) -> Result<Report, NoMemory>
     requires bodies { HasBodies file.now }
     requires short { length input.now ≤ 2 ^ 30 }
-    requires lie { All (λ fault. OffsetsLie (length input.now) fault.kind) faults }
+    requires lie { All (FaultLies (IsNumber file.now) (length input.now)) faults }
     ensures { IfOk result (λ report. report ≡ report_of file.now.made file.now count input.now faults) }
 {
     match file.made {
@@ -131,7 +131,8 @@ fn faults_in(
     requires always_ready { All (IsReady vars.old) subject.now.always.now }
     ensures value { IfOk result (λ faults. faults
         ≡ (scan checks.now subject.now.always.now scope subject.now.text.now vars.old).faults) }
-    ensures lie { IfOk result (All (λ fault. OffsetsLie (length subject.now.text.now) fault.kind)) }
+    ensures lie { IfOk result
+        (All (FaultLies (Contains (numbers_of (checks.now ++ subject.now.always.now))) (length subject.now.text.now))) }
 {
     faults_by::<Brand>(subject, checks, scope, vars, Blank::new(1))
 }
@@ -150,7 +151,8 @@ fn faults_by<L: Ledger>(
     requires always_ready { All (IsReady vars.old) subject.now.always.now }
     ensures value { IfOk result (λ faults. faults
         ≡ (scan checks.now subject.now.always.now scope subject.now.text.now vars.old).faults) }
-    ensures lie { IfOk result (All (λ fault. OffsetsLie (length subject.now.text.now) fault.kind)) }
+    ensures lie { IfOk result
+        (All (FaultLies (Contains (numbers_of (checks.now ++ subject.now.always.now))) (length subject.now.text.now))) }
 {
     let mut steps = Steps::<L>::new(blank);
     let verdict = scan(subject, checks, scope, vars, &mut steps)?;
@@ -177,7 +179,7 @@ fn findings_of(
 ) -> Result<Items<Finding>, NoMemory>
     requires bodies { HasBodies file.now }
     requires short { length input.now ≤ 2 ^ 30 }
-    requires lie { All (λ fault. OffsetsLie (length input.now) fault.kind) faults }
+    requires lie { All (FaultLies (IsNumber file.now) (length input.now)) faults }
     ensures { IfOk result (λ findings. findings ≡ findings_of file.now input.now faults) }
 {
     let mut findings = Items::new(alloc);
@@ -195,7 +197,7 @@ fn finding_of(
 ) -> Result<Finding, NoMemory>
     requires bodies { HasBodies file.now }
     requires short { length input.now ≤ 2 ^ 30 }
-    requires lies { OffsetsLie (length input.now) fault.kind }
+    requires lies { FaultLies (IsNumber file.now) (length input.now) fault }
     ensures { IfOk result (λ finding. finding ≡ finding_of file.now input.now fault) }
 {
     Ok(Finding {

@@ -1,8 +1,8 @@
 use Rattle.std.proofs.Common.{◌∙◌, ◌++◌, [], ◌∷◌, All, length, append_assoc, ap, subst, sym}
 use Rattle.std.proofs.lemmas.List.Elements.{All-tail}
 use Rattle.std.specs.Vec.Iter.{into_iter_items}
-use Rattle.check_group.specs.Lies.{OffsetsLie}
-use Rattle.check_group.specs.declared.fault.Fault.{Fault}
+use Rattle.check_group.specs.Lies.{FaultLies}
+use Rattle.filecheck_tool.specs.CheckFile.{IsNumber}
 use Rattle.filecheck_tool.specs.Verdict.{findings_of}
 use Rattle.filecheck_tool.proofs.verdict.findings_of.Goals as goal
 
@@ -12,7 +12,7 @@ loop-fault-preserved c =
     let input = c.args.input.now in
     let found = c.loop-fault.findings in
     let rest = into_iter_items c.next.new.self in
-    let lies = λ (fault : Fault). OffsetsLie (length input) fault.kind in
+    let lies = FaultLies (IsNumber file) (length input) in
     let next = c.in-Some.ensures.steps.0 in
     record {
       lie = All-tail lies c.in-Some.fault rest (subst (All lies) next c.loop-fault.invariant.lie);
