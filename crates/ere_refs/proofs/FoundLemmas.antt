@@ -24,7 +24,7 @@ use Rattle.std.proofs.lemmas.Option.{none-some}
 use Rattle.ere_tree.specs.View.{view}
 use Rattle.std.specs.Prelude.{◌-◌}
 use Rattle.ere_tree.specs.declared.hit.Cap.{Cap}
-use Rattle.ere_refs.proofs.ListedLemmas.{AreOverFirst, ArePut, in_choice, in_group, over_all_choices, over_enough, over_more_choices}
+use Rattle.ere_refs.proofs.ListedLemmas.{alone, AreOverFirst, ArePut, in_choice, in_group, over_all_choices, over_enough, over_more_choices}
 use Rattle.ere_refs.specs.Lists.{AreOver, HasLike, IsPut, Listed, TellsAll, lists_of}
 use Rattle.ere_refs.specs.Machine.{AgreeOn, PutsAll, SetsGroup, PutsCaps, caps_at}
 use Rattle.ere_refs.specs.Site.{AreLong}
@@ -140,6 +140,11 @@ choice_listed start count n (y ∷ ys) = λ i. caps_of start y.1 count ∷ choic
 pub none_of : {X : Type 0} (xs : List X) → length xs ≡ 0 → xs ≡ []
 none_of [] e = refl
 none_of (x ∷ xs) e = absurd (omega (arith, e))
+
+-- the lists of one part alone are those of the part
+pub alone_listed : (start count j : ℕ) (ys : Listed) → lists_of start count ys ≡ lists_of start count (map (alone j) ys)
+alone_listed start count j [] = refl
+alone_listed start count j (y ∷ ys) = λ i. caps_of start y.1 count ∷ alone_listed start count j ys i
 
 -- TREES
 

@@ -334,6 +334,25 @@ fn over_row(
     finish(progress, tries)
 }
 
+/// The lists of parts one behind the other. A single part ends where they do, so that no other end of it is tried.
+#[cycle(lists)]
+fn over_parts(
+    parts: &[Ere],
+    site: Site<'_, '_, '_>,
+    tries: &mut Tries,
+) -> Result<Vec<Held>, AllocError>
+    requires room { HasRoom (length site.caps.now) (trees.cat (trees_of (map view parts.now))) }
+    requires site { IsSite site }
+    ensures { IfOk result (ListsAt site.entry (trees.cat (trees_of (map view parts.now)))) }
+{
+    if let Some((one, others)) = parts.split_first() {
+        if others.is_empty() {
+            return over(one, false, site, tries);
+        }
+    }
+    over_row(Row::Parts(parts), site, tries)
+}
+
 /// Puts lists behind others, each unless there is what agrees with it.
 fn put_all(
     found: &mut Kept,
@@ -470,7 +489,7 @@ pub(crate) fn over(
         return over_free(ere, known, site, tries);
     }
     match ere {
-        Ere::Cat(parts) => over_row(Row::Parts(parts.as_slice()), site, tries),
+        Ere::Cat(parts) => over_parts(parts.as_slice(), site, tries),
         Ere::Repeat { inner, least, most } => {
             over_row(Row::Members(inner, *least, *most), site, tries)
         }

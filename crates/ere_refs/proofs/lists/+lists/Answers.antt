@@ -1,7 +1,7 @@
 -- Lists of what groups hold, over each form of an expression: each answer turns what the functions called say into what is said
 -- of the whole, by a lemma of MachineLemmas or FoundLemmas. The hard ones are those of `advance`, where a state's list stands for
 -- the one before the row.
-use Rattle.std.proofs.Common.{OnOk, ◌≡◌, ℕ, suc, ◌+◌, ◌-◌, Option, List, [], ◌∷◌, ◌++◌, Vec, Global, length, map, get_or, true, true≢false, eqb-true, sym, ap, ◌∙◌, subst, arith}
+use Rattle.std.proofs.Common.{◌<◌, OnOk, ◌≡◌, ℕ, suc, ◌+◌, ◌-◌, Option, List, [], ◌∷◌, ◌++◌, Vec, Global, length, map, get_or, true, true≢false, eqb-true, sym, ap, ◌∙◌, subst, arith}
 use Rattle.std.specs.Prelude.{IfOk, reverse}
 use Rattle.std.proofs.lemmas.Bool.{leb-true, ltb-true}
 use Rattle.std.proofs.lemmas.List.{get_or-map, length-map}
@@ -10,11 +10,12 @@ use Rattle.std.proofs.lemmas.Result.{IfOk-weaker, on_ok_weaker}
 use Rattle.std.specs.List.{All, AllZip, Contains}
 use Rattle.ere_captures.proofs.WalkLemmas.{room_at}
 use Rattle.ere_tree.proofs.ViewLemmas.{view_Ref}
-use Rattle.ere_tree.specs.Tree.{Tree, alt, trees_of}
+use Rattle.ere_tree.specs.Tree.{Tree, alt, cat, trees_of}
 use Rattle.ere_tree.specs.View.{view}
+use Rattle.ere_tree.specs.declared.ere.Ere.{Ere}
 use Rattle.ere_tree.specs.declared.hit.Cap.{Cap}
-use Rattle.ere_refs.proofs.FoundLemmas.{alt_tree, cat_tree, first_all, first_enough, first_more, group_tree, none_long, none_of, puts_long, repeat_tree, set_listed, set_long, tells_none, unset_anchor, unset_text}
-use Rattle.ere_refs.proofs.ListedLemmas.{in_group, over_group, over_no_choice, over_none}
+use Rattle.ere_refs.proofs.FoundLemmas.{alone_listed, alt_tree, cat_tree, first_all, first_enough, first_more, group_tree, none_long, none_of, puts_long, repeat_tree, set_listed, set_long, tells_none, unset_anchor, unset_text}
+use Rattle.ere_refs.proofs.ListedLemmas.{alone, in_group, over_alone, over_group, over_no_choice, over_none}
 use Rattle.ere_refs.proofs.MachineLemmas.{at_high, last_fits, new_fit, stands_done, stands_enough, stands_leave, stands_next, stands_start, still_fits}
 use Rattle.ere_refs.proofs.OverLemmas.{both_left, both_right, known_end, nodes_at, not_end}
 use Rattle.ere_refs.proofs.RowLemmas.{refs_at}
@@ -256,6 +257,52 @@ over_row-returns t c =
       subst (AreLong (count_in course)) (sym is) c.in_ok-run.ensures.1,
     )) c.finish.ensures
 
+-- ONE PART ALONE
+
+pub over_parts-over-requires : goal.over_parts-over-requires
+over_parts-over-requires t c =
+    let items = c.args.parts.now in
+    let one = c.in-Some.one.now in
+    let count = length c.args.site.caps.now in
+    let cases = c.in-Some.ensures.cases.0 in
+    let long = ap length cases in
+    let low : 0 < length items = omega (arith, long) in
+    let is : one ≡ get_or items 0 one = sym (ap (λ (xs : List Ere). get_or xs 0 one) cases) in
+    let size = nodes_at items 0 one low is in (
+      omega (arith, c.decreases, size),
+      (
+        (λ no. absurd (true≢false (sym no))),
+        (
+          (refs_at count items 0 one low is c.requires.room.0, room_at items 0 one count low is c.requires.room.1),
+          c.requires.site,
+        ),
+      ),
+    )
+
+pub over_parts-returns-then-is_empty : goal.over_parts-returns-then-is_empty
+over_parts-returns-then-is_empty t c =
+    let site = c.args.site in
+    let s = site.text.now in
+    let part = site.part in
+    let count = length site.caps.now in
+    let P = Contains site.live.now in
+    let one = c.in-Some.one.now in
+    let none = none_of c.in-Some.others.now
+    (eqb-true (length c.in-Some.others.now) 0 (sym c.is_empty.ensures ∙ c.if-is_empty.true)) in
+    let tree = sym (ap (λ (xs : List Ere). cat (trees_of (map view xs))) (c.in-Some.ensures.cases.0 ∙ ap (λ ys. one ∷ ys) none)) in
+    IfOk-weaker c.over.result (ListsAt site (view one)) (ListsAt site (cat (trees_of (map view c.args.parts.now))))
+    (λ found lists. (
+      λ d is.
+          let all = lists.0 d is in
+          subst (λ u. (xs : Listed) × AreOver s u part.from part.to d P xs
+          × (map (λ held. held.items) found.items ≡ lists_of part.start count xs)) tree (
+            map (alone part.to) all.0,
+            over_alone s (view one) part.from part.to d P all.0 c.requires.site.1 all.1,
+            all.2 ∙ alone_listed part.start count part.to all.0,
+          ),
+      lists.1,
+    )) c.over.ensures
+
 -- ALTERNATIVES
 
 pub over_one-loop-one-init : goal.over_one-loop-one-init
@@ -355,14 +402,14 @@ over_one-returns t c =
 
 -- ONE EXPRESSION
 
-pub over-over_row-requires : goal.over-over_row-requires
-over-over_row-requires t c =
+pub over-over_parts-requires : goal.over-over_parts-requires
+over-over_parts-requires t c =
     let tree = sym (cat_tree c.args.ere.now c.in-Cat.parts c.as_slice.result.now c.as_slice.ensures c.in-Cat.is) in
     let size = ap nodes tree in
     (omega (arith, c.decreases, size), (subst (HasRoom (length c.args.site.caps.now)) tree c.requires.room, c.requires.site))
 
-pub over-over_row-requires-in-Repeat : goal.over-over_row-requires-in-Repeat
-over-over_row-requires-in-Repeat t c =
+pub over-over_row-requires : goal.over-over_row-requires
+over-over_row-requires t c =
     let tree = sym (repeat_tree c.args.ere.now c.in-Repeat.inner c.in-Repeat.least c.in-Repeat.most c.deref.result.now
     c.deref.ensures c.in-Repeat.is) in
     let size = ap nodes tree in
@@ -397,14 +444,14 @@ over-set_all-requires-clause-number t c = λ k d low.
 
 pub over-returns-in-Cat : goal.over-returns-in-Cat
 over-returns-in-Cat t c =
-    subst (λ (u : Tree). IfOk c.over_row.result (ListsAt c.args.site u))
-    (cat_tree c.args.ere.now c.in-Cat.parts c.as_slice.result.now c.as_slice.ensures c.in-Cat.is) c.over_row.ensures
+    subst (λ (u : Tree). IfOk c.over_parts.result (ListsAt c.args.site u))
+    (cat_tree c.args.ere.now c.in-Cat.parts c.as_slice.result.now c.as_slice.ensures c.in-Cat.is) c.over_parts.ensures
 
 pub over-returns-in-Repeat : goal.over-returns-in-Repeat
 over-returns-in-Repeat t c =
-    subst (λ (u : Tree). IfOk c.over_row-in-Repeat.result (ListsAt c.args.site u))
+    subst (λ (u : Tree). IfOk c.over_row.result (ListsAt c.args.site u))
     (repeat_tree c.args.ere.now c.in-Repeat.inner c.in-Repeat.least c.in-Repeat.most c.deref.result.now c.deref.ensures
-    c.in-Repeat.is) c.over_row-in-Repeat.ensures
+    c.in-Repeat.is) c.over_row.ensures
 
 pub over-returns-in-Alt : goal.over-returns-in-Alt
 over-returns-in-Alt t c =

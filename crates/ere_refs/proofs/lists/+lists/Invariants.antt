@@ -28,22 +28,25 @@ invariant-over_one-loop-one l = record {
 
 -- down the tree, along what stands in a row
 abbrev pub decreases-over : goal.decreases-over
-decreases-over l = 5 * nodes (view l.ere.now)
+decreases-over l = 6 * nodes (view l.ere.now)
 
 abbrev pub decreases-over_one : goal.decreases-over_one
-decreases-over_one l = 5 * nodes_of (trees_of (map view l.choices.now))
+decreases-over_one l = 6 * nodes_of (trees_of (map view l.choices.now))
 
 abbrev pub decreases-over_row : goal.decreases-over_row
-decreases-over_row l = 5 * row_nodes l.row + 4
+decreases-over_row l = 6 * row_nodes l.row + 4
+
+abbrev pub decreases-over_parts : goal.decreases-over_parts
+decreases-over_parts l = 6 * nodes_of (trees_of (map view l.parts.now)) + 5
 
 abbrev pub decreases-run : goal.decreases-run
-decreases-run l = 5 * row_nodes l.course.row + 3
+decreases-run l = 6 * row_nodes l.course.row + 3
 
 abbrev pub decreases-advance : goal.decreases-advance
-decreases-advance l = 5 * row_nodes l.course.row + 1
+decreases-advance l = 6 * row_nodes l.course.row + 1
 
 abbrev pub decreases-over_end : goal.decreases-over_end
-decreases-over_end l = 5 * nodes (view l.ere.now) + 1
+decreases-over_end l = 6 * nodes (view l.ere.now) + 1
 
 abbrev pub decreases-step : goal.decreases-step
-decreases-step l = 5 * row_nodes l.course.row + 2
+decreases-step l = 6 * row_nodes l.course.row + 2
