@@ -1,21 +1,19 @@
 #!/usr/bin/env python3
 """Times filecheck on regular expressions that are nowhere, hostile, large or refer back, and LLVM's FileCheck beside it.
 
-    benches/expressions.py [--mib N] [--rounds N] [--only WORD] [--limit SECONDS] [PROGRAM]
+    benches/expressions.py [--mib N] [--rounds N] [--only WORD] [--limit SECONDS] [--processor] [PROGRAM]
 
 PROGRAM is the program to time; without it, the one that ./run builds. Each case is one CHECK or CHECK-NOT; time is the
-wall time of a whole run, reading included, the best of the rounds. Nanoseconds a byte are those beyond a run on the same
-text that seeks plain text alone. A program that takes longer than the limit is stopped, and isn't tried again. The last
-column tells whether ours keeps the goal of the case.
+wall time of a whole run, reading included, the best of the rounds; with --processor it is that of a processor, for a
+machine that others use. Nanoseconds a byte are those beyond a run on the same text that seeks plain text alone. A
+program that takes longer than the limit is stopped, and isn't tried again. The last column tells whether ours keeps the
+goal of the case.
 """
 import argparse
 import os
-import subprocess
 import tempfile
-import threading
-import time
 
-from filecheck import MIB, SHAPES, built, other_programs, peak, write_input, write_shape
+from filecheck import BY_PROCESSOR, MIB, SHAPES, built, other_programs, peak, time_of, write_input, write_shape
 
 KIB = 1 << 10
 # (A body has at most 65,536 bytes.)
@@ -50,18 +48,40 @@ HOSTILE = [
 ]
 
 
-# An expression with references that stands nowhere in a line, where it has many ways to begin.
+# Nine recalls of three definitions.
+RECALLS = "[[A:[a-z]+]] [[B:[a-z]+]] [[C:[a-z]+]] [[A]] [[B]] [[C]] [[C]] [[B]] [[A]] [[B]] [[A]] [[C]]"
+RECALLED = "foo bar baz foo bar baz baz bar foo bar foo"
+# Expressions with references: a directive's body, its status, a text, and the most seconds and MiB.
 REFERRING = [
-    ("`[[X:x]]{{(aa?)+}}[[X]]b` in an x, 42 a and a b", "[[X:x]]{{(aa?)+}}[[X]]b", 1, "x" + "a" * 42 + "b"),
-    ("`[[X:a+]][[X]]b` in 2,000 a, a blank and a b", "[[X:a+]][[X]]b", 1, "a" * 2000 + " b"),
-    ("`(a*)*\\1b` in 2,000 a", "{{(a*)*\\1b}}", 1, "a" * 2000),
-    ("`[[X:a+]][[X]]b` in 2,000 a and a b", "[[X:a+]][[X]]b", 0, "a" * 2000 + "b"),
+    ("`[[X:x]]{{(aa?)+}}[[X]]b` in an x, 42 a and a b", "[[X:x]]{{(aa?)+}}[[X]]b", 1, "x" + "a" * 42 + "b", 0.01, 4),
+    ("`[[X:x]]{{(aa?)+}}[[X]]b` in an x, 42 a, an x and a b", "[[X:x]]{{(aa?)+}}[[X]]b", 0, "x" + "a" * 42 + "xb", 0.01, 4),
+    ("`[[X:a+]][[X]]b` in 2,000 a", "[[X:a+]][[X]]b", 1, "a" * 2000, 0.01, 4),
+    ("`[[X:a+]][[X]]b` in 2,000 a, a blank and a b", "[[X:a+]][[X]]b", 1, "a" * 2000 + " b", 0.01, 4),
+    ("`[[X:a+]][[X]]b` in 2,000 a and a b", "[[X:a+]][[X]]b", 0, "a" * 2000 + "b", 0.01, 4),
+    ("`(a*)*\\1b` in 2,000 a", "{{(a*)*\\1b}}", 1, "a" * 2000, 0.05, 16),
+    ("`(a*)*\\1b` in 2,000 a and a b", "{{(a*)*\\1b}}", 0, "a" * 2000 + "b", 2, 16),
+    ("`(x+)(y+)\\2\\1z` in 1,000 bytes", "{{(x+)(y+)\\2\\1z}}", 0, "x" * 250 + "y" * 500 + "x" * 249 + "z", 0.05, 16),
+    ("`(x+)(y+)\\2\\1z` in 1,000 bytes, nowhere", "{{(x+)(y+)\\2\\1z}}", 1, "x" * 250 + "y" * 499 + "x" * 249 + " z", 0.05, 16),
+    ("nine recalls of three definitions", RECALLS, 0, RECALLED + " baz", 0.05, 16),
+    ("nine recalls of three definitions, nowhere", RECALLS, 1, RECALLED + " foo", 0.05, 16),
+    ("nine recalls of three `a+` in 60 a and a b", "[[A:a+]][[B:a+]][[C:a+]][[A]][[B]][[C]][[C]][[B]][[A]][[B]][[A]][[C]]b", 0,
+     "a" * 60 + "b", 0.05, 16),
 ]
+# LLVM IR in which one line alone adds to what it defines.
+ADDS = "  %r{k} = add i32 %r{k}0, 1\n  store i32 %r{k}, ptr %p{k}, align 4\n  br label %for.body.{k}\n\n"
+ADDED = "[[R:%[a-z0-9]+]] = add i32 [[R]], 1"
 
 
 def write_text(path, text):
     with open(path, "w") as out:
         out.write(text + "\n")
+
+
+def write_adds(path, is_there):
+    """One MiB of LLVM IR, at the end of which a line may add to what it defines."""
+    write_shape(path, MIB, ADDS)
+    with open(path, "a") as out:
+        out.write("  %last = add i32 %last, 1\n" if is_there else "")
 
 
 def write_line(path, letter, size, end):
@@ -95,8 +115,10 @@ def cases(mib):
     yield "NOT `%[[R:[a-z]+]] = %[[R]]` in 1 MiB", "CHECK-NOT: %[[R:[a-z]+]] = %[[R]]", 0, one, (0.05, None, None, None)
     yield "NOT `[[R:[a-z]+]] = [[R]]x` in 1 MiB", "CHECK-NOT: [[R:[a-z]+]] = [[R]]x", 0, one, (None, None, None, None)
     yield "NOT `[[X:%.*]] .. [[X]]` in 1 MiB", "CHECK-NOT: [[X:%.*]] .. [[X]]", 0, one, (None, None, None, None)
-    for title, body, status, text in REFERRING:
-        yield title, f"CHECK: {body}", status, lambda path, text=text: write_text(path, text), (0.01, None, None, 4)
+    for title, body, status, text, seconds, mib_most in REFERRING:
+        yield title, f"CHECK: {body}", status, lambda path, text=text: write_text(path, text), (seconds, None, None, mib_most)
+    yield f"`{ADDED}` at the end of 1 MiB", f"CHECK: {ADDED}", 0, lambda path: write_adds(path, True), (None, None, 1, None)
+    yield f"NOT `{ADDED}` in 1 MiB", f"CHECK-NOT: {ADDED}", 0, lambda path: write_adds(path, False), (None, None, 1, None)
     yield "an expression of size 98,000", "CHECK-NOT: {{((([ab]{95}c){250}){4})}}", 0, short, (0.1, None, None, 200)
     yield "16,000 sets", f"CHECK-NOT: {{{{{'[ab]' * 16000}}}}}", 0, short, (0.1, None, None, 200)
 
@@ -109,18 +131,11 @@ def short(path):
 
 
 def timed(command, text, status, rounds, limit):
-    """The best wall time of a command; 'over' where it takes longer than the limit, and its status where it's another."""
+    """The best time of a command; 'over' where it takes longer than the limit, and its status where it's another."""
     best = float("inf")
     for _ in range(rounds):
-        with open(text, "rb") as source:
-            begun = time.perf_counter()
-            process = subprocess.Popen(command, stdin=source, stdout=subprocess.DEVNULL, stderr=subprocess.DEVNULL)
-            watch = threading.Timer(limit, process.kill)
-            watch.start()
-            ended = process.wait()
-            took = time.perf_counter() - begun
-            watch.cancel()
-        if took > limit:
+        took, ended = time_of(command, text, limit)
+        if ended < 0:
             return f"over {limit:g} s"
         if ended != status:
             return f"status {ended}"
@@ -147,8 +162,10 @@ def main():
     wants.add_argument("--rounds", type=int, default=3, help="runs of a case, of which the best counts (3)")
     wants.add_argument("--only", default="", help="the cases whose title has this")
     wants.add_argument("--limit", type=float, default=60, help="seconds after which a program is stopped (60)")
+    wants.add_argument("--processor", action="store_true", help="the time of a processor in place of the wall's")
     wants.add_argument("program", nargs="?", help="the program to time")
     given = wants.parse_args()
+    BY_PROCESSOR[0] = given.processor
     ours = given.program or built("filecheck")
     os.environ.pop("FILECHECK_OPTS", None)
     print("| case | ours | ns a byte | memory | LLVM | ours / LLVM | goal kept |\n" + "|---" * 7 + "|")

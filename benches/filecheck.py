@@ -17,6 +17,7 @@ import shutil
 import subprocess
 import sys
 import tempfile
+import threading
 import time
 
 TOP = os.path.dirname(os.path.dirname(os.path.realpath(__file__)))
@@ -198,14 +199,30 @@ def built(name):
     return ran.stdout.strip()
 
 
-def run_once(command, text, status):
-    """The wall time of one run in seconds."""
+# Whether a run's time is that of a processor, as where others use the machine, and not the wall's.
+BY_PROCESSOR = [False]
+
+
+def time_of(command, text, limit=None):
+    """The time of one run in seconds, and its status. Past a limit by the wall it is ended."""
     with open(text, "rb") as source:
         begun = time.perf_counter()
-        ended = subprocess.run(command, stdin=source, stdout=subprocess.DEVNULL, stderr=subprocess.DEVNULL)
-        took = time.perf_counter() - begun
-    if ended.returncode != status:
-        sys.exit(f"{command[0]}: status {ended.returncode} on {text}, not {status}")
+        process = subprocess.Popen(command, stdin=source, stdout=subprocess.DEVNULL, stderr=subprocess.DEVNULL)
+        watch = threading.Timer(limit or 0, process.kill)
+        if limit:
+            watch.start()
+        _, status, usage = os.wait4(process.pid, 0)
+        took = usage.ru_utime + usage.ru_stime if BY_PROCESSOR[0] else time.perf_counter() - begun
+        watch.cancel()
+    process.returncode = os.waitstatus_to_exitcode(status)
+    return took, process.returncode
+
+
+def run_once(command, text, status):
+    """The time of one run in seconds."""
+    took, ended = time_of(command, text)
+    if ended != status:
+        sys.exit(f"{command[0]}: status {ended} on {text}, not {status}")
     return took
 
 

@@ -1,7 +1,7 @@
 #!/usr/bin/env python3
 """Times filecheck on patterns, groups, regions and blocks, and LLVM's FileCheck beside it where that is installed.
 
-    benches/patterns.py [--mib N] [--rounds N] [--only WORD] [PROGRAM]
+    benches/patterns.py [--mib N] [--rounds N] [--only WORD] [--processor] [PROGRAM]
 
 PROGRAM is the program to time; without it, the one that ./run builds. It measures as benches/filecheck.py does.
 """
@@ -9,7 +9,7 @@ import argparse
 import os
 import tempfile
 
-from filecheck import MIB, built, other_programs, row, write_input
+from filecheck import BY_PROCESSOR, MIB, built, other_programs, row, write_input
 
 
 def write_generated(checks, text, count, value="[0-9]+"):
@@ -116,8 +116,10 @@ def main():
     wants.add_argument("--mib", type=int, default=60, help="size of the large inputs (60)")
     wants.add_argument("--rounds", type=int, default=5, help="runs of a case, of which the best counts (5)")
     wants.add_argument("--only", default="", help="the cases whose title has this")
+    wants.add_argument("--processor", action="store_true", help="the time of a processor in place of the wall's")
     wants.add_argument("program", nargs="?", help="the program to time")
     given = wants.parse_args()
+    BY_PROCESSOR[0] = given.processor
     ours = given.program or built("filecheck")
     os.environ.pop("FILECHECK_OPTS", None)
     others = other_programs()[:1]

@@ -1,4 +1,6 @@
 -- Lists of what groups hold: what one of them has at an index, and the text that this is.
+-- A list is made of captures from 1 on, so its items tell these, with offsets of the text in which the slice begins.
+-- The hard one is the index: a list counts from 0, and groups from 1.
 use Rattle.std.proofs.Common.{◌≡◌, ℕ, ◌+◌, ◌-◌, ◌<◌, ◌≤◌, Option, Some, None, List, length, get_or, refl, sym, ap, ◌∙◌, arith}
 use Rattle.std.proofs.lemmas.List.FromFn.{get_or-map-range_with_len}
 use Rattle.std.proofs.lemmas.Option.{none-some}

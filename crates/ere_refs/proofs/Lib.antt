@@ -1,5 +1,6 @@
 pub mod AgreeLemmas
 pub mod CourseLemmas
+pub mod FoundLemmas
 pub mod HeldLemmas
 pub mod ListedLemmas
 pub mod LiveLemmas

@@ -1,7 +1,7 @@
 -- Lists of ways, the preferred first: what stands in one stands in a longer one; what is put behind is dropped where
 -- something before agrees with it (`new_stands` is the hard one); and the lists of a group, of a reference, of what has no
 -- references, and of alternatives.
-use Rattle.std.proofs.Common.{◌≡◌, ℕ, ◌+◌, ◌<◌, ◌≤◌, Some, List, [], ◌∷◌, ◌++◌, refl, sym, ap, ◌∙◌, subst, inl, inr, arith, map}
+use Rattle.std.proofs.Common.{◌≡◌, ℕ, ◌+◌, ◌<◌, ◌≤◌, Some, List, [], ◌∷◌, ◌++◌, length, refl, sym, ap, ◌∙◌, subst, inl, inr, arith, map}
 use Rattle.std.proofs.lemmas.Bool.{cases_lt}
 use Rattle.std.specs.Cmp.{nat_cmp_is}
 use Rattle.std.specs.FinMap.{insert}
@@ -16,9 +16,10 @@ use Rattle.ere_refs.specs.Refers.{Agree}
 use Rattle.ere_tree.proofs.CapturesLemmas.{some_same}
 use Rattle.ere_tree.proofs.PreferenceLemmas.{greater_not_less, within_back}
 use Rattle.ere_tree.specs.Captures.{Captures}
-use Rattle.ere_tree.specs.Derivation.{Way, leaf, parts, members, chosen, inside, Derives, tree_at}
+use Rattle.ere_tree.specs.Derivation.{Way, leaf, parts, members, chosen, inside, done, next, Derives, tree_at}
 use Rattle.ere_tree.specs.Preference.{within}
-use Rattle.ere_tree.specs.Tree.{Tree, Trees, alt, group}
+use Rattle.ere_tree.specs.Tree.{Tree, Trees, alt, cat, group, then}
+use Rattle.ere_tree.specs.Tree as forms
 
 -- COMPARISONS
 
@@ -208,6 +209,51 @@ over_group s n t i j c P xs over = record {
     stands (parts vs) d h = absurd h
     stands (members vs) d h = absurd h
     stands (chosen k v) d h = absurd h
+
+-- ONE PART ALONE
+
+abbrev pub alone : ℕ → Way × Captures → Way × Captures
+alone j x = (parts (next j x.0 done), x.1)
+
+then_equal : (o : Ordering) → ordering_then o Equal ≡ o
+then_equal Less = refl
+then_equal Equal = refl
+then_equal Greater = refl
+
+-- the ways of one part compare as in the row of it alone
+alone_same : (j : ℕ) (w v : Way) → within (parts (next j w done)) (parts (next j v done)) ≡ within w v
+alone_same j w v =
+    sym (λ i. ordering_then (ordering_then (nat_cmp_is j j Equal refl i) (within w v)) Equal) ∙ then_equal (within w v)
+
+alone_stands : (P : ℕ → Type 0) (j : ℕ) (v : Way) (d : Captures) (xs : Listed) → StandsIn P v d xs
+    → StandsIn P (parts (next j v done)) d (map (alone j) xs)
+alone_stands P j v d [] h = absurd h
+alone_stands P j v d (x ∷ xs) (inl here) = inl (here.0, λ greater. here.1 (sym (alone_same j x.0 v) ∙ greater))
+alone_stands P j v d (x ∷ xs) (inr rest) = inr (alone_same j x.0 v ∙ rest.0, alone_stands P j v d xs rest.1)
+
+alone_derive : (s : List ℕ) (t : Tree) (i j : ℕ) (c : Captures) (xs : Listed) → j ≤ length s → AllDerive s t i j c xs
+    → AllDerive s (cat (then t forms.none)) i j c (map (alone j) xs)
+alone_derive s t i j c [] low h = tt
+alone_derive s t i j c (x ∷ xs) low h = ((x.1, h.0, (refl, low, refl)), alone_derive s t i j c xs low h.1)
+
+pub over_alone : (s : List ℕ) (t : Tree) (i j : ℕ) (c : Captures) (P : ℕ → Type 0) (xs : Listed) → j ≤ length s
+    → AreOver s t i j c P xs → AreOver s (cat (then t forms.none)) i j c P (map (alone j) xs)
+over_alone s t i j c P xs low over = record {
+  each = alone_derive s t i j c xs low over.each;
+  first = stands;
+}
+  where
+    stands : (v : Way) (d : Captures) → Derives s (cat (then t forms.none)) v i j c d → StandsIn P v d (map (alone j) xs)
+    stands (parts (next k w done)) d h =
+        subst (λ m. StandsIn P (parts (next m w done)) d (map (alone j) xs)) h.2.0
+        (subst (λ e. StandsIn P (parts (next j w done)) e (map (alone j) xs)) (sym h.2.2)
+        (alone_stands P j w h.0 xs (over.first w h.0 (subst (λ m. Derives s t w i m c h.0) (sym h.2.0) h.1))))
+    stands (parts (next k w (next m u us))) d h = absurd h.2
+    stands (parts done) d h = absurd h
+    stands leaf d h = absurd h
+    stands (members vs) d h = absurd h
+    stands (chosen k v) d h = absurd h
+    stands (inside v) d h = absurd h
 
 -- ALTERNATIVES
 

@@ -1,4 +1,5 @@
 -- One expression over a part: a reference, what its ends tell, and how large a tree is.
+-- A reference has one way alone, and an expression whose ends are known has one where it ends.
 -- The hard one is `back_ends`: a reference ends as far behind its start as its group is long.
 use Rattle.std.proofs.Common.{◌≡◌, ℕ, zero, suc, ◌+◌, ◌<◌, ◌≤◌, ◌&&◌, Bool, true, false, Option, Some, None, List, [], ◌∷◌, length, map, get_or, refl, sym, ap, ◌∙◌, subst, arith, true≢false, eq-eqb}
 use Rattle.std.specs.Prelude.{not}

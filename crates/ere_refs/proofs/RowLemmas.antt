@@ -1,5 +1,6 @@
 -- What follows a stage of a row, and what is read there: of parts and of members all that the stack of frames has to know.
--- By what is left of a row (RestLemmas). The hard ones are `parts_next` and `members_next`.
+-- By what is left of a row (RestLemmas), of which a part or a member is taken off or put in front.
+-- The hard ones are `parts_next` and `members_next`.
 use Rattle.std.proofs.Common.{◌≡◌, ℕ, zero, suc, ◌+◌, ◌-◌, ◌<◌, ◌≤◌, Bool, true, false, Option, Some, None, List, [], ◌∷◌, ◌++◌, Vec, Global, length, get_or, map, drop, refl, sym, ap, ◌∙◌, subst, ◌⊎◌, inl, inr, arith, true≢false}
 use Rattle.std.proofs.lemmas.Bool.{and_parts, cases_lt}
 use Rattle.std.proofs.lemmas.List.{get_or-map, get_or_append_left, length-map}

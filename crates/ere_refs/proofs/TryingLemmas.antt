@@ -1,5 +1,6 @@
 -- A try from one place: each end that was passed by is no end of a derivation, and what is found at the first one that is,
--- is preferred to all others. The hard one is `best_to`.
+-- is preferred to all others: those that end later were passed, and those that end there are in its lists.
+-- The hard one is `best_to`.
 use Rattle.std.proofs.Common.{◌≡◌, ◌↔◌, ℕ, ◌+◌, ◌-◌, ◌<◌, ◌≤◌, false, IsTrue, Option, List, [], ◌∷◌, Vec, Global, length, map, get_or, sym, ap, ◌∙◌, subst, inl, inr, arith, true≢false}
 use Rattle.std.proofs.lemmas.Bool.{cases_lt}
 use Rattle.std.specs.FinMap.{empty}

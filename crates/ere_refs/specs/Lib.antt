@@ -5,3 +5,4 @@ pub mod Machine
 pub mod Over
 pub mod Refers
 pub mod Sets
+pub mod Site

@@ -16,15 +16,19 @@ use Rattle.ere_refs.specs.Lists.{AllDerive, AreOver, HasLike, Listed, lists_of}
 use Rattle.ere_refs.specs.Live.{reads, reads_all}
 use Rattle.ere_refs.specs.Over.{AreEnds, may_be}
 use Rattle.ere_refs.specs.Refers.{Agree, Refers, all_refs_fit, refs_fit}
+use Rattle.ere_refs.specs.Site.{AreLong, HasRoom, IsSite}
 use Rattle.ere_refs.specs.declared.held.Part.{Part}
 use Rattle.ere_refs.specs.declared.kept.State.{State}
 use Rattle.ere_refs.specs.declared.lists.Frame.{Frame}
 use Rattle.ere_refs.specs.declared.lists.Frame.TheVariants.{New, Open}
 use Rattle.ere_refs.specs.declared.lists.Opened.{Opened}
+use Rattle.ere_refs.specs.declared.lists.Course.{Course}
+use Rattle.ere_refs.specs.declared.lists.Progress.{Progress}
 use Rattle.ere_refs.specs.declared.row.Follows.{Follows}
 use Rattle.ere_refs.specs.declared.row.Follows.TheVariants.{End, Nothing, One}
 use Rattle.ere_refs.specs.declared.row.Row.{Row}
 use Rattle.ere_refs.specs.declared.row.Row.TheVariants.{Members, Parts}
+use Rattle.ere_refs.specs.declared.site.Site.{Site}
 
 -- STATES
 
@@ -55,10 +59,6 @@ abbrev pub PutsAll : List ℕ → List (List (Option Cap)) → List State → Li
 PutsAll live [] old new = new ≡ old
 PutsAll live (caps ∷ others) old new =
     (mid : List State) × PutsCaps live caps old mid × PutsAll live others mid new
-
--- each list is of so many groups
-abbrev pub AreLong : ℕ → List (List (Option Cap)) → Type 0
-AreLong count lists = All (λ caps. length caps ≡ count) lists
 
 -- one list is the other with a group set
 abbrev pub SetsGroup : Part → ℕ → Vec (Option Cap) Global → Vec (Option Cap) Global → Type 0
@@ -237,42 +237,92 @@ pub record EndsFit (s : List ℕ) (part : Part) (count : ℕ) (one : Opened) : T
 abbrev pub AllBelow : Part → Opened → Type 0
 AllBelow part one = (q : ℕ) → one.state.place ≤ q → q ≤ part.to → may_be one.ends q ≡ true → q < one.high
 
--- what is known of a state that was opened
-pub record OpenFits (s : List ℕ) (row : Row) (live : List ℕ) (part : Part) (count : ℕ) (one : Opened) : Type 0 where
-  pub follows : NextFits s (rest_of row s part.to) (Contains live) one.state.stage one.state.place part.to
-      (view one.next.ere.now) one.next.further one.next.stage one.next.before.now one.next.behind.now
-  pub ends : EndsFit s part count one
-  pub refs : refs_fit count (view one.next.ere.now) ≡ true
-  pub room : greatest_group (view one.next.ere.now) ≤ count
-  pub small : nodes (view one.next.ere.now) < row_nodes row
+-- COURSES
 
-abbrev pub FrameFits : List ℕ → Row → List ℕ → Part → ℕ → Frame → Type 0
-FrameFits s row live part count (New state) = StateFits part count state
-FrameFits s row live part count (Open one) = OpenFits s row live part count one
+-- what derives the rest of the row that is tried, up to the end of the part
+abbrev pub rest_in : Course → Rows
+rest_in course = rest_of course.row course.site.text.now course.site.part.to
+
+-- a row from its beginning, by these ways and from these captures
+abbrev pub WholeRow : Course → Captures → Ways → Captures → Type 0
+WholeRow course c us e = rest_in course 0 us course.site.part.from c e
+
+-- so many groups
+abbrev pub count_in : Course → ℕ
+count_in course = length course.site.caps.now
+
+abbrev pub CourseFits : Course → Type 0
+CourseFits course =
+    (length course.lives.now ≡ lives_count course.row) × AreLives course.row course.lives.now course.site.live.now
+    × RowRoom (count_in course) course.row × IsSite course.site
+
+-- what is known of a state that was opened
+pub record OpenFits (course : Course) (one : Opened) : Type 0 where
+  pub follows : NextFits course.site.text.now (rest_in course) (Contains course.site.live.now) one.state.stage
+      one.state.place course.site.part.to (view one.next.ere.now) one.next.further one.next.stage one.next.before.now
+      one.next.behind.now
+  pub ends : EndsFit course.site.text.now course.site.part (count_in course) one
+  pub room : HasRoom (count_in course) (view one.next.ere.now)
+  pub small : nodes (view one.next.ere.now) < row_nodes course.row
+
+abbrev pub FrameFits : Course → Frame → Type 0
+FrameFits course (New state) = StateFits course.site.part (count_in course) state
+FrameFits course (Open one) = OpenFits course one
+
+-- what stands on the stack fits, and what is found is of as many groups
+abbrev pub ProgressFits : Course → Progress → Type 0
+ProgressFits course progress =
+    All (FrameFits course) progress.frames.items × AreLong (count_in course) (map caps_at progress.found.states.items)
 
 -- from the captures of a state all that goes on has its like in the list
-abbrev pub IsLeft : Rows → (ℕ → Type 0) → ℕ → ℕ → Listed → State → Type 0
-IsLeft Rest P start count listed state =
-    (b : Captures) × (caps_at state ≡ caps_of start b count)
-    × ((rs : Ways) (e : Captures) → Rest state.stage rs state.place b e → HasLike P e listed)
+abbrev pub IsLeft : Course → Listed → State → Type 0
+IsLeft course listed state =
+    (b : Captures) × (caps_at state ≡ caps_of course.site.part.start b (count_in course))
+    × ((rs : Ways) (e : Captures) → rest_in course state.stage rs state.place b e
+    → HasLike (Contains course.site.live.now) e listed)
 
--- The stack, what is found and what is left behind, where a row over a part is tried from these captures: each row is found,
--- or goes on from a spot.
-pub record Stands (s : List ℕ) (row : Row) (live : List ℕ) (part : Part) (count : ℕ) (c : Captures) (frames : List Frame)
-    (found left : List State) : Type 0 where
+-- what is found is what groups hold behind these derivations
+abbrev pub AreFound : Course → List State → Listed → Type 0
+AreFound course found listed = map caps_at found ≡ lists_of course.site.part.start (count_in course) listed
+
+-- The stack, what is found and what is left behind, where a row is tried from these captures: each row is found, or goes
+-- on from a spot.
+pub record Stands (course : Course) (c : Captures) (frames : List Frame) (found left : List State) : Type 0 where
   pub spots : List Spot
   pub listed : Listed
-  pub shown : Show part.start count frames spots
-  pub held : map caps_at found ≡ lists_of part.start count listed
-  pub reached : (vs : Ways) (d : Captures) → rest_of row s part.to 0 vs part.from c d
-      → Reached (rest_of row s part.to) (Contains live) (wrap_of row) vs d listed spots
-  pub told : Told (rest_of row s part.to) (Contains live) listed [] spots
-  pub left_all : (x : State) → Contains left x → IsLeft (rest_of row s part.to) (Contains live) part.start count listed x
-  pub grows : AllGrow (rest_of row s part.to) (λ us e. rest_of row s part.to 0 us part.from c e) spots
-  pub derived : AllDerive s (tree_of row) part.from part.to c listed
+  pub shown : Show course.site.part.start (count_in course) frames spots
+  pub held : AreFound course found listed
+  pub reached : (vs : Ways) (d : Captures) → WholeRow course c vs d
+      → Reached (rest_in course) (Contains course.site.live.now) (wrap_of course.row) vs d listed spots
+  pub told : Told (rest_in course) (Contains course.site.live.now) listed [] spots
+  pub left_all : (x : State) → Contains left x → IsLeft course listed x
+  pub grows : AllGrow (rest_in course) (WholeRow course c) spots
+  pub derived : AllDerive course.site.text.now (tree_of course.row) course.site.part.from course.site.part.to c listed
+
+-- it stands so with these frames on the stack in place of those that are there
+abbrev pub StandsWith : Course → Captures → List Frame → Progress → Type 0
+StandsWith course c frames progress =
+    Stands course c frames progress.found.states.items progress.left.states.items
+
+-- from a frame that was taken off a stack a course has come to another
+abbrev pub Keeps : Course → Progress → Frame → Progress → Type 0
+Keeps course old top new =
+    (c : Captures) → StandsWith course c (old.frames.items ++ top ∷ []) old → StandsWith course c new.frames.items new
 
 -- What is found has the derivations of the row, of those that agree on what is read one alone, the preferred first.
-abbrev pub IsDone : List ℕ → Row → List ℕ → Part → ℕ → Captures → List State → Type 0
-IsDone s row live part count c found =
-    (listed : Listed) × AreOver s (tree_of row) part.from part.to c (Contains live) listed
-    × (map caps_at found ≡ lists_of part.start count listed)
+abbrev pub IsDone : Course → Captures → List State → Type 0
+IsDone course c found =
+    (listed : Listed) × AreOver course.site.text.now (tree_of course.row) course.site.part.from course.site.part.to c
+    (Contains course.site.live.now) listed × AreFound course found listed
+
+-- a course comes to its end
+abbrev pub Finishes : Course → Progress → Progress → Type 0
+Finishes course old new =
+    ((c : Captures) → StandsWith course c old.frames.items old → IsDone course c new.found.states.items)
+    × AreLong (count_in course) (map caps_at new.found.states.items)
+
+-- the state of a row that begins is put on the stack
+abbrev pub Begins : Site → List Frame → List Frame → Type 0
+Begins site old new =
+    (held : Vec (Option Cap) Global) × (held.items ≡ site.caps.now)
+    × (new ≡ old ++ new_frame 0 site.part.from held ∷ [])

@@ -23,6 +23,10 @@ IsBestFrom s t w i j c = (v : Way) (d : Captures) → Derives s t v i j c d → 
 abbrev pub DerivesNone : List ℕ → Tree → ℕ → ℕ → Captures → Type 0
 DerivesNone s t i j c = (v : Way) (d : Captures) → Derives s t v i j c d → ⊥
 
+-- the group of this number holds these bytes
+abbrev pub IsText : List ℕ → Captures → ℕ → List ℕ → Type 0
+IsText s c number held = (p : ℕ × ℕ) × (get c number ≡ Some p) × (held ≡ part s p.0 p.1)
+
 -- whether [i, j) is what the group of this number holds, by a list of what groups hold
 abbrev pub RefersTo : List ℕ → ℕ → ℕ → ℕ → ℕ → Bool → List (Option Cap) → Bool → Type 0
 RefersTo s start i j number fold caps answer =

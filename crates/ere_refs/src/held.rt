@@ -3,6 +3,7 @@ ghost use Rattle.std.specs.Prelude.{◌≡◌, ◌↔◌, ℕ, ◌+◌, ◌<◌,
 ghost use Rattle.std.specs.FinMap.{empty, get, insert};
 ghost use Rattle.ere_captures.specs.Walk.{SetsBest};
 ghost use Rattle.ere_tree.specs.Captures.{Captures, caps_of};
+ghost use Rattle.ere_refs.specs.Over.{IsText};
 ghost use Rattle.ere_tree.specs.Derivation.{IsSameText, Spans, part};
 ghost use Rattle.ere_tree.specs.Shape.{has_refs, greatest_group};
 ghost use Rattle.ere_tree.specs.View.{view};
@@ -90,7 +91,7 @@ pub(crate) fn text_held<'a>(
     requires some { 0 < number }
     requires room { number ≤ length caps.now }
     ensures { (c : Captures) → caps.now ≡ caps_of start c (length caps.now) → MatchOption result (get c number ≡ None)
-        (λ held. (p : ℕ × ℕ) × (get c number ≡ Some p) × (held.now ≡ part text.now p.0 p.1)) }
+        (λ held. IsText text.now c number held.now) }
 {
     match caps[(number - 1) as usize] {
         None => None,

@@ -11,6 +11,7 @@ mod lists;
 mod live;
 mod row;
 mod sets;
+mod site;
 mod tries;
 mod trying;
 

@@ -1,17 +1,13 @@
 //! Lists of what groups hold behind a part that is known: of all derivations there, the preferred first; of those that agree
 //! on what is still read, the first alone.
-ghost use Rattle.std.specs.Prelude.{◌≡◌, ℕ, List, Option, Vec, ◌+◌, ◌<◌, ◌≤◌, ◌^◌, ◌∷◌, ◌++◌, [], true, false, length, map, reverse, vec_len, IfOk, OnOk};
-ghost use Rattle.std.specs.List.{All, AllZip, Contains};
-ghost use Rattle.ere_refs.specs.Lists.{ListsOver, TellsAll};
-ghost use Rattle.ere_refs.specs.Machine.{AllBelow, AreLives, AreLong, EndsFit, FrameFits, IsDone, OpenFits, PutsAll, PutsCaps, RowRoom, SetsGroup, Stands, StateFits, caps_at, lives_count, new_frame, tree_of};
-ghost use Rattle.ere_refs.specs.Over.{HasEnds, RefersTo};
-ghost use Rattle.ere_refs.specs.Refers.{all_refs_fit, refs_fit};
+ghost use Rattle.std.specs.Prelude.{◌≡◌, ◌+◌, ◌<◌, ◌≤◌, ◌^◌, ◌∷◌, ◌++◌, [], true, false, length, map, reverse, vec_len, IfOk, OnOk};
+ghost use Rattle.std.specs.List.{All, AllZip};
+ghost use Rattle.ere_refs.specs.Lists.{TellsAll};
+ghost use Rattle.ere_refs.specs.Machine.{AllBelow, Begins, CourseFits, EndsFit, Finishes, FrameFits, Keeps, OpenFits, ProgressFits, PutsAll, PutsCaps, RowRoom, SetsGroup, StateFits, caps_at, new_frame, tree_of};
+ghost use Rattle.ere_refs.specs.Refers.{refs_fit};
+ghost use Rattle.ere_refs.specs.Site.{EndsAt, HasRoom, IsSite, ListsAt, RefersAt, SpansSite};
 ghost use Rattle.ere_refs.specs.declared.lists.Frame.TheVariants.{New, Open};
-ghost use Rattle.std.specs.declared.alloc.Global.{Global};
-ghost use Rattle.ere_tree.specs.declared.hit.Cap.{Cap};
-ghost use Rattle.ere_tree.specs.Captures.{Captures, caps_of};
-ghost use Rattle.ere_tree.specs.Derivation.{Spans};
-ghost use Rattle.ere_tree.specs.Shape.{greatest_group, greatest_group_of, has_refs};
+ghost use Rattle.ere_tree.specs.Shape.{greatest_group, has_refs};
 ghost use Rattle.ere_tree.specs.Tree.{trees_of};
 ghost use Rattle.ere_tree.specs.Tree as trees;
 ghost use Rattle.ere_tree.specs.View.{view};
@@ -21,6 +17,7 @@ use crate::held::{Part, held_behind, is_same_text, text_held, with_group};
 use crate::kept::{Kept, State};
 use crate::row::{Follows, Next, Row, lives_of};
 use crate::sets::tells;
+use crate::site::Site;
 use crate::tries::Tries;
 use ere_captures::spans;
 use ere_tree::{Cap, Ere};
@@ -49,31 +46,29 @@ pub(crate) enum Frame<'a, 'l> {
 
 /// What a row is tried over.
 #[derive(Clone, Copy)]
-struct Course<'a, 'l, 't, 'v, 'c> {
+struct Course<'a, 'l, 't, 'c, 'v> {
     row: Row<'a>,
     lives: &'l [Vec<u32>],
-    text: &'t [u8],
-    part: Part,
-    live: &'v [u32],
-    caps: &'c [Option<Cap>],
+    site: Site<'t, 'c, 'v>,
 }
 
-/// The states, last to be tried first, that were found and that were left behind.
+/// How far a course has come: the states that are still to be tried, the next one last, and those that were found and left
+/// behind.
 #[derive(Drop)]
-struct Rows<'a, 'l> {
+struct Progress<'a, 'l> {
     frames: Vec<Frame<'a, 'l>>,
     found: Kept,
     left: Kept,
 }
 
-impl<'a, 'l> Rows<'a, 'l> {
+impl<'a, 'l> Progress<'a, 'l> {
     /// None of them.
-    fn new(alloc: Global) -> Rows<'a, 'l>
+    fn new(alloc: Global) -> Progress<'a, 'l>
         ensures frames { result.frames.items ≡ [] }
         ensures found { result.found.states.items ≡ [] }
         ensures left { result.left.states.items ≡ [] }
     {
-        Rows {
+        Progress {
             frames: Vec::new(alloc),
             found: Kept::new(alloc),
             left: Kept::new(alloc),
@@ -83,18 +78,17 @@ impl<'a, 'l> Rows<'a, 'l> {
 
 /// Puts the state of a row that begins on the stack.
 fn start<'a, 'l>(
-    place: usize,
-    caps: &[Option<Cap>],
-    rows: &mut Rows<'a, 'l>,
+    site: Site<'_, '_, '_>,
+    progress: &mut Progress<'a, 'l>,
     tries: &Tries,
 ) -> Result<(), AllocError>
-    ensures begins { OnOk result ((held : Vec (Option Cap) Global) × (held.items ≡ caps.now)
-        × (rows.new.frames.items ≡ rows.old.frames.items ++ new_frame 0 place held ∷ [])) }
-    ensures found { rows.new.found.states.items ≡ rows.old.found.states.items }
-    ensures left { rows.new.left.states.items ≡ rows.old.left.states.items }
+    ensures begins { OnOk result (Begins site.entry progress.old.frames.items progress.new.frames.items) }
+    ensures found { progress.new.found.states.items ≡ progress.old.found.states.items }
+    ensures left { progress.new.left.states.items ≡ progress.old.left.states.items }
 {
-    let caps = Vec::from_slice(tries.alloc, caps)?;
-    rows.frames.push(Frame::New(State {
+    let place = site.part.from;
+    let caps = Vec::from_slice(tries.alloc, site.caps)?;
+    progress.frames.push(Frame::New(State {
         stage: 0,
         place,
         caps,
@@ -154,44 +148,26 @@ fn push_all<'a, 'l>(
 fn open<'a, 'l>(
     course: Course<'a, 'l, '_, '_, '_>,
     state: State,
-    rows: &mut Rows<'a, 'l>,
+    progress: &mut Progress<'a, 'l>,
     tries: &mut Tries,
 ) -> Result<(), AllocError>
-    requires count { length course.lives.now ≡ lives_count course.row }
-    requires lives { AreLives course.row course.lives.now course.live.now }
-    requires room { RowRoom (length state.caps.items) course.row }
-    requires state { StateFits course.part (length state.caps.items) state }
-    requires within { course.part.to ≤ length course.text.now }
-    requires fits { course.part.start + length course.text.now < 2 ^ 64 }
-    requires frames { All (FrameFits course.text.now course.row course.live.now course.part (length state.caps.items))
-        rows.old.frames.items }
-    ensures frames { OnOk result (All (FrameFits course.entry.text.now course.entry.row course.entry.live.now course.entry.part
-        (length state.caps.items)) rows.new.frames.items) }
-    ensures long { OnOk result (AreLong (length state.caps.items) (map caps_at rows.old.found.states.items)
-        → AreLong (length state.caps.items) (map caps_at rows.new.found.states.items)) }
-    ensures stands { OnOk result ((c : Captures) → Stands course.entry.text.now course.entry.row course.entry.live.now course.entry.part
-        (length state.caps.items) c (rows.old.frames.items ++ New state ∷ []) rows.old.found.states.items
-        rows.old.left.states.items → Stands course.entry.text.now course.entry.row course.entry.live.now course.entry.part
-        (length state.caps.items) c rows.new.frames.items rows.new.found.states.items rows.new.left.states.items) }
+    requires course { CourseFits course }
+    requires state { StateFits course.site.part (length course.site.caps.now) state }
+    requires progress { ProgressFits course progress.old }
+    ensures fits { OnOk result (ProgressFits course.entry progress.new) }
+    ensures keeps { OnOk result (Keeps course.entry progress.old (New state) progress.new) }
 {
-    let Course {
-        row,
-        lives,
-        text,
-        part,
-        live,
-        ..
-    } = course;
-    let next = match row.follows(lives, state.stage, state.place == part.to) {
-        Follows::End => return put_found(&mut rows.found, state.caps, live, tries),
+    let Course { row, lives, site } = course;
+    let next = match row.follows(lives, state.stage, state.place == site.part.to) {
+        Follows::End => return put_found(&mut progress.found, state.caps, site.live, tries),
         Follows::Nothing => return Ok(()),
         Follows::One(next) => next,
     };
-    if rows.left.has(&state, next.before) {
+    if progress.left.has(&state, next.before) {
         return Ok(());
     }
-    let opened = opened_of(text, part, state, next, tries)?;
-    rows.frames.push(Frame::Open(opened))?;
+    let opened = opened_of(site.text, site.part, state, next, tries)?;
+    progress.frames.push(Frame::Open(opened))?;
     Ok(())
 }
 
@@ -230,85 +206,58 @@ fn opened_of<'a, 'l>(
 fn advance<'a, 'l>(
     course: Course<'a, 'l, '_, '_, '_>,
     opened: Opened<'a, 'l>,
-    rows: &mut Rows<'a, 'l>,
+    progress: &mut Progress<'a, 'l>,
     tries: &mut Tries,
 ) -> Result<(), AllocError>
-    requires opened { OpenFits course.text.now course.row course.live.now course.part (length opened.state.caps.items)
-        opened }
-    requires within { course.part.to ≤ length course.text.now }
-    requires fits { course.part.start + length course.text.now < 2 ^ 64 }
-    requires frames { All (FrameFits course.text.now course.row course.live.now course.part
-        (length opened.state.caps.items)) rows.old.frames.items }
-    ensures frames { OnOk result (All (FrameFits course.entry.text.now course.entry.row course.entry.live.now course.entry.part
-        (length opened.entry.state.caps.items)) rows.new.frames.items) }
-    ensures found { rows.new.found.states.items ≡ rows.old.found.states.items }
-    ensures stands { OnOk result ((c : Captures) → Stands course.entry.text.now course.entry.row course.entry.live.now course.entry.part
-        (length opened.entry.state.caps.items) c (rows.old.frames.items ++ Open opened.entry ∷ []) rows.old.found.states.items
-        rows.old.left.states.items → Stands course.entry.text.now course.entry.row course.entry.live.now course.entry.part
-        (length opened.entry.state.caps.items) c rows.new.frames.items rows.new.found.states.items
-        rows.new.left.states.items) }
+    requires course { CourseFits course }
+    requires opened { OpenFits course opened }
+    requires progress { ProgressFits course progress.old }
+    ensures fits { OnOk result (ProgressFits course.entry progress.new) }
+    ensures keeps { OnOk result (Keeps course.entry progress.old (Open opened.entry) progress.new) }
 {
     if opened.low >= opened.high {
         tries.keep()?;
-        return rows.left.put(tries.alloc, opened.state, opened.next.before);
+        return progress
+            .left
+            .put(tries.alloc, opened.state, opened.next.before);
     }
-    let Opened {
-        state,
-        next,
-        ends,
-        low,
-        high,
-    } = opened;
-    let to = high - 1;
-    let part = Part {
-        from: state.place,
-        to,
-        ..course.part
+    let to = opened.high - 1;
+    let stage = opened.next.stage;
+    let site = Site {
+        text: course.site.text,
+        part: Part {
+            from: opened.state.place,
+            to,
+            ..course.site.part
+        },
+        caps: opened.state.caps.as_slice(),
+        live: opened.next.behind,
     };
-    let found = over_end(next, &ends, course.text, part, state.caps.as_slice(), tries)?;
-    rows.frames.push(Frame::Open(Opened {
-        state,
-        next,
-        ends,
-        low,
-        high: to,
-    }))?;
-    push_all(&mut rows.frames, found, next.stage, to)
+    let found = over_end(opened.next.ere, &opened.ends, site, tries)?;
+    progress
+        .frames
+        .push(Frame::Open(Opened { high: to, ..opened }))?;
+    push_all(&mut progress.frames, found, stage, to)
 }
 
 /// The lists behind what follows a state, up to an end.
 #[cycle(lists)]
 fn over_end(
-    next: Next<'_, '_>,
+    ere: &Ere,
     ends: &Ends,
-    text: &[u8],
-    part: Part,
-    caps: &[Option<Cap>],
+    site: Site<'_, '_, '_>,
     tries: &mut Tries,
 ) -> Result<Vec<Held>, AllocError>
-    requires refs { refs_fit (length caps.now) (view next.ere.now) ≡ true }
-    requires order { part.from ≤ part.to }
-    requires within { part.to ≤ length text.now }
-    requires room { greatest_group (view next.ere.now) ≤ length caps.now }
-    requires fits { part.start + length text.now < 2 ^ 64 }
-    requires ends { HasEnds text.now (view next.ere.now) part.start part.from part.to (length caps.now) caps.now ends.now }
-    ensures lists { IfOk result (λ found. ListsOver text.now (view next.entry.ere.now) part.start part.from part.to
-        (length caps.now) (Contains next.entry.behind.now) caps.now found.items) }
-    ensures long { IfOk result (λ found. AreLong (length caps.now) (map (λ held. held.items) found.items)) }
+    requires room { HasRoom (length site.caps.now) (view ere.now) }
+    requires site { IsSite site }
+    requires ends { EndsAt site (view ere.now) ends.now }
+    ensures { IfOk result (ListsAt site.entry (view ere.now)) }
 {
     tries.take(1)?;
-    if !ends.may_be(part.to) {
+    if !ends.may_be(site.part.to) {
         return Ok(Vec::new(tries.alloc));
     }
-    over(
-        next.ere,
-        ends.is_known(),
-        text,
-        part,
-        caps,
-        next.behind,
-        tries,
-    )
+    over(ere, ends.is_known(), site, tries)
 }
 
 /// Goes on from a frame.
@@ -316,30 +265,18 @@ fn over_end(
 fn step<'a, 'l>(
     course: Course<'a, 'l, '_, '_, '_>,
     frame: Frame<'a, 'l>,
-    rows: &mut Rows<'a, 'l>,
+    progress: &mut Progress<'a, 'l>,
     tries: &mut Tries,
 ) -> Result<(), AllocError>
-    requires count { length course.lives.now ≡ lives_count course.row }
-    requires lives { AreLives course.row course.lives.now course.live.now }
-    requires room { RowRoom (length course.caps.now) course.row }
-    requires within { course.part.to ≤ length course.text.now }
-    requires fits { course.part.start + length course.text.now < 2 ^ 64 }
-    requires frame { FrameFits course.text.now course.row course.live.now course.part (length course.caps.now) frame }
-    requires frames { All (FrameFits course.text.now course.row course.live.now course.part (length course.caps.now))
-        rows.old.frames.items }
-    ensures frames { OnOk result (All (FrameFits course.entry.text.now course.entry.row course.entry.live.now course.entry.part
-        (length course.entry.caps.now)) rows.new.frames.items) }
-    ensures long { OnOk result (AreLong (length course.entry.caps.now) (map caps_at rows.old.found.states.items)
-        → AreLong (length course.entry.caps.now) (map caps_at rows.new.found.states.items)) }
-    ensures stands { OnOk result ((c : Captures) → Stands course.entry.text.now course.entry.row course.entry.live.now
-        course.entry.part (length course.entry.caps.now) c (rows.old.frames.items ++ frame.entry ∷ [])
-        rows.old.found.states.items rows.old.left.states.items → Stands course.entry.text.now course.entry.row
-        course.entry.live.now course.entry.part (length course.entry.caps.now) c rows.new.frames.items
-        rows.new.found.states.items rows.new.left.states.items) }
+    requires course { CourseFits course }
+    requires frame { FrameFits course frame }
+    requires progress { ProgressFits course progress.old }
+    ensures fits { OnOk result (ProgressFits course.entry progress.new) }
+    ensures keeps { OnOk result (Keeps course.entry progress.old frame.entry progress.new) }
 {
     match frame {
-        Frame::New(state) => open(course, state, rows, tries),
-        Frame::Open(opened) => advance(course, opened, rows, tries),
+        Frame::New(state) => open(course, state, progress, tries),
+        Frame::Open(opened) => advance(course, opened, progress, tries),
     }
 }
 
@@ -347,74 +284,73 @@ fn step<'a, 'l>(
 #[cycle(lists)]
 fn run<'a, 'l>(
     course: Course<'a, 'l, '_, '_, '_>,
-    rows: &mut Rows<'a, 'l>,
+    progress: &mut Progress<'a, 'l>,
     tries: &mut Tries,
 ) -> Result<(), AllocError>
-    requires count { length course.lives.now ≡ lives_count course.row }
-    requires lives { AreLives course.row course.lives.now course.live.now }
-    requires room { RowRoom (length course.caps.now) course.row }
-    requires within { course.part.to ≤ length course.text.now }
-    requires fits { course.part.start + length course.text.now < 2 ^ 64 }
-    requires frames { All (FrameFits course.text.now course.row course.live.now course.part (length course.caps.now))
-        rows.old.frames.items }
-    requires long { AreLong (length course.caps.now) (map caps_at rows.old.found.states.items) }
-    ensures done { OnOk result ((c : Captures) → Stands course.entry.text.now course.entry.row course.entry.live.now
-        course.entry.part (length course.entry.caps.now) c rows.old.frames.items rows.old.found.states.items
-        rows.old.left.states.items → IsDone course.entry.text.now course.entry.row course.entry.live.now course.entry.part
-        (length course.entry.caps.now) c rows.new.found.states.items) }
-    ensures long { OnOk result (AreLong (length course.entry.caps.now) (map caps_at rows.new.found.states.items)) }
+    requires course { CourseFits course }
+    requires progress { ProgressFits course progress.old }
+    ensures { OnOk result (Finishes course.entry progress.old progress.new) }
 {
     for _ in 0..usize::MAX {
-        if course.live.is_empty() && rows.found.len() > 0 {
+        if course.site.live.is_empty() && progress.found.len() > 0 {
             return Ok(());
         }
-        match rows.frames.pop() {
+        match progress.frames.pop() {
             None => return Ok(()),
-            Some(frame) => step(course, frame, rows, tries)?,
+            Some(frame) => step(course, frame, progress, tries)?,
         }
     }
     Err(AllocError)
 }
 
 /// What was found.
-fn finish(rows: Rows<'_, '_>, tries: &mut Tries) -> Result<Vec<Held>, AllocError>
-    ensures { IfOk result (λ found. map (λ held. held.items) found.items ≡ map caps_at rows.entry.found.states.items) }
+fn finish(progress: Progress<'_, '_>, tries: &mut Tries) -> Result<Vec<Held>, AllocError>
+    ensures { IfOk result (λ found. map (λ held. held.items) found.items ≡ map caps_at progress.entry.found.states.items) }
 {
-    tries.release(rows.found.len().saturating_add(rows.left.len()));
-    rows.found.into_caps(tries.alloc)
+    tries.release(progress.found.len().saturating_add(progress.left.len()));
+    progress.found.into_caps(tries.alloc)
 }
 
-/// The lists of what groups hold behind the derivations of a row over the part, from what they hold before.
+/// The lists of what groups hold behind the derivations of a row.
 #[cycle(lists)]
 fn over_row(
     row: Row<'_>,
-    text: &[u8],
-    part: Part,
-    caps: &[Option<Cap>],
-    live: &[u32],
+    site: Site<'_, '_, '_>,
     tries: &mut Tries,
 ) -> Result<Vec<Held>, AllocError>
-    requires room { RowRoom (length caps.now) row }
-    requires order { part.from ≤ part.to }
-    requires within { part.to ≤ length text.now }
-    requires fits { part.start + length text.now < 2 ^ 64 }
-    ensures lists { IfOk result (λ found. ListsOver text.now (tree_of row.entry) part.start part.from part.to
-        (length caps.now) (Contains live.now) caps.now found.items) }
-    ensures long { IfOk result (λ found. AreLong (length caps.now) (map (λ held. held.items) found.items)) }
+    requires room { RowRoom (length site.caps.now) row }
+    requires site { IsSite site }
+    ensures { IfOk result (ListsAt site.entry (tree_of row.entry)) }
 {
-    let lives = lives_of(tries.alloc, row, live)?;
-    let mut rows = Rows::new(tries.alloc);
-    start(part.from, caps, &mut rows, tries)?;
+    let lives = lives_of(tries.alloc, row, site.live)?;
+    let mut progress = Progress::new(tries.alloc);
+    start(site, &mut progress, tries)?;
     let course = Course {
         row,
         lives: lives.as_slice(),
-        text,
-        part,
-        live,
-        caps,
+        site,
     };
-    run(course, &mut rows, tries)?;
-    finish(rows, tries)
+    run(course, &mut progress, tries)?;
+    finish(progress, tries)
+}
+
+/// The lists of parts one behind the other. A single part ends where they do, so that no other end of it is tried.
+#[cycle(lists)]
+fn over_parts(
+    parts: &[Ere],
+    site: Site<'_, '_, '_>,
+    tries: &mut Tries,
+) -> Result<Vec<Held>, AllocError>
+    requires room { HasRoom (length site.caps.now) (trees.cat (trees_of (map view parts.now))) }
+    requires site { IsSite site }
+    ensures { IfOk result (ListsAt site.entry (trees.cat (trees_of (map view parts.now)))) }
+{
+    if let Some((one, others)) = parts.split_first() {
+        if others.is_empty() {
+            return over(one, false, site, tries);
+        }
+    }
+    over_row(Row::Parts(parts), site, tries)
 }
 
 /// Puts lists behind others, each unless there is what agrees with it.
@@ -437,26 +373,18 @@ fn put_all(
 #[cycle(lists)]
 fn over_one(
     choices: &[Ere],
-    text: &[u8],
-    part: Part,
-    caps: &[Option<Cap>],
-    live: &[u32],
+    site: Site<'_, '_, '_>,
     tries: &mut Tries,
 ) -> Result<Vec<Held>, AllocError>
-    requires refs { all_refs_fit (length caps.now) (trees_of (map view choices.now)) ≡ true }
-    requires order { part.from ≤ part.to }
-    requires within { part.to ≤ length text.now }
-    requires room { greatest_group_of (trees_of (map view choices.now)) ≤ length caps.now }
-    requires fits { part.start + length text.now < 2 ^ 64 }
-    ensures lists { IfOk result (λ found. ListsOver text.now (trees.alt (trees_of (map view choices.now))) part.start
-        part.from part.to (length caps.now) (Contains live.now) caps.now found.items) }
-    ensures long { IfOk result (λ found. AreLong (length caps.now) (map (λ held. held.items) found.items)) }
+    requires room { HasRoom (length site.caps.now) (trees.alt (trees_of (map view choices.now))) }
+    requires site { IsSite site }
+    ensures { IfOk result (ListsAt site.entry (trees.alt (trees_of (map view choices.now)))) }
 {
     let mut found = Kept::new(tries.alloc);
     for one in choices {
-        let lists = over(one, false, text, part, caps, live, tries)?;
-        put_all(&mut found, lists, live, tries)?;
-        if live.is_empty() && found.len() > 0 {
+        let lists = over(one, false, site, tries)?;
+        put_all(&mut found, lists, site.live, tries)?;
+        if site.live.is_empty() && found.len() > 0 {
             tries.release(found.len());
             return found.into_caps(tries.alloc);
         }
@@ -485,14 +413,14 @@ fn set_all(
 }
 
 /// Whether the part is what the group of a number holds.
-fn refers(text: &[u8], part: Part, caps: &[Option<Cap>], number: u32, fold: bool) -> bool
+fn refers(site: Site<'_, '_, '_>, number: u32, fold: bool) -> bool
     requires some { 0 < number }
-    requires room { number ≤ length caps.now }
-    requires order { part.from ≤ part.to }
-    requires within { part.to ≤ length text.now }
-    ensures { RefersTo text.now part.start part.from part.to number fold caps.now result }
+    requires room { number ≤ length site.caps.now }
+    requires site { IsSite site }
+    ensures { RefersAt site.entry number fold result }
 {
-    match text_held(text, part.start, caps, number) {
+    let Site { text, part, .. } = site;
+    match text_held(text, part.start, site.caps, number) {
         Some(held) => is_same_text(fold, &text[part.from..part.to], held),
         None => false,
     }
@@ -502,45 +430,41 @@ fn refers(text: &[u8], part: Part, caps: &[Option<Cap>], number: u32, fold: bool
 fn over_ref(
     number: u32,
     fold: bool,
-    text: &[u8],
-    part: Part,
-    caps: &[Option<Cap>],
+    site: Site<'_, '_, '_>,
     tries: &Tries,
 ) -> Result<Vec<Held>, AllocError>
     requires some { 0 < number }
-    requires number { number ≤ length caps.now }
-    requires order { part.from ≤ part.to }
-    requires within { part.to ≤ length text.now }
-    ensures lists { (live : List ℕ) → IfOk result (λ found. ListsOver text.now (trees.back number fold) part.start
-        part.from part.to (length caps.now) (Contains live) caps.now found.items) }
-    ensures long { IfOk result (λ found. AreLong (length caps.now) (map (λ held. held.items) found.items)) }
+    requires number { number ≤ length site.caps.now }
+    requires site { IsSite site }
+    ensures { IfOk result (ListsAt site.entry (trees.back number fold)) }
 {
-    if !refers(text, part, caps, number, fold) {
+    if !refers(site, number, fold) {
         return Ok(Vec::new(tries.alloc));
     }
-    one_list(tries, Vec::from_slice(tries.alloc, caps)?)
+    one_list(tries, Vec::from_slice(tries.alloc, site.caps)?)
 }
 
-/// The list of an expression without references, over a part that tells what is read behind it. It may be known that it
-/// spans the part.
+/// The list of an expression without references, whose span tells what is read behind it. It may be known that it spans the
+/// part.
 fn over_free(
     ere: &Ere,
     known: bool,
-    text: &[u8],
-    part: Part,
-    caps: &[Option<Cap>],
+    site: Site<'_, '_, '_>,
     tries: &Tries,
 ) -> Result<Vec<Held>, AllocError>
     requires no_refs { has_refs (view ere.now) ≡ false }
-    requires known { known ≡ true → Spans text.now (view ere.now) part.from part.to }
-    requires order { part.from ≤ part.to }
-    requires within { part.to ≤ length text.now }
-    requires room { greatest_group (view ere.now) ≤ length caps.now }
-    requires fits { part.start + length text.now < 2 ^ 64 }
-    ensures lists { (live : List ℕ) → TellsAll (view ere.now) live → IfOk result (λ found. ListsOver text.now (view ere.now)
-        part.start part.from part.to (length caps.now) (Contains live) caps.now found.items) }
-    ensures long { IfOk result (λ found. AreLong (length caps.now) (map (λ held. held.items) found.items)) }
+    requires tells { TellsAll (view ere.now) site.live.now }
+    requires known { known ≡ true → SpansSite site (view ere.now) }
+    requires room { greatest_group (view ere.now) ≤ length site.caps.now }
+    requires site { IsSite site }
+    ensures { IfOk result (ListsAt site.entry (view ere.now)) }
 {
+    let Site {
+        text,
+        part,
+        caps,
+        ..
+    } = site;
     if !known && !spans(tries.alloc, ere, text, part.from, part.to)? {
         return Ok(Vec::new(tries.alloc));
     }
@@ -548,50 +472,34 @@ fn over_free(
     one_list(tries, held)
 }
 
-/// The lists of what groups hold behind the derivations of the expression over the part, from what they hold before. It
-/// may be known that it spans the part.
+/// The lists of what groups hold behind the derivations of the expression. It may be known that it spans the part.
 #[cycle(lists)]
 pub(crate) fn over(
     ere: &Ere,
     known: bool,
-    text: &[u8],
-    part: Part,
-    caps: &[Option<Cap>],
-    live: &[u32],
+    site: Site<'_, '_, '_>,
     tries: &mut Tries,
 ) -> Result<Vec<Held>, AllocError>
-    requires known { known ≡ true → Spans text.now (view ere.now) part.from part.to }
-    requires refs { refs_fit (length caps.now) (view ere.now) ≡ true }
-    requires order { part.from ≤ part.to }
-    requires within { part.to ≤ length text.now }
-    requires room { greatest_group (view ere.now) ≤ length caps.now }
-    requires fits { part.start + length text.now < 2 ^ 64 }
-    ensures lists { IfOk result (λ found. ListsOver text.now (view ere.now) part.start part.from part.to
-        (length caps.now) (Contains live.now) caps.now found.items) }
-    ensures long { IfOk result (λ found. AreLong (length caps.now) (map (λ held. held.items) found.items)) }
+    requires known { known ≡ true → SpansSite site (view ere.now) }
+    requires room { HasRoom (length site.caps.now) (view ere.now) }
+    requires site { IsSite site }
+    ensures { IfOk result (ListsAt site.entry (view ere.now)) }
 {
-    if !ere.has_refs() && tells(ere, live) {
-        return over_free(ere, known, text, part, caps, tries);
+    if !ere.has_refs() && tells(ere, site.live) {
+        return over_free(ere, known, site, tries);
     }
     match ere {
-        Ere::Cat(parts) => over_row(Row::Parts(parts.as_slice()), text, part, caps, live, tries),
+        Ere::Cat(parts) => over_parts(parts.as_slice(), site, tries),
         Ere::Repeat { inner, least, most } => {
-            over_row(
-                Row::Members(inner, *least, *most),
-                text,
-                part,
-                caps,
-                live,
-                tries,
-            )
+            over_row(Row::Members(inner, *least, *most), site, tries)
         }
-        Ere::Alt(choices) => over_one(choices.as_slice(), text, part, caps, live, tries),
+        Ere::Alt(choices) => over_one(choices.as_slice(), site, tries),
         Ere::Group { number, inner } => {
-            let found = over(inner, false, text, part, caps, live, tries)?;
-            set_all(found, *number, part, tries)
+            let found = over(inner, false, site, tries)?;
+            set_all(found, *number, site.part, tries)
         }
-        Ere::Ref { number, fold } => over_ref(*number, *fold, text, part, caps, tries),
-        Ere::Empty | Ere::Plain(_) | Ere::Set(_) => over_free(ere, known, text, part, caps, tries),
-        Ere::LineStart | Ere::LineEnd => over_free(ere, known, text, part, caps, tries),
+        Ere::Ref { number, fold } => over_ref(*number, *fold, site, tries),
+        Ere::Empty | Ere::Plain(_) | Ere::Set(_) => over_free(ere, known, site, tries),
+        Ere::LineStart | Ere::LineEnd => over_free(ere, known, site, tries),
     }
 }

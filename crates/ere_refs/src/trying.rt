@@ -10,6 +10,7 @@ ghost use Rattle.ere_tree.specs.View.{view};
 use crate::ends::ends_between;
 use crate::held::{Part, none_held};
 use crate::lists::over;
+use crate::site::Site;
 use crate::tries::Tries;
 use ere_tree::{Cap, Caps, Ere};
 use std::alloc::AllocError;
@@ -52,15 +53,17 @@ pub fn try_from(
     let ends = ends_between(tries.alloc, free, slice, span.from, span.to)?;
     let none = none_held(tries.alloc, ere.groups())?;
     for back in 0..span.to - span.from + 1 {
-        let to = span.to - back;
+        let (from, to) = (span.from, span.to - back);
         if ends.seen.has(to) {
             tries.take(1)?;
-            let part = Part {
-                start,
-                from: span.from,
-                to,
+            let part = Part { start, from, to };
+            let site = Site {
+                text: slice,
+                part,
+                caps: none.as_slice(),
+                live: &[],
             };
-            let lists = over(ere, false, slice, part, none.as_slice(), &[], tries)?;
+            let lists = over(ere, false, site, tries)?;
             if let Some(held) = first_of(lists) {
                 return Ok(Some(Found {
                     to,

@@ -1,7 +1,8 @@
 -- Lists of what groups hold, over each form of an expression: each answer turns what the functions called say into what is said
--- of the whole, by a lemma of MachineLemmas. The hard one is `run-loop-preserved`: each step keeps what is known of the stack.
-use Rattle.std.proofs.Common.{OnOk, ◌≡◌, ℕ, suc, ◌+◌, ◌-◌, ◌≤◌, Option, List, [], ◌∷◌, ◌++◌, Vec, Global, length, map, get_or, true, true≢false, eqb-true, refl, sym, ap, ◌∙◌, subst, arith}
-use Rattle.std.specs.Prelude.{reverse}
+-- of the whole, by a lemma of MachineLemmas or FoundLemmas. The hard ones are those of `advance`, where a state's list stands for
+-- the one before the row.
+use Rattle.std.proofs.Common.{◌<◌, OnOk, ◌≡◌, ℕ, suc, ◌+◌, ◌-◌, Option, List, [], ◌∷◌, ◌++◌, Vec, Global, length, map, get_or, true, true≢false, eqb-true, sym, ap, ◌∙◌, subst, arith}
+use Rattle.std.specs.Prelude.{IfOk, reverse}
 use Rattle.std.proofs.lemmas.Bool.{leb-true, ltb-true}
 use Rattle.std.proofs.lemmas.List.{get_or-map, length-map}
 use Rattle.std.proofs.lemmas.List.Elements.{All-append, All-nil, All-push}
@@ -9,22 +10,24 @@ use Rattle.std.proofs.lemmas.Result.{IfOk-weaker, on_ok_weaker}
 use Rattle.std.specs.List.{All, AllZip, Contains}
 use Rattle.ere_captures.proofs.WalkLemmas.{room_at}
 use Rattle.ere_tree.proofs.ViewLemmas.{view_Ref}
-use Rattle.ere_tree.specs.Captures.{Captures}
-use Rattle.ere_tree.specs.Shape.{greatest_group}
-use Rattle.ere_tree.specs.Tree.{alt, back, trees_of}
+use Rattle.ere_tree.specs.Tree.{Tree, alt, cat, trees_of}
 use Rattle.ere_tree.specs.View.{view}
+use Rattle.ere_tree.specs.declared.ere.Ere.{Ere}
 use Rattle.ere_tree.specs.declared.hit.Cap.{Cap}
-use Rattle.ere_refs.proofs.ListedLemmas.{in_group, over_group, over_no_choice, over_none}
-use Rattle.ere_refs.proofs.MachineLemmas.{alt_tree, at_high, cat_tree, first_all, first_enough, first_more, group_tree, last_fits, new_fit, none_of, puts_long, repeat_tree, set_listed, set_long, stands_done, stands_enough, stands_leave, stands_next, stands_start, still_fits, tells_none, unset_anchor, unset_text}
+use Rattle.ere_refs.proofs.FoundLemmas.{alone_listed, alt_tree, cat_tree, first_all, first_enough, first_more, group_tree, none_long, none_of, puts_long, repeat_tree, set_listed, set_long, tells_none, unset_anchor, unset_text}
+use Rattle.ere_refs.proofs.ListedLemmas.{alone, in_group, over_alone, over_group, over_no_choice, over_none}
+use Rattle.ere_refs.proofs.MachineLemmas.{at_high, last_fits, new_fit, stands_done, stands_enough, stands_leave, stands_next, stands_start, still_fits}
 use Rattle.ere_refs.proofs.OverLemmas.{both_left, both_right, known_end, nodes_at, not_end}
 use Rattle.ere_refs.proofs.RowLemmas.{refs_at}
 use Rattle.ere_refs.specs.Lists.{AreOver, Listed, ListsOver, lists_of}
-use Rattle.ere_refs.specs.Machine.{AreLives, AreLong, FrameFits, OpenFits, RowRoom, SetsGroup, Stands, caps_at, lives_count, new_frame, nodes, tree_of}
+use Rattle.ere_refs.specs.Machine.{AreLives, FrameFits, Keeps, SetsGroup, Stands, StandsWith, caps_at, count_in, lives_count, new_frame, nodes, tree_of}
 use Rattle.ere_refs.specs.Over.{AreEnds}
 use Rattle.ere_refs.specs.Refers.{refs_fit}
+use Rattle.ere_refs.specs.Site.{AreLong, HasRoom, ListsAt}
 use Rattle.ere_refs.specs.declared.kept.State.{State}
+use Rattle.ere_refs.specs.declared.lists.Course.{Course}
 use Rattle.ere_refs.specs.declared.lists.Frame.{Frame}
-use Rattle.ere_refs.specs.declared.lists.Frame.TheVariants.{New, Open}
+use Rattle.ere_refs.specs.declared.lists.Frame.TheVariants.{Open}
 use Rattle.ere_refs.proofs.lists.+lists.Goals as goal
 
 -- ONE END OF A STATE
@@ -33,623 +36,476 @@ pub advance-over_end-requires : goal.advance-over_end-requires
 advance-over_end-requires t c =
     let one = c.args.opened in
     let fits = c.requires.opened in
+    let course = c.args.course in
     let tree = view one.next.ere.now in
-    let part = c.args.course.part in
-    let same = sym c.as_slice.ensures.value in (
+    let same = sym c.as_slice.ensures.value in
+    let long = sym fits.ends.state.2 in (
       omega (arith, c.decreases, fits.small),
       (
-        subst (λ (xs : List (Option Cap)). refs_fit (length xs) tree ≡ true) same fits.refs,
+        subst (λ n. HasRoom n tree) (long ∙ ap length same) fits.room,
         (
-          omega (arith, fits.ends.behind.1, c.if-opened.false),
           (
-            omega (arith, fits.ends.high, c.requires.within),
-            (
-              subst (λ (xs : List (Option Cap)). greatest_group tree ≤ length xs) same fits.room,
-              (
-                c.requires.fits,
-                (
-                  part.to,
-                  omega (arith, fits.ends.high),
-                  subst (λ (xs : List (Option Cap)). AreEnds c.args.course.text.now tree part.start one.state.place part.to
-                      (length xs) xs one.ends) same fits.ends.ends,
-                ),
-              ),
-            ),
+            omega (arith, fits.ends.behind.1, c.if-opened.false),
+            omega (arith, fits.ends.high, c.requires.course.3.1),
+            c.requires.course.3.2,
+          ),
+          (
+            course.site.part.to,
+            omega (arith, fits.ends.high),
+            subst (λ (xs : List (Option Cap)). AreEnds course.site.text.now tree course.site.part.start one.state.place
+                course.site.part.to (length xs) xs one.ends) same
+                (subst (λ n. AreEnds course.site.text.now tree course.site.part.start one.state.place course.site.part.to n
+                one.state.caps.items one.ends) long fits.ends.ends),
           ),
         ),
       ),
     )
 
-pub advance-returns-then-opened-clause-stands : goal.advance-returns-then-opened-clause-stands
-advance-returns-then-opened-clause-stands t c =
-    let one = c.args.opened in
+pub advance-returns-then-opened-clause-keeps : goal.advance-returns-then-opened-clause-keeps
+advance-returns-then-opened-clause-keeps t c =
+    let old = c.args.progress.now in
     on_ok_weaker c.put.result
-    (λ put d st. stands_leave c.args.course.text.now c.args.course.row c.args.course.live.now c.args.course.part
-    (length one.state.caps.items) d one c.args.rows.now.frames.items c.args.rows.now.found.states.items
-    c.args.rows.now.left.states.items c.put.new.self.states.items c.requires.opened c.if-opened.true put st) c.put.ensures
+    (λ put d st. stands_leave c.args.course d c.args.opened old.frames.items old.found.states.items old.left.states.items
+    c.put.new.self.states.items c.requires.opened c.if-opened.true put st) c.put.ensures
 
-pub advance-returns-clause-frames : goal.advance-returns-clause-frames
-advance-returns-clause-frames t c =
-    let s = c.args.course.text.now in
-    let row = c.args.course.row in
-    let live = c.args.course.live.now in
-    let part = c.args.course.part in
+pub advance-returns-clause-fits : goal.advance-returns-clause-fits
+advance-returns-clause-fits t c =
+    let course = c.args.course in
     let one = c.args.opened in
     let fits = c.requires.opened in
-    let count = length one.state.caps.items in
     let to = one.high - 1 in
     let high : one.high ≡ suc to = omega (arith, c.if-opened.false) in
     let lists = c.in_ok-found.found.items in
-    let frames = c.args.rows.now.frames.items in
+    let frames = c.args.progress.now.frames.items in
     let more = reverse (map (new_frame one.next.stage to) lists) in
-    let long : AreLong count (map (λ held. held.items) lists) =
-    subst (λ (xs : List (Option Cap)). AreLong (length xs) (map (λ held. held.items) lists)) c.as_slice.ensures.value
-    c.in_ok-found.ensures.long in
-    let Fit = FrameFits s row live part count in
+    let long : AreLong (count_in course) (map (λ held. held.items) lists) =
+    subst (λ n. AreLong n (map (λ held. held.items) lists)) (ap length c.as_slice.ensures.value ∙ fits.ends.state.2)
+    c.in_ok-found.ensures.1 in
+    let Fit = FrameFits course in
     on_ok_weaker c.push_all.result
-    (λ put. subst (All Fit) (sym (put ∙ ap (λ xs. xs ++ more) c.in_ok-push.ensures.items))
-    (All-append Fit (frames ++ Open (at_high one to) ∷ []) more
-    (All-push Fit frames (Open (at_high one to)) c.requires.frames (still_fits s row live part count one to fits high))
-    (new_fit s row live part count one.next.stage to lists
-    (omega (arith, fits.ends.state.0, fits.ends.behind.1, c.if-opened.false)) (omega (arith, fits.ends.high)) long)))
-    c.push_all.ensures
+    (λ put. (
+      subst (All Fit) (sym (put ∙ ap (λ xs. xs ++ more) c.in_ok-push.ensures.items))
+          (All-append Fit (frames ++ Open (at_high one to) ∷ []) more
+          (All-push Fit frames (Open (at_high one to)) c.requires.progress.0 (still_fits course one to fits high))
+          (new_fit course one.next.stage to lists (omega (arith, fits.ends.state.0, fits.ends.behind.1, c.if-opened.false))
+          (omega (arith, fits.ends.high)) long)),
+      c.requires.progress.1,
+    )) c.push_all.ensures
 
-pub advance-returns-clause-stands : goal.advance-returns-clause-stands
-advance-returns-clause-stands t c =
-    let s = c.args.course.text.now in
-    let row = c.args.course.row in
-    let live = c.args.course.live.now in
-    let part = c.args.course.part in
+pub advance-returns-clause-keeps : goal.advance-returns-clause-keeps
+advance-returns-clause-keeps t c =
+    let course = c.args.course in
+    let s = course.site.text.now in
+    let start = course.site.part.start in
     let one = c.args.opened in
-    let count = length one.state.caps.items in
+    let fits = c.requires.opened in
     let to = one.high - 1 in
+    let tree = view one.next.ere.now in
+    let P = Contains one.next.behind.now in
     let high : one.high ≡ suc to = omega (arith, c.if-opened.false) in
     let lists = c.in_ok-found.found.items in
-    let frames = c.args.rows.now.frames.items in
-    let found = c.args.rows.now.found.states.items in
-    let left = c.args.rows.now.left.states.items in
+    let old = c.args.progress.now in
     let more = reverse (map (new_frame one.next.stage to) lists) in
     let over =
-    subst (λ (xs : List (Option Cap)). ListsOver s (view one.next.ere.now) part.start one.state.place to (length xs)
-    (Contains one.next.behind.now) xs lists) c.as_slice.ensures.value c.in_ok-found.ensures.lists in
+    subst (λ n. ListsOver s tree start one.state.place to n P one.state.caps.items lists) fits.ends.state.2
+    (subst (λ (xs : List (Option Cap)). ListsOver s tree start one.state.place to (length xs) P xs lists)
+    c.as_slice.ensures.value c.in_ok-found.ensures.0) in
     on_ok_weaker c.push_all.result
-    (λ put d st. subst (λ (xs : List Frame). Stands s row live part count d xs found left)
+    (λ put d st. subst (λ (xs : List Frame). StandsWith course d xs old)
     (sym (put ∙ ap (λ xs. xs ++ more) c.in_ok-push.ensures.items))
-    (stands_next s row live part count d one to frames found left lists c.requires.opened high
+    (stands_next course d one to old.frames.items old.found.states.items old.left.states.items lists fits high
     (omega (arith, c.if-opened.false)) over st)) c.push_all.ensures
 
-pub over_end-returns-then-not-may_be-clause-lists : goal.over_end-returns-then-not-may_be-clause-lists
-over_end-returns-then-not-may_be-clause-lists t c = λ d is.
-    let s = c.args.text.now in
-    let tree = view c.args.next.ere.now in
-    let part = c.args.part in (
-      [],
-      over_none s tree part.from part.to d (Contains c.args.next.behind.now)
-          (not_end s tree part.start part.from part.to c.requires.ends.0 (length c.args.caps.now) c.args.caps.now c.args.ends.now
-          c.requires.ends.2 c.requires.ends.1 (sym c.may_be.ensures ∙ c.if-not-may_be.true) d is),
-      ap (map (λ held. held.items)) c.new.ensures.items,
+pub over_end-returns-then-not-may_be : goal.over_end-returns-then-not-may_be
+over_end-returns-then-not-may_be t c =
+    let site = c.args.site in
+    let part = site.part in
+    let tree = view c.args.ere.now in (
+      λ d is. (
+        [],
+        over_none site.text.now tree part.from part.to d (Contains site.live.now)
+            (not_end site.text.now tree part.start part.from part.to c.requires.ends.0 (length site.caps.now) site.caps.now
+            c.args.ends.now c.requires.ends.2 c.requires.ends.1 (sym c.may_be.ensures ∙ c.if-not-may_be.true) d is),
+        ap (map (λ held. held.items)) c.new.ensures.items,
+      ),
+      none_long (length site.caps.now) c.new.result.items c.new.ensures.items,
     )
 
-pub over_end-returns-then-not-may_be-clause-long : goal.over_end-returns-then-not-may_be-clause-long
-over_end-returns-then-not-may_be-clause-long t c =
-    subst (λ (xs : List (Vec (Option Cap) Global)). AreLong (length c.args.caps.now) (map (λ held. held.items) xs))
-    (sym c.new.ensures.items) (All-nil (λ (ys : List (Option Cap)). length ys ≡ length c.args.caps.now))
-
 pub over_end-over-requires : goal.over_end-over-requires
-over_end-over-requires t c = (
-  omega (arith, c.decreases),
-  (
-    (λ yes. known_end c.args.text.now (view c.args.next.ere.now) c.args.part.start c.args.part.from c.args.part.to
-        (length c.args.caps.now) c.args.caps.now c.args.ends.now c.requires.ends (sym c.is_known.ensures ∙ yes)
-        (sym c.may_be.ensures ∙ c.if-not-may_be.false)),
-    (
-      c.requires.refs,
-      (c.requires.order, (c.requires.within, (c.requires.room, c.requires.fits))),
-    ),
-  ),
-)
+over_end-over-requires t c =
+    let site = c.args.site in (
+      omega (arith, c.decreases),
+      (
+        (λ yes. known_end site.text.now (view c.args.ere.now) site.part.start site.part.from site.part.to
+            (length site.caps.now) site.caps.now c.args.ends.now c.requires.ends (sym c.is_known.ensures ∙ yes)
+            (sym c.may_be.ensures ∙ c.if-not-may_be.false)),
+        (c.requires.room, c.requires.site),
+      ),
+    )
 
-pub over_end-returns-clause-lists : goal.over_end-returns-clause-lists
-over_end-returns-clause-lists t c = c.over.ensures.lists
-
-pub over_end-returns-clause-long : goal.over_end-returns-clause-long
-over_end-returns-clause-long t c = c.over.ensures.long
+pub over_end-returns : goal.over_end-returns
+over_end-returns t c = c.over.ensures
 
 -- THE STACK
 
 pub run-loop-init : goal.run-loop-init
-run-loop-init t c = record {
-  frames = c.requires.frames;
-  long = c.requires.long;
-  stands = λ d st. st;
-}
+run-loop-init t c = record { fits = c.requires.progress; stands = λ d st. st }
 
-pub run-returns-then-len-gt0-clause-done : goal.run-returns-then-len-gt0-clause-done
-run-returns-then-len-gt0-clause-done t c = λ d st.
-    stands_enough c.args.course.text.now c.args.course.row c.args.course.live.now c.args.course.part
-    (length c.args.course.caps.now) d c.loop.rows.frames.items c.loop.rows.found.states.items c.loop.rows.left.states.items
-    (c.loop.invariant.stands d st)
-    (none_of c.args.course.live.now (eqb-true (length c.args.course.live.now) 0 (sym c.is_empty.ensures ∙ c.if-is_empty.true)))
-    (omega (arith, c.len.ensures, c.if-len-gt0.true))
-
-pub run-returns-then-len-gt0-clause-long : goal.run-returns-then-len-gt0-clause-long
-run-returns-then-len-gt0-clause-long t c = c.loop.invariant.long
-
-pub run-returns-in-None-clause-done : goal.run-returns-in-None-clause-done
-run-returns-in-None-clause-done t c = λ d st.
-    let s = c.args.course.text.now in
-    let row = c.args.course.row in
-    let live = c.args.course.live.now in
-    let part = c.args.course.part in
-    let count = length c.args.course.caps.now in
-    let found = c.loop.rows.found.states.items in
-    let left = c.loop.rows.left.states.items in
-    stands_done s row live part count d found left
-    (subst (λ (xs : List Frame). Stands s row live part count d xs found left)
-    (none_of c.loop.rows.frames.items (omega (arith, c.in-None.ensures.cases, c.loop.rows.frames.ok)))
-    (c.loop.invariant.stands d st))
-
-pub run-returns-in-None-clause-long : goal.run-returns-in-None-clause-long
-run-returns-in-None-clause-long t c = c.loop.invariant.long
-
-pub step-open-requires-clause-room : goal.step-open-requires-clause-room
-step-open-requires-clause-room t c =
-    let Fit = FrameFits c.args.course.text.now c.args.course.row c.args.course.live.now c.args.course.part
-    (length c.args.course.caps.now) in
-    let fit = subst Fit c.in-New.is c.requires.frame in
-    subst (λ n. RowRoom n c.args.course.row) (sym fit.2) c.requires.room
-
-pub step-open-requires-clause-state : goal.step-open-requires-clause-state
-step-open-requires-clause-state t c =
-    let Fit = FrameFits c.args.course.text.now c.args.course.row c.args.course.live.now c.args.course.part
-    (length c.args.course.caps.now) in
-    let fit = subst Fit c.in-New.is c.requires.frame in
-    (fit.0, fit.1, refl)
-
-pub step-open-requires-clause-frames : goal.step-open-requires-clause-frames
-step-open-requires-clause-frames t c =
-    let Fit = λ (n : ℕ). FrameFits c.args.course.text.now c.args.course.row c.args.course.live.now c.args.course.part n in
-    let fit = subst (Fit (length c.args.course.caps.now)) c.in-New.is c.requires.frame in
-    subst (λ n. All (Fit n) c.args.rows.now.frames.items) (sym fit.2) c.requires.frames
-
-pub step-advance-requires : goal.step-advance-requires
-step-advance-requires t c =
-    let s = c.args.course.text.now in
-    let row = c.args.course.row in
-    let live = c.args.course.live.now in
-    let part = c.args.course.part in
-    let Fit = λ (n : ℕ). FrameFits s row live part n in
-    let fit = subst (Fit (length c.args.course.caps.now)) c.in-Open.is c.requires.frame in
-    let long = sym fit.ends.state.2 in (
-      omega (arith, c.decreases),
-      (
-        subst (λ n. OpenFits s row live part n c.in-Open.opened) long fit,
-        (
-          c.requires.within,
-          (c.requires.fits, subst (λ n. All (Fit n) c.args.rows.now.frames.items) long c.requires.frames),
-        ),
-      ),
+pub run-returns-then-len-gt0 : goal.run-returns-then-len-gt0
+run-returns-then-len-gt0 t c =
+    let course = c.args.course in
+    let now = c.loop.progress in (
+      λ d st. stands_enough course d now.frames.items now.found.states.items now.left.states.items
+          (c.loop.invariant.stands d st)
+          (none_of course.site.live.now
+          (eqb-true (length course.site.live.now) 0 (sym c.is_empty.ensures ∙ c.if-is_empty.true)))
+          (omega (arith, c.len.ensures, c.if-len-gt0.true)),
+      c.loop.invariant.fits.1,
     )
 
-pub step-returns-in-New-clause-frames : goal.step-returns-in-New-clause-frames
-step-returns-in-New-clause-frames t c =
-    let Fit = λ (n : ℕ). FrameFits c.args.course.text.now c.args.course.row c.args.course.live.now c.args.course.part n in
-    let fit = subst (Fit (length c.args.course.caps.now)) c.in-New.is c.requires.frame in
-    subst (λ n. OnOk c.open.result (All (Fit n) c.open.new.rows.frames.items)) fit.2 c.open.ensures.frames
+pub run-returns-in-None : goal.run-returns-in-None
+run-returns-in-None t c =
+    let course = c.args.course in
+    let now = c.loop.progress in (
+      λ d st. stands_done course d now.found.states.items now.left.states.items
+          (subst (λ (xs : List Frame). StandsWith course d xs now)
+          (none_of now.frames.items (omega (arith, c.in-None.ensures.cases, now.frames.ok))) (c.loop.invariant.stands d st)),
+      c.loop.invariant.fits.1,
+    )
 
-pub step-returns-in-New-clause-stands : goal.step-returns-in-New-clause-stands
-step-returns-in-New-clause-stands t c =
-    let s = c.args.course.text.now in
-    let row = c.args.course.row in
-    let live = c.args.course.live.now in
-    let part = c.args.course.part in
-    let count = length c.args.course.caps.now in
-    let old = c.args.rows.now in
-    let new = c.open.new.rows in
-    let fit = subst (FrameFits s row live part count) c.in-New.is c.requires.frame in
-    let Keeps = λ (n : ℕ) (top : Frame). OnOk c.open.result ((d : Captures)
-    → Stands s row live part n d (old.frames.items ++ top ∷ []) old.found.states.items old.left.states.items
-    → Stands s row live part n d new.frames.items new.found.states.items new.left.states.items) in
-    subst (Keeps count) (sym c.in-New.is) (subst (λ n. Keeps n (New c.in-New.state)) fit.2 c.open.ensures.stands)
+pub step-open-requires-clause-state : goal.step-open-requires-clause-state
+step-open-requires-clause-state t c = subst (FrameFits c.args.course) c.in-New.is c.requires.frame
 
-pub step-returns-in-New-clause-long : goal.step-returns-in-New-clause-long
-step-returns-in-New-clause-long t c =
-    let Fit = FrameFits c.args.course.text.now c.args.course.row c.args.course.live.now c.args.course.part
-    (length c.args.course.caps.now) in
-    let fit = subst Fit c.in-New.is c.requires.frame in
-    subst (λ n. OnOk c.open.result (AreLong n (map caps_at c.args.rows.now.found.states.items)
-    → AreLong n (map caps_at c.open.new.rows.found.states.items))) fit.2 c.open.ensures.long
+pub step-advance-requires : goal.step-advance-requires
+step-advance-requires t c = (
+  omega (arith, c.decreases),
+  (c.requires.course, (subst (FrameFits c.args.course) c.in-Open.is c.requires.frame, c.requires.progress)),
+)
 
-pub step-returns-in-Open-clause-frames : goal.step-returns-in-Open-clause-frames
-step-returns-in-Open-clause-frames t c =
-    let Fit = λ (n : ℕ). FrameFits c.args.course.text.now c.args.course.row c.args.course.live.now c.args.course.part n in
-    let fit = subst (Fit (length c.args.course.caps.now)) c.in-Open.is c.requires.frame in
-    subst (λ n. OnOk c.advance.result (All (Fit n) c.advance.new.rows.frames.items)) fit.ends.state.2 c.advance.ensures.frames
+pub step-returns-in-New-clause-keeps : goal.step-returns-in-New-clause-keeps
+step-returns-in-New-clause-keeps t c =
+    subst (λ (top : Frame). OnOk c.open.result (Keeps c.args.course c.args.progress.now top c.open.new.progress))
+    (sym c.in-New.is) c.open.ensures.keeps
 
-pub step-returns-in-Open-clause-stands : goal.step-returns-in-Open-clause-stands
-step-returns-in-Open-clause-stands t c =
-    let s = c.args.course.text.now in
-    let row = c.args.course.row in
-    let live = c.args.course.live.now in
-    let part = c.args.course.part in
-    let count = length c.args.course.caps.now in
-    let old = c.args.rows.now in
-    let new = c.advance.new.rows in
-    let fit = subst (FrameFits s row live part count) c.in-Open.is c.requires.frame in
-    let Keeps = λ (n : ℕ) (top : Frame). OnOk c.advance.result ((d : Captures)
-    → Stands s row live part n d (old.frames.items ++ top ∷ []) old.found.states.items old.left.states.items
-    → Stands s row live part n d new.frames.items new.found.states.items new.left.states.items) in
-    subst (Keeps count) (sym c.in-Open.is) (subst (λ n. Keeps n (Open c.in-Open.opened)) fit.ends.state.2 c.advance.ensures.stands)
-
-pub step-returns-in-Open-clause-long : goal.step-returns-in-Open-clause-long
-step-returns-in-Open-clause-long t c =
-    on_ok_weaker c.advance.result
-    (λ more long. subst (λ (xs : List State). AreLong (length c.args.course.caps.now) (map caps_at xs))
-    (sym c.advance.ensures.found) long) c.advance.ensures.frames
+pub step-returns-in-Open-clause-keeps : goal.step-returns-in-Open-clause-keeps
+step-returns-in-Open-clause-keeps t c =
+    subst (λ (top : Frame). OnOk c.advance.result (Keeps c.args.course c.args.progress.now top c.advance.new.progress))
+    (sym c.in-Open.is) c.advance.ensures.keeps
 
 pub run-step-requires : goal.run-step-requires
 run-step-requires t c =
-    let Fit = FrameFits c.args.course.text.now c.args.course.row c.args.course.live.now c.args.course.part
-    (length c.args.course.caps.now) in
-    let fit = last_fits Fit c.loop.rows.frames.items c.pop.new.self.items c.in-Some.frame c.in-Some.ensures.items
-    c.loop.invariant.frames in (
-      omega (arith, c.decreases),
-      (
-        c.requires.count,
-        (c.requires.lives, (c.requires.room, (c.requires.within, (c.requires.fits, (fit.1, fit.0))))),
-      ),
-    )
+    let fit = last_fits (FrameFits c.args.course) c.loop.progress.frames.items c.pop.new.self.items c.in-Some.frame
+    c.in-Some.ensures.items c.loop.invariant.fits.0 in
+    (omega (arith, c.decreases), (c.requires.course, (fit.1, (fit.0, c.loop.invariant.fits.1))))
 
 pub run-loop-preserved : goal.run-loop-preserved
-run-loop-preserved t c =
-    let s = c.args.course.text.now in
-    let row = c.args.course.row in
-    let live = c.args.course.live.now in
-    let part = c.args.course.part in
-    let count = length c.args.course.caps.now in
-    record {
-      frames = c.in_ok-step-in-Some.ensures.frames;
-      long = c.in_ok-step-in-Some.ensures.long c.loop.invariant.long;
-      stands = λ d st. c.in_ok-step-in-Some.ensures.stands d
-          (subst (λ (xs : List Frame). Stands s row live part count d xs c.loop.rows.found.states.items
-          c.loop.rows.left.states.items) c.in-Some.ensures.items (c.loop.invariant.stands d st));
-    }
+run-loop-preserved t c = record {
+  fits = c.in_ok-step-in-Some.ensures.fits;
+  stands = λ d st. c.in_ok-step-in-Some.ensures.keeps d
+      (subst (λ (xs : List Frame). StandsWith c.args.course d xs c.loop.progress) c.in-Some.ensures.items
+      (c.loop.invariant.stands d st));
+}
 
 -- A ROW
 
 pub over_row-run-requires : goal.over_row-run-requires
 over_row-run-requires t c =
-    let s = c.args.text.now in
-    let part = c.args.part in
-    let count = length c.args.caps.now in
+    let site = c.args.site in
     let begins = c.in_ok-start.ensures.begins in
-    let Fit = FrameFits s c.args.row c.args.live.now part count in
+    let course : Course = record { row = c.args.row; lives = c.as_slice.result; site = site } in
+    let Fit = FrameFits course in
     let same = sym c.as_slice.ensures.value in (
       omega (arith, c.decreases),
       (
-        subst (λ (xs : List (Vec ℕ Global)). length xs ≡ lives_count c.args.row) same c.in_ok-lives.ensures.count,
         (
-          subst (λ (xs : List (Vec ℕ Global)). AreLives c.args.row xs c.args.live.now) same c.in_ok-lives.ensures.lives,
-          (
-            c.requires.room,
-            (
-              c.requires.within,
-              (
-                c.requires.fits,
-                (
-                  subst (All Fit) (sym (begins.2 ∙ ap (λ xs. xs ++ new_frame 0 part.from begins.0 ∷ []) c.new-rows.ensures.frames))
-                      (All-push Fit [] (new_frame 0 part.from begins.0) (All-nil Fit)
-                      (omega arith, c.requires.order, ap length begins.1)),
-                  subst (λ (xs : List State). AreLong count (map caps_at xs)) (sym (c.start.ensures.found ∙ c.new-rows.ensures.found))
-                      (All-nil (λ (ys : List (Option Cap)). length ys ≡ count)),
-                ),
-              ),
-            ),
-          ),
+          subst (λ (xs : List (Vec ℕ Global)). length xs ≡ lives_count c.args.row) same c.in_ok-lives.ensures.count,
+          subst (λ (xs : List (Vec ℕ Global)). AreLives c.args.row xs site.live.now) same c.in_ok-lives.ensures.lives,
+          c.requires.room,
+          c.requires.site,
+        ),
+        (
+          subst (All Fit) (sym (begins.2 ∙ ap (λ xs. xs ++ new_frame 0 site.part.from begins.0 ∷ []) c.new-progress.ensures.frames))
+              (All-push Fit [] (new_frame 0 site.part.from begins.0) (All-nil Fit)
+              (omega arith, c.requires.site.0, ap length begins.1)),
+          subst (λ (xs : List State). AreLong (count_in course) (map caps_at xs))
+              (sym (c.in_ok-start.ensures.found ∙ c.new-progress.ensures.found))
+              (All-nil (λ (ys : List (Option Cap)). length ys ≡ count_in course)),
         ),
       ),
     )
 
-pub over_row-returns-clause-lists : goal.over_row-returns-clause-lists
-over_row-returns-clause-lists t c =
-    let s = c.args.text.now in
-    let row = c.args.row in
-    let live = c.args.live.now in
-    let part = c.args.part in
-    let old = c.args.caps.now in
-    let count = length old in
+pub over_row-returns : goal.over_row-returns
+over_row-returns t c =
+    let site = c.args.site in
     let begins = c.in_ok-start.ensures.begins in
-    let one = new_frame 0 part.from begins.0 in
+    let course : Course = record { row = c.args.row; lives = c.as_slice.result; site = site } in
+    let one = new_frame 0 site.part.from begins.0 in
+    let now = c.start.new.progress in
     IfOk-weaker c.finish.result
-    (λ found. map (λ held. held.items) found.items ≡ map caps_at c.run.new.rows.found.states.items)
-    (λ found. ListsOver s (tree_of row) part.start part.from part.to count (Contains live) old found.items)
-    (λ found is d held.
-    let frames = begins.2 ∙ ap (λ xs. xs ++ one ∷ []) c.new-rows.ensures.frames in
-    let starts = subst (λ (xs : List Frame). Stands s row live part count d xs c.start.new.rows.found.states.items
-    c.start.new.rows.left.states.items) (sym frames)
-    (subst (λ (xs : List State). Stands s row live part count d (one ∷ []) xs c.start.new.rows.left.states.items)
-    (sym (c.start.ensures.found ∙ c.new-rows.ensures.found))
-    (subst (λ (xs : List State). Stands s row live part count d (one ∷ []) [] xs)
-    (sym (c.start.ensures.left ∙ c.new-rows.ensures.left))
-    (stands_start s row live part count d begins.0 (begins.1 ∙ held)))) in
-    let done = c.in_ok-run.ensures.done d starts in
-    (done.0, done.1, is ∙ done.2)) c.finish.ensures
+    (λ found. map (λ held. held.items) found.items ≡ map caps_at c.run.new.progress.found.states.items)
+    (ListsAt site (tree_of c.args.row))
+    (λ found is. (
+      λ d held.
+          let frames = begins.2 ∙ ap (λ xs. xs ++ one ∷ []) c.new-progress.ensures.frames in
+          let starts = subst (λ (xs : List Frame). StandsWith course d xs now) (sym frames)
+          (subst (λ (xs : List State). Stands course d (one ∷ []) xs now.left.states.items)
+          (sym (c.start.ensures.found ∙ c.new-progress.ensures.found))
+          (subst (λ (xs : List State). Stands course d (one ∷ []) [] xs) (sym (c.start.ensures.left ∙ c.new-progress.ensures.left))
+          (stands_start course d begins.0 (begins.1 ∙ held)))) in
+          let done = c.in_ok-run.ensures.0 d starts in
+          (done.0, done.1, is ∙ done.2),
+      subst (AreLong (count_in course)) (sym is) c.in_ok-run.ensures.1,
+    )) c.finish.ensures
 
-pub over_row-returns-clause-long : goal.over_row-returns-clause-long
-over_row-returns-clause-long t c =
-    let count = length c.args.caps.now in
-    IfOk-weaker c.finish.result
-    (λ found. map (λ held. held.items) found.items ≡ map caps_at c.run.new.rows.found.states.items)
-    (λ found. AreLong count (map (λ held. held.items) found.items))
-    (λ found is. subst (AreLong count) (sym is) c.in_ok-run.ensures.long) c.finish.ensures
+-- ONE PART ALONE
+
+pub over_parts-over-requires : goal.over_parts-over-requires
+over_parts-over-requires t c =
+    let items = c.args.parts.now in
+    let one = c.in-Some.one.now in
+    let count = length c.args.site.caps.now in
+    let cases = c.in-Some.ensures.cases.0 in
+    let long = ap length cases in
+    let low : 0 < length items = omega (arith, long) in
+    let is : one ≡ get_or items 0 one = sym (ap (λ (xs : List Ere). get_or xs 0 one) cases) in
+    let size = nodes_at items 0 one low is in (
+      omega (arith, c.decreases, size),
+      (
+        (λ no. absurd (true≢false (sym no))),
+        (
+          (refs_at count items 0 one low is c.requires.room.0, room_at items 0 one count low is c.requires.room.1),
+          c.requires.site,
+        ),
+      ),
+    )
+
+pub over_parts-returns-then-is_empty : goal.over_parts-returns-then-is_empty
+over_parts-returns-then-is_empty t c =
+    let site = c.args.site in
+    let s = site.text.now in
+    let part = site.part in
+    let count = length site.caps.now in
+    let P = Contains site.live.now in
+    let one = c.in-Some.one.now in
+    let none = none_of c.in-Some.others.now
+    (eqb-true (length c.in-Some.others.now) 0 (sym c.is_empty.ensures ∙ c.if-is_empty.true)) in
+    let tree = sym (ap (λ (xs : List Ere). cat (trees_of (map view xs))) (c.in-Some.ensures.cases.0 ∙ ap (λ ys. one ∷ ys) none)) in
+    IfOk-weaker c.over.result (ListsAt site (view one)) (ListsAt site (cat (trees_of (map view c.args.parts.now))))
+    (λ found lists. (
+      λ d is.
+          let all = lists.0 d is in
+          subst (λ u. (xs : Listed) × AreOver s u part.from part.to d P xs
+          × (map (λ held. held.items) found.items ≡ lists_of part.start count xs)) tree (
+            map (alone part.to) all.0,
+            over_alone s (view one) part.from part.to d P all.0 c.requires.site.1 all.1,
+            all.2 ∙ alone_listed part.start count part.to all.0,
+          ),
+      lists.1,
+    )) c.over.ensures
 
 -- ALTERNATIVES
 
 pub over_one-loop-one-init : goal.over_one-loop-one-init
-over_one-loop-one-init t c = record {
-  long = subst (λ (xs : List State). AreLong (length c.args.caps.now) (map caps_at xs)) (sym c.new-found.ensures)
-      (All-nil (λ (ys : List (Option Cap)). length ys ≡ length c.args.caps.now));
-  first = λ d is. (
-    [],
-    over_no_choice c.args.text.now (trees_of (map view c.args.choices.now)) c.args.part.from c.args.part.to d
-        (Contains c.args.live.now),
-    ap (map caps_at) c.new-found.ensures,
-  );
-}
+over_one-loop-one-init t c =
+    let site = c.args.site in
+    record {
+      long = subst (λ (xs : List State). AreLong (length site.caps.now) (map caps_at xs)) (sym c.new-found.ensures)
+          (All-nil (λ (ys : List (Option Cap)). length ys ≡ length site.caps.now));
+      first = λ d is. (
+        [],
+        over_no_choice site.text.now (trees_of (map view c.args.choices.now)) site.part.from site.part.to d
+            (Contains site.live.now),
+        ap (map caps_at) c.new-found.ensures,
+      );
+    }
 
 pub over_one-over-requires : goal.over_one-over-requires
 over_one-over-requires t c =
     let items = c.args.choices.now in
     let one = c.one-item.result in
     let k = c.loop-one.one-index in
-    let count = length c.args.caps.now in
+    let count = length c.args.site.caps.now in
     let size = nodes_at items k one c.loop-one-test.true c.one-item.is in (
       omega (arith, c.decreases, size),
       (
         (λ no. absurd (true≢false (sym no))),
         (
-          refs_at count items k one c.loop-one-test.true c.one-item.is c.requires.refs,
           (
-            c.requires.order,
-            (
-              c.requires.within,
-              (room_at items k one count c.loop-one-test.true c.one-item.is c.requires.room, c.requires.fits),
-            ),
+            refs_at count items k one c.loop-one-test.true c.one-item.is c.requires.room.0,
+            room_at items k one count c.loop-one-test.true c.one-item.is c.requires.room.1,
           ),
+          c.requires.site,
         ),
       ),
     )
 
 pub over_one-loop-one-preserved : goal.over_one-loop-one-preserved
 over_one-loop-one-preserved t c =
-    let live = c.args.live.now in
-    let count = length c.args.caps.now in
+    let site = c.args.site in
+    let live = site.live.now in
+    let count = length site.caps.now in
     let lists = c.in_ok-lists.lists.items in
     let old = c.loop-one.found.states.items in
     let new = c.put_all.new.found.states.items in
     record {
-      long = puts_long live count (map (λ held. held.items) lists) c.in_ok-lists.ensures.long old new c.in_ok-put_all.ensures
+      long = puts_long live count (map (λ held. held.items) lists) c.in_ok-lists.ensures.1 old new c.in_ok-put_all.ensures
           c.loop-one.invariant.long;
       first = λ d is.
-          let over = c.in_ok-lists.ensures.lists d is in
-          first_more c.args.text.now c.args.choices.now live c.args.part count d c.loop-one.one-index c.one-item.result old new
+          let over = c.in_ok-lists.ensures.0 d is in
+          first_more site.text.now c.args.choices.now live site.part count d c.loop-one.one-index c.one-item.result old new
           lists c.loop-one-test.true c.one-item.is (c.loop-one.invariant.first d is) over.0 over.1 over.2 c.in_ok-put_all.ensures;
     }
 
-pub over_one-returns-then-len-gt0-clause-lists : goal.over_one-returns-then-len-gt0-clause-lists
-over_one-returns-then-len-gt0-clause-lists t c =
-    let s = c.args.text.now in
+pub over_one-returns-then-len-gt0 : goal.over_one-returns-then-len-gt0
+over_one-returns-then-len-gt0 t c =
+    let site = c.args.site in
+    let s = site.text.now in
     let items = c.args.choices.now in
-    let live = c.args.live.now in
-    let part = c.args.part in
-    let old = c.args.caps.now in
-    let count = length old in
+    let live = site.live.now in
+    let part = site.part in
+    let count = length site.caps.now in
     let k = c.loop-one.one-index in
     let lists = c.in_ok-lists.lists.items in
     let before = c.loop-one.found.states.items in
     let now = c.put_all.new.found.states.items in
     IfOk-weaker c.into_caps.result (λ found. map (λ held. held.items) found.items ≡ map caps_at now)
-    (λ found. ListsOver s (alt (trees_of (map view items))) part.start part.from part.to count (Contains live) old found.items)
-    (λ found same d is.
-    let over = c.in_ok-lists.ensures.lists d is in
-    let first = first_more s items live part count d k c.one-item.result before now lists c.loop-one-test.true c.one-item.is
-    (c.loop-one.invariant.first d is) over.0 over.1 over.2 c.in_ok-put_all.ensures in
-    let all = first_enough s items live part count d (k + 1) now
-    (none_of live (eqb-true (length live) 0 (sym c.is_empty.ensures ∙ c.if-is_empty.true)))
-    (omega (arith, c.len.ensures, c.if-len-gt0.true)) first in
-    (all.0, all.1, same ∙ all.2)) c.into_caps.ensures
+    (ListsAt site (alt (trees_of (map view items))))
+    (λ found same. (
+      λ d is.
+          let over = c.in_ok-lists.ensures.0 d is in
+          let first = first_more s items live part count d k c.one-item.result before now lists c.loop-one-test.true
+          c.one-item.is (c.loop-one.invariant.first d is) over.0 over.1 over.2 c.in_ok-put_all.ensures in
+          let all = first_enough s items live part count d (k + 1) now
+          (none_of live (eqb-true (length live) 0 (sym c.is_empty.ensures ∙ c.if-is_empty.true)))
+          (omega (arith, c.len.ensures, c.if-len-gt0.true)) first in
+          (all.0, all.1, same ∙ all.2),
+      subst (AreLong count) (sym same)
+          (puts_long live count (map (λ held. held.items) lists) c.in_ok-lists.ensures.1 before now c.in_ok-put_all.ensures
+          c.loop-one.invariant.long),
+    )) c.into_caps.ensures
 
-pub over_one-returns-then-len-gt0-clause-long : goal.over_one-returns-then-len-gt0-clause-long
-over_one-returns-then-len-gt0-clause-long t c =
-    let count = length c.args.caps.now in
-    let now = c.put_all.new.found.states.items in
-    IfOk-weaker c.into_caps.result (λ found. map (λ held. held.items) found.items ≡ map caps_at now)
-    (λ found. AreLong count (map (λ held. held.items) found.items))
-    (λ found same. subst (AreLong count) (sym same)
-    (puts_long c.args.live.now count (map (λ held. held.items) c.in_ok-lists.lists.items) c.in_ok-lists.ensures.long
-    c.loop-one.found.states.items now c.in_ok-put_all.ensures c.loop-one.invariant.long)) c.into_caps.ensures
-
-pub over_one-returns-clause-lists : goal.over_one-returns-clause-lists
-over_one-returns-clause-lists t c =
-    let s = c.args.text.now in
+pub over_one-returns : goal.over_one-returns
+over_one-returns t c =
+    let site = c.args.site in
     let items = c.args.choices.now in
-    let live = c.args.live.now in
-    let part = c.args.part in
-    let old = c.args.caps.now in
-    let count = length old in
+    let count = length site.caps.now in
     let now = c.loop-one.found.states.items in
     IfOk-weaker c.into_caps-2.result (λ found. map (λ held. held.items) found.items ≡ map caps_at now)
-    (λ found. ListsOver s (alt (trees_of (map view items))) part.start part.from part.to count (Contains live) old found.items)
-    (λ found same d is.
-    let all = first_all s items live part count d c.loop-one.one-index now (omega (arith, c.loop-one-test.false))
-    (c.loop-one.invariant.first d is) in
-    (all.0, all.1, same ∙ all.2)) c.into_caps-2.ensures
-
-pub over_one-returns-clause-long : goal.over_one-returns-clause-long
-over_one-returns-clause-long t c =
-    let count = length c.args.caps.now in
-    IfOk-weaker c.into_caps-2.result
-    (λ found. map (λ held. held.items) found.items ≡ map caps_at c.loop-one.found.states.items)
-    (λ found. AreLong count (map (λ held. held.items) found.items))
-    (λ found same. subst (AreLong count) (sym same) c.loop-one.invariant.long) c.into_caps-2.ensures
+    (ListsAt site (alt (trees_of (map view items))))
+    (λ found same. (
+      λ d is.
+          let all = first_all site.text.now items site.live.now site.part count d c.loop-one.one-index now
+          (omega (arith, c.loop-one-test.false)) (c.loop-one.invariant.first d is) in
+          (all.0, all.1, same ∙ all.2),
+      subst (AreLong count) (sym same) c.loop-one.invariant.long,
+    )) c.into_caps-2.ensures
 
 -- ONE EXPRESSION
 
+pub over-over_parts-requires : goal.over-over_parts-requires
+over-over_parts-requires t c =
+    let tree = sym (cat_tree c.args.ere.now c.in-Cat.parts c.as_slice.result.now c.as_slice.ensures c.in-Cat.is) in
+    let size = ap nodes tree in
+    (omega (arith, c.decreases, size), (subst (HasRoom (length c.args.site.caps.now)) tree c.requires.room, c.requires.site))
+
 pub over-over_row-requires : goal.over-over_row-requires
 over-over_row-requires t c =
-    let tree = sym (cat_tree c.args.ere.now c.in-Cat.parts c.as_slice.result.now c.as_slice.ensures c.in-Cat.is) in
-    let size = ap nodes tree in (
-      omega (arith, c.decreases, size),
-      (
-        (
-          subst (λ u. refs_fit (length c.args.caps.now) u ≡ true) tree c.requires.refs,
-          subst (λ u. greatest_group u ≤ length c.args.caps.now) tree c.requires.room,
-        ),
-        (c.requires.order, (c.requires.within, c.requires.fits)),
-      ),
-    )
-
-pub over-over_row-requires-in-Repeat : goal.over-over_row-requires-in-Repeat
-over-over_row-requires-in-Repeat t c =
     let tree = sym (repeat_tree c.args.ere.now c.in-Repeat.inner c.in-Repeat.least c.in-Repeat.most c.deref.result.now
     c.deref.ensures c.in-Repeat.is) in
-    let size = ap nodes tree in (
-      omega (arith, c.decreases, size),
-      (
-        (
-          subst (λ u. refs_fit (length c.args.caps.now) u ≡ true) tree c.requires.refs,
-          subst (λ u. greatest_group u ≤ length c.args.caps.now) tree c.requires.room,
-        ),
-        (c.requires.order, (c.requires.within, c.requires.fits)),
-      ),
-    )
+    let size = ap nodes tree in
+    (omega (arith, c.decreases, size), (subst (HasRoom (length c.args.site.caps.now)) tree c.requires.room, c.requires.site))
 
 pub over-over_one-requires : goal.over-over_one-requires
 over-over_one-requires t c =
     let tree = sym (alt_tree c.args.ere.now c.in-Alt.choices c.as_slice-in-Alt.result.now c.as_slice-in-Alt.ensures c.in-Alt.is) in
-    let size = ap nodes tree in (
-      omega (arith, c.decreases, size),
-      (
-        subst (λ u. refs_fit (length c.args.caps.now) u ≡ true) tree c.requires.refs,
-        (
-          c.requires.order,
-          (
-            c.requires.within,
-            (subst (λ u. greatest_group u ≤ length c.args.caps.now) tree c.requires.room, c.requires.fits),
-          ),
-        ),
-      ),
-    )
+    let size = ap nodes tree in
+    (omega (arith, c.decreases, size), (subst (HasRoom (length c.args.site.caps.now)) tree c.requires.room, c.requires.site))
 
 pub over-over-requires : goal.over-over-requires
 over-over-requires t c =
     let tree = sym (group_tree c.args.ere.now c.in-Group.inner c.in-Group.number c.deref-in-Group.result.now
     c.deref-in-Group.ensures c.in-Group.is) in
     let size = ap nodes tree in
-    let room = subst (λ u. greatest_group u ≤ length c.args.caps.now) tree c.requires.room in (
+    let room = subst (HasRoom (length c.args.site.caps.now)) tree c.requires.room in
+    let most = room.1 in (
       omega (arith, c.decreases, size),
-      (
-        (λ no. absurd (true≢false (sym no))),
-        (
-          subst (λ u. refs_fit (length c.args.caps.now) u ≡ true) tree c.requires.refs,
-          (c.requires.order, (c.requires.within, (omega (arith, room), c.requires.fits))),
-        ),
-      ),
+      ((λ no. absurd (true≢false (sym no))), ((room.0, omega (arith, most)), c.requires.site)),
     )
 
 pub over-set_all-requires-clause-number : goal.over-set_all-requires-clause-number
 over-set_all-requires-clause-number t c = λ k d low.
     let tree = sym (group_tree c.args.ere.now c.in-Group.inner c.in-Group.number c.deref-in-Group.result.now
     c.deref-in-Group.ensures c.in-Group.is) in
-    let room = subst (λ u. greatest_group u ≤ length c.args.caps.now) tree c.requires.room in
+    let room = (subst (HasRoom (length c.args.site.caps.now)) tree c.requires.room).1 in
     let found = c.in_ok-found-in-Group.found.items in
-    let long = c.in_ok-found-in-Group.ensures.long k [] (omega (arith, length-map found (λ held. held.items), low)) in
+    let long = c.in_ok-found-in-Group.ensures.1 k [] (omega (arith, length-map found (λ held. held.items), low)) in
     let here = ap length (get_or-map (λ held. held.items) found k d [] low) in
     omega (arith, room, long, here, (get_or found k d).ok)
 
-pub over-returns-in-Cat-clause-lists : goal.over-returns-in-Cat-clause-lists
-over-returns-in-Cat-clause-lists t c =
-    let tree = cat_tree c.args.ere.now c.in-Cat.parts c.as_slice.result.now c.as_slice.ensures c.in-Cat.is in
-    IfOk-weaker c.over_row.result _ _
-    (λ found over. subst (λ u. ListsOver c.args.text.now u c.args.part.start c.args.part.from c.args.part.to
-    (length c.args.caps.now) (Contains c.args.live.now) c.args.caps.now found.items) tree over) c.over_row.ensures.lists
+pub over-returns-in-Cat : goal.over-returns-in-Cat
+over-returns-in-Cat t c =
+    subst (λ (u : Tree). IfOk c.over_parts.result (ListsAt c.args.site u))
+    (cat_tree c.args.ere.now c.in-Cat.parts c.as_slice.result.now c.as_slice.ensures c.in-Cat.is) c.over_parts.ensures
 
-pub over-returns-in-Repeat-clause-lists : goal.over-returns-in-Repeat-clause-lists
-over-returns-in-Repeat-clause-lists t c =
-    let tree = repeat_tree c.args.ere.now c.in-Repeat.inner c.in-Repeat.least c.in-Repeat.most c.deref.result.now
-    c.deref.ensures c.in-Repeat.is in
-    IfOk-weaker c.over_row-in-Repeat.result _ _
-    (λ found over. subst (λ u. ListsOver c.args.text.now u c.args.part.start c.args.part.from c.args.part.to
-    (length c.args.caps.now) (Contains c.args.live.now) c.args.caps.now found.items) tree over) c.over_row-in-Repeat.ensures.lists
+pub over-returns-in-Repeat : goal.over-returns-in-Repeat
+over-returns-in-Repeat t c =
+    subst (λ (u : Tree). IfOk c.over_row.result (ListsAt c.args.site u))
+    (repeat_tree c.args.ere.now c.in-Repeat.inner c.in-Repeat.least c.in-Repeat.most c.deref.result.now c.deref.ensures
+    c.in-Repeat.is) c.over_row.ensures
 
-pub over-returns-in-Alt-clause-lists : goal.over-returns-in-Alt-clause-lists
-over-returns-in-Alt-clause-lists t c =
-    let tree = alt_tree c.args.ere.now c.in-Alt.choices c.as_slice-in-Alt.result.now c.as_slice-in-Alt.ensures c.in-Alt.is in
-    IfOk-weaker c.over_one.result _ _
-    (λ found over. subst (λ u. ListsOver c.args.text.now u c.args.part.start c.args.part.from c.args.part.to
-    (length c.args.caps.now) (Contains c.args.live.now) c.args.caps.now found.items) tree over) c.over_one.ensures.lists
+pub over-returns-in-Alt : goal.over-returns-in-Alt
+over-returns-in-Alt t c =
+    subst (λ (u : Tree). IfOk c.over_one.result (ListsAt c.args.site u))
+    (alt_tree c.args.ere.now c.in-Alt.choices c.as_slice-in-Alt.result.now c.as_slice-in-Alt.ensures c.in-Alt.is) c.over_one.ensures
 
-pub over-returns-in_ok-found-in-Group-clause-lists : goal.over-returns-in_ok-found-in-Group-clause-lists
-over-returns-in_ok-found-in-Group-clause-lists t c =
-    let s = c.args.text.now in
-    let part = c.args.part in
-    let old = c.args.caps.now in
-    let count = length old in
-    let P = Contains c.args.live.now in
+pub over-returns-in_ok-found-in-Group : goal.over-returns-in_ok-found-in-Group
+over-returns-in_ok-found-in-Group t c =
+    let site = c.args.site in
+    let s = site.text.now in
+    let part = site.part in
+    let count = length site.caps.now in
+    let P = Contains site.live.now in
     let n = c.in-Group.number in
     let inner = view c.deref-in-Group.result.now in
     let found = c.in_ok-found-in-Group.found.items in
     let tree = group_tree c.args.ere.now c.in-Group.inner n c.deref-in-Group.result.now c.deref-in-Group.ensures c.in-Group.is in
-    IfOk-weaker c.set_all.result (λ set. AllZip (SetsGroup part n) found set.items)
-    (λ set. ListsOver s (view c.args.ere.now) part.start part.from part.to count P old set.items)
-    (λ set sets d is.
-    let over = c.in_ok-found-in-Group.ensures.lists d is in
-    subst (λ u. (all : Listed) × AreOver s u part.from part.to d P all
-    × (map (λ held. held.items) set.items ≡ lists_of part.start count all)) tree (
-      map (in_group n (part.from, part.to)) over.0,
-      over_group s n inner part.from part.to d P over.0 over.1,
-      set_listed part n count found set.items over.0 sets over.2,
+    IfOk-weaker c.set_all.result (λ set. AllZip (SetsGroup part n) found set.items) (ListsAt site (view c.args.ere.now))
+    (λ set sets. (
+      λ d is.
+          let over = c.in_ok-found-in-Group.ensures.0 d is in
+          subst (λ u. (all : Listed) × AreOver s u part.from part.to d P all
+          × (map (λ held. held.items) set.items ≡ lists_of part.start count all)) tree (
+            map (in_group n (part.from, part.to)) over.0,
+            over_group s n inner part.from part.to d P over.0 over.1,
+            set_listed part n count found set.items over.0 sets over.2,
+          ),
+      set_long part n count found set.items sets c.in_ok-found-in-Group.ensures.1,
     )) c.set_all.ensures
 
-pub over-returns-in_ok-found-in-Group-clause-long : goal.over-returns-in_ok-found-in-Group-clause-long
-over-returns-in_ok-found-in-Group-clause-long t c =
-    let count = length c.args.caps.now in
-    let found = c.in_ok-found-in-Group.found.items in
-    IfOk-weaker c.set_all.result (λ set. AllZip (SetsGroup c.args.part c.in-Group.number) found set.items)
-    (λ set. AreLong count (map (λ held. held.items) set.items))
-    (λ set sets. set_long c.args.part c.in-Group.number count found set.items sets c.in_ok-found-in-Group.ensures.long)
-    c.set_all.ensures
-
-pub over-returns-in-Ref-clause-lists : goal.over-returns-in-Ref-clause-lists
-over-returns-in-Ref-clause-lists t c =
-    let tree : back c.in-Ref.number c.in-Ref.fold ≡ view c.args.ere.now =
-    sym (ap view c.in-Ref.is ∙ view_Ref c.in-Ref.number c.in-Ref.fold) in
-    IfOk-weaker c.over_ref.result _ _
-    (λ found over. subst (λ u. ListsOver c.args.text.now u c.args.part.start c.args.part.from c.args.part.to
-    (length c.args.caps.now) (Contains c.args.live.now) c.args.caps.now found.items) tree over)
-    (c.over_ref.ensures.lists c.args.live.now)
+pub over-returns-in-Ref : goal.over-returns-in-Ref
+over-returns-in-Ref t c =
+    subst (λ (u : Tree). IfOk c.over_ref.result (ListsAt c.args.site u))
+    (sym (ap view c.in-Ref.is ∙ view_Ref c.in-Ref.number c.in-Ref.fold)) c.over_ref.ensures
 
 pub over-over_ref-requires-clause-some : goal.over-over_ref-requires-clause-some
 over-over_ref-requires-clause-some t c =
-    let fits = subst (λ u. refs_fit (length c.args.caps.now) u ≡ true)
-    (ap view c.in-Ref.is ∙ view_Ref c.in-Ref.number c.in-Ref.fold) c.requires.refs in
+    let fits = subst (λ u. refs_fit (length c.args.site.caps.now) u ≡ true)
+    (ap view c.in-Ref.is ∙ view_Ref c.in-Ref.number c.in-Ref.fold) c.requires.room.0 in
     ltb-true 0 c.in-Ref.number (both_left _ _ fits)
 
 pub over-over_ref-requires-clause-number : goal.over-over_ref-requires-clause-number
 over-over_ref-requires-clause-number t c =
-    let fits = subst (λ u. refs_fit (length c.args.caps.now) u ≡ true)
-    (ap view c.in-Ref.is ∙ view_Ref c.in-Ref.number c.in-Ref.fold) c.requires.refs in
-    leb-true c.in-Ref.number (length c.args.caps.now) (both_right _ _ fits)
+    let fits = subst (λ u. refs_fit (length c.args.site.caps.now) u ≡ true)
+    (ap view c.in-Ref.is ∙ view_Ref c.in-Ref.number c.in-Ref.fold) c.requires.room.0 in
+    leb-true c.in-Ref.number (length c.args.site.caps.now) (both_right _ _ fits)
 
-pub over-returns-then-tells-clause-lists : goal.over-returns-then-tells-clause-lists
-over-returns-then-tells-clause-lists t c = c.over_free.ensures.lists c.args.live.now (c.tells.ensures c.if-tells.true)
+pub over-over_free-requires-clause-tells : goal.over-over_free-requires-clause-tells
+over-over_free-requires-clause-tells t c = c.tells.ensures c.if-tells.true
 
-pub over-returns-in-Empty-clause-lists : goal.over-returns-in-Empty-clause-lists
-over-returns-in-Empty-clause-lists t c =
-    c.over_free-in-Empty.ensures.lists c.args.live.now
-    (tells_none (view c.args.ere.now) c.args.live.now (λ n. unset_text c.args.ere.now n c.in-Empty.is))
+pub over-over_free-requires-in-Empty-clause-tells : goal.over-over_free-requires-in-Empty-clause-tells
+over-over_free-requires-in-Empty-clause-tells t c =
+    tells_none (view c.args.ere.now) c.args.site.live.now (λ n. unset_text c.args.ere.now n c.in-Empty.is)
 
-pub over-returns-in-LineStart-clause-lists : goal.over-returns-in-LineStart-clause-lists
-over-returns-in-LineStart-clause-lists t c =
-    c.over_free-in-LineStart.ensures.lists c.args.live.now
-    (tells_none (view c.args.ere.now) c.args.live.now (λ n. unset_anchor c.args.ere.now n c.in-LineStart.is))
+pub over-over_free-requires-in-LineStart-clause-tells : goal.over-over_free-requires-in-LineStart-clause-tells
+over-over_free-requires-in-LineStart-clause-tells t c =
+    tells_none (view c.args.ere.now) c.args.site.live.now (λ n. unset_anchor c.args.ere.now n c.in-LineStart.is)

@@ -25,17 +25,13 @@ none_is : (none now : List (Option Cap)) (count start : ℕ) → now ≡ none
 none_is none now count start same holds =
     same ∙ holds start ∙ ap (caps_of start empty) (sym (count_is none now count same holds))
 
-pub over-requires-clause-refs : goal.over-requires-clause-refs
-over-requires-clause-refs c =
-    let long = count_is c.in_ok-none.none.items c.as_slice.result.now c.groups.result c.as_slice.ensures.value
-    c.in_ok-none.ensures in
-    subst (λ n. refs_fit n (view c.args.ere.now) ≡ true) (sym (long ∙ c.groups.ensures)) c.requires.refs
-
 pub over-requires-clause-room : goal.over-requires-clause-room
 over-requires-clause-room c =
     let long = count_is c.in_ok-none.none.items c.as_slice.result.now c.groups.result c.as_slice.ensures.value
-    c.in_ok-none.ensures in
-    omega (arith, long, c.groups.ensures)
+    c.in_ok-none.ensures in (
+      subst (λ n. refs_fit n (view c.args.ere.now) ≡ true) (sym (long ∙ c.groups.ensures)) c.requires.refs,
+      omega (arith, long, c.groups.ensures),
+    )
 
 pub returns-in-Some : goal.returns-in-Some
 returns-in-Some c =
@@ -53,7 +49,7 @@ returns-in-Some c =
     (none_is c.in_ok-none.none.items old c.groups.result c.args.start c.as_slice.ensures.value c.in_ok-none.ensures)
     c.loop-back.invariant (omega arith)
     (subst (ListsOver s t c.args.start span.from (span.to - back) (length old) (Contains []) old) first.1
-    c.in_ok-lists.ensures.lists) c.from_vec.ensures
+    c.in_ok-lists.ensures.0) c.from_vec.ensures
 
 pub loop-back-preserved : goal.loop-back-preserved
 loop-back-preserved c =
@@ -71,7 +67,7 @@ loop-back-preserved c =
           none_from s t c.args.start span.from (span.to - back) (length old) old empty
           (none_is c.in_ok-none.none.items old c.groups.result c.args.start w.as_slice.ensures.value c.in_ok-none.ensures)
           (subst (ListsOver s t c.args.start span.from (span.to - back) (length old) (Contains []) old) none
-          w.in_ok-lists.ensures.lists)
+          w.in_ok-lists.ensures.0)
       | else-has w ↦
           no_end s t (view c.args.free.now) span.from span.to (span.to - back) c.in_ok-ends.ends.seen
           (λ i low. omega (arith, c.type_inv.slice i)) c.requires.spans c.in_ok-ends.ensures.are
