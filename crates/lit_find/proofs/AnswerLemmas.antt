@@ -1,74 +1,60 @@
 -- What a discovery answers, by what its words gave and by the files that were found.
 -- Idea: each file that the words make a test was found, since each directory above it was walked through.
 -- The hard one is `test_found`.
-use Rattle.std.proofs.Common.{◌≡◌, ℕ, suc, ◌+◌, ◌<◌, true, false, ◌⊎◌, inl, inr, List, [], ◌∷◌, ◌++◌, length, map, take, drop, get_or, All, Option, Some, None, IfSome, Result, Ok, Err, refl, sym, ap, ◌∙◌, subst, arith, add-one}
-use Rattle.std.specs.List.{Any, Contains, list_all}
+use Rattle.std.proofs.Common.{◌≡◌, ◌≢◌, ℕ, suc, ◌+◌, ◌<◌, true, false, ◌⊎◌, inl, inr, List, [], ◌∷◌, ◌++◌, length, map, take, drop, get_or, All, Option, Some, None, IfSome, Result, Ok, Err, refl, sym, ap, ◌∙◌, subst, arith, add-one}
+use Rattle.std.specs.List.{Any, Contains}
 use Rattle.std.proofs.Math.Seq.{drop-cons, take-suc}
 use Rattle.std.proofs.lemmas.List.{map-append, take-append-drop}
 use Rattle.std.proofs.lemmas.List.Elements.{All-contains, All-weaker}
 use Rattle.tt_outside.specs.declared.test_data.Test.{Test}
 use Rattle.tt_outside.specs.declared.tree.Node.{Node}
-use Rattle.tt_outside.specs.declared.tree.ItemKind.TheVariants.{File}
-use Rattle.tt_outside.specs.TreeMap.{are_nested, is_part}
-use Rattle.lit_paths.specs.Paths.{Parts, dir_of, joined, parts_of, text_of}
+use Rattle.tt_outside.specs.TreeMap.{are_nested}
+use Rattle.lit_paths.specs.Paths.{Parts, joined, parts_of, text_of}
 use Rattle.lit_dirs.specs.Looks.{kind_of}
 use Rattle.lit_dirs.specs.declared.fault.DiscoverFault.{DiscoverFault}
-use Rattle.lit_dirs.specs.declared.fault.DiscoverFault.TheVariants.{TooMany, NoTests}
-use Rattle.lit_look.specs.Suites.{nearest}
+use Rattle.lit_dirs.specs.declared.fault.DiscoverFault.TheVariants.{Missing, NoSuite, NoTests, TooMany}
 use Rattle.lit_look.specs.Trees.{Told}
 use Rattle.lit_look.specs.declared.seen.Looked.{Looked}
+use Rattle.lit_look.proofs.ListLemmas.{any_one, its_one, mapped, none_in}
+use Rattle.lit_look.proofs.FaultLemmas.{IsOfDir, of_refused}
 use Rattle.lit_look.proofs.TreeLemmas.{told}
-use Rattle.lit_find.specs.Discovery.{IsBelow, IsLookedAt, IsTest, LooksAt, has_suffix}
+use Rattle.lit_find.specs.Discovery.{IsBelow, IsLookedAt, IsTest, LooksAt}
 use Rattle.lit_find.specs.Files.{IsFiled, test_in}
 use Rattle.lit_find.specs.Found.{AnswersTo, AreTests, Discovers, IsInOrder, IsRight}
 use Rattle.lit_find.specs.Refusals.{IsClear, IsRefused, RefusesWord}
-use Rattle.lit_find.specs.Walk.{GivesWord, GivesWords, HasFile, HasPath, IsCovered, IsDirIn, IsTestFile, IsUnder, Walked, Walks, was_walked}
+use Rattle.lit_find.specs.Walk.{GivesWord, GivesWords, HasFile, IsCovered, IsTestFile, IsUnder, Walked, Walks, was_walked}
 use Rattle.lit_find.specs.declared.place.TestFile.{TestFile}
 use Rattle.lit_find.specs.declared.walk.Walk.{Walk}
-use Rattle.lit_find.proofs.FaultLemmas.{no_tests, not_too_many}
 use Rattle.lit_find.proofs.FileLemmas.{right_test}
-use Rattle.lit_find.proofs.ListLemmas.{any_one, its_one, mapped, none_in}
-use Rattle.lit_find.proofs.ReachLemmas.{test_reached}
+use Rattle.lit_find.proofs.StateLemmas.{all_reached}
 
 -- ---- the tests
 
 -- each file that the words make a test was found
-test_found : (nodes : List Node) (words : List Parts) (seen : List Looked) (walk : Walk) → are_nested nodes ≡ true
-    → IsCovered nodes words seen walk → (path : Parts) → list_all is_part path ≡ true → IsTest nodes words path
-    → HasFile walk.found path
-test_found nodes words seen walk nested is path parts test =
+test_found : (nodes : List Node) (words : List Parts) (seen : List Looked) (walk : Walk)
+    → IsCovered nodes words seen walk → (path : Parts) → IsTest nodes words path → HasFile walk.found path
+test_found nodes words seen walk is path test =
     let (word, within, either) = its_one (λ word. (path ≡ word) ⊎ IsBelow nodes word path) words test.1 in
     elim either [
       | inl same ↦ subst (HasFile walk.found) (sym same)
           (is.state.files word within (ap (kind_of nodes) (sym same) ∙ test.0))
-      | inr below ↦ subst (HasFile walk.found) (sym below.behind)
-          (test_reached nodes (Walked seen walk) (HasFile walk.found) nested closed is.state.kept word below.rest
-          (done word (is.state.dirs word within below.from_dir)) below.from_dir
-          (subst (λ one. list_all is_part one ≡ true) below.behind parts)
-          (subst (λ one. kind_of nodes one ≡ Some File) below.behind test.0) below.is_open
-          (subst (λ one. has_suffix (nearest nodes (dir_of one)) (text_of one) ≡ true) below.behind below.suffix))
+      | inr below ↦ subst (HasFile walk.found) (sym below.is)
+          (is.state.kept below.dir below.part
+          (all_reached nodes words seen walk word below.dir is.state is.done within below.walked) below.test)
     ]
-  where
-    done : (dir : Parts) → Walked seen walk dir ⊎ HasPath walk.pending dir → Walked seen walk dir
-    done dir (inl was) = was
-    done dir (inr waits) = absurd (none_in dir (subst (λ places. HasPath places dir) is.done waits))
-
-    closed : (dir : Parts) (part : List ℕ) → Walked seen walk dir → IsDirIn nodes dir part
-        → Walked seen walk (dir ++ part ∷ [])
-    closed dir part was inside = done (dir ++ part ∷ []) (is.state.closed dir part was inside)
 
 is_clear : (nodes : List Node) (words : List Parts) (seen : List Looked) (walk : Walk) → IsCovered nodes words seen walk
     → IsClear nodes words
 is_clear nodes words seen walk is = record { places = is.places; seen = seen; all = is.all }
 
 are_tests : (nodes : List Node) (words : List Parts) (seen : List Looked) (walk : Walk) (tests : List Test)
-    → are_nested nodes ≡ true → IsCovered nodes words seen walk → IsInOrder walk.found tests
+    → IsCovered nodes words seen walk → IsInOrder walk.found tests
     → AreTests nodes words tests
-are_tests nodes words seen walk tests nested is made = record {
+are_tests nodes words seen walk tests is made = record {
   ascending = made.ascending;
   right = All-weaker (λ test. Any (λ file. IsFiled file × (test ≡ test_in file)) walk.found) (IsRight nodes words)
       (λ test any. right test (its_one (λ file. IsFiled file × (test ≡ test_in file)) walk.found any)) tests made.right;
-  whole = λ path parts test. found path (test_found nodes words seen walk nested is path parts test);
+  whole = λ path parts test. found path (test_found nodes words seen walk is path test);
 }
   where
     right : (test : Test) → (file : TestFile) × Contains walk.found file × (IsFiled file × (test ≡ test_in file))
@@ -89,10 +75,10 @@ pub discovers : (told : Option (List Node)) (base : List ℕ) (texts : List (Lis
     → IsInOrder found tests → ((nodes : List Node) (words : List Parts) → IsClear nodes words
     → AreTests nodes words tests → AnswersTo nodes words result) → Discovers told base texts result
 discovers None base texts found tests result walks made answers = tt
-discovers (Some nodes) base texts found tests result (nested, (seen, walk, is, same)) made answers =
+discovers (Some nodes) base texts found tests result (seen, walk, is, same) made answers =
     let words = map (joined (parts_of base)) texts in
     answers nodes words (is_clear nodes words seen walk is)
-    (are_tests nodes words seen walk tests nested is (subst (λ files. IsInOrder files tests) (sym same) made))
+    (are_tests nodes words seen walk tests is (subst (λ files. IsInOrder files tests) (sym same) made))
 
 -- ---- refusals
 
@@ -111,10 +97,23 @@ words_refused nodes words early later word seen next walk after fault is all giv
       refused = refuses;
     }) gives
 
+-- a word is refused for a path that is missing, for want of a suite, or as a directory is
+of_word : (nodes : List Node) (earlier : List Parts) (word : Parts) (fault : DiscoverFault)
+    → ((path : List ℕ) → fault ≢ Missing path) → ((path : List ℕ) → fault ≢ NoSuite path)
+    → RefusesWord nodes earlier word fault → IsOfDir fault
+of_word nodes earlier word fault missing none (inl (dir, file, is)) = absurd (missing (text_of word) is)
+of_word nodes earlier word fault missing none (inr (stands, inl (seen, has))) = absurd (none (text_of word) has.2)
+of_word nodes earlier word fault missing none (inr (stands, inr (inl (early, dir, later, up, refuses)))) =
+    of_refused nodes _ dir fault refuses
+of_word nodes earlier word fault missing none (inr (stands, inr (inr (suite, (dir, walked, refuses))))) =
+    of_refused nodes _ dir fault refuses
+
 answers_refusal : (nodes : List Node) (words : List Parts) (fault : DiscoverFault)
     → Told (IsRefused nodes words) fault → AnswersTo nodes words (Err fault)
-answers_refusal nodes words TooMany is = absurd (not_too_many nodes is.earlier is.word is.refused)
-answers_refusal nodes words NoTests is = absurd (no_tests nodes is.earlier is.word is.refused)
+answers_refusal nodes words TooMany is =
+    absurd (of_word nodes is.earlier is.word TooMany (λ path e. cc) (λ path e. cc) is.refused)
+answers_refusal nodes words NoTests is =
+    absurd (of_word nodes is.earlier is.word NoTests (λ path e. cc) (λ path e. cc) is.refused)
 answers_refusal nodes words fault is = is
 
 pub discovers_refusal : (told : Option (List Node)) (base : List ℕ) (texts : List (List ℕ)) (fault : DiscoverFault)

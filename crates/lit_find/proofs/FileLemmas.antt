@@ -19,8 +19,7 @@ use Rattle.lit_find.specs.Files.{IsFiled, below_of, test_in}
 use Rattle.lit_find.specs.Found.{IsRight}
 use Rattle.lit_find.specs.Walk.{IsTestFile}
 use Rattle.lit_find.specs.declared.place.TestFile.{TestFile}
-use Rattle.lit_find.proofs.PathLemmas.{name_behind, path_in_word}
-use Rattle.lit_find.proofs.ReachLemmas.{one_part, parts_both, parts_right}
+use Rattle.lit_find.proofs.PathLemmas.{name_behind, parts_push, parts_right, path_in_word}
 
 -- a name in a directory that lies in that of a suite
 pub filed : (root : SuiteRoot) (dir : Parts) (name text : List ℕ) → LiesIn root.dir dir → is_part name ≡ true
@@ -33,7 +32,7 @@ filed root dir name text lies named is =
     })
   where
     parts : list_all is_part (dir ++ name ∷ []) ≡ true
-    parts = parts_both dir (name ∷ []) lies.parts (one_part name named)
+    parts = parts_push dir name lies.parts named
 
     split : dir ++ name ∷ [] ≡ root.dir ++ (lies.rest ++ name ∷ [])
     split = ap (λ path. path ++ name ∷ []) lies.is ∙ append_assoc root.dir lies.rest (name ∷ [])

@@ -1,15 +1,22 @@
--- Paths and their texts, where a directory lists a name.
-use Rattle.std.proofs.Common.{◌≡◌, ◌≢◌, ℕ, Bool, true, false, not, ◌&&◌, List, [], ◌∷◌, ◌++◌, refl, sym, ap, ◌∙◌, append_assoc}
+-- Paths and their texts, and what is reached from a directory, part by part.
+-- Idea: a way to a directory goes on from a directory that was walked through, or one on it is still to be.
+-- The hard one is `reached`.
+use Rattle.std.proofs.Common.{◌≡◌, ◌≢◌, ℕ, Bool, true, false, not, ◌&&◌, List, [], ◌∷◌, ◌++◌, refl, sym, ap, ◌∙◌, append_assoc, ◌-◌, ◌⊎◌, inl, inr, length, take, subst, append-nil, arith, length-append}
 use Rattle.std.specs.List.{list_all}
+use Rattle.std.proofs.lemmas.List.{take-append-le}
+use Rattle.std.proofs.lemmas.List.Folds.{list_all-append}
 use Rattle.tt_outside.specs.TreeMap.{is_part}
-use Rattle.lit_paths.specs.Paths.{Parts, path_in, slashed, text_of}
+use Rattle.lit_paths.specs.Paths.{Parts, dir_of, path_in, slashed, text_of}
 use Rattle.lit_paths.proofs.LawLemmas.{path_in_text_of}
 use Rattle.lit_dirs.specs.Passing.{has_suffix, is_passed}
 use Rattle.lit_dirs.proofs.MadeLemmas.{text_of_name}
 use Rattle.lit_suite.specs.declared.suite_file.Suite.{Suite}
-use Rattle.lit_find.specs.Sorting.{is_file, is_kept, text_in}
 use Rattle.tt_outside.specs.declared.tree.Item.{Item}
 use Rattle.tt_outside.specs.declared.tree.ItemKind.TheVariants.{File}
+use Rattle.tt_outside.specs.declared.tree.Node.{Node}
+use Rattle.lit_paths.proofs.PartLemmas.{and_both, and_left, and_right}
+use Rattle.lit_find.specs.Discovery.{IsDirIn, IsWalked, IsWay}
+use Rattle.lit_find.specs.Sorting.{is_file, is_kept, text_in}
 
 -- the path in the text of one that isn't `/`
 pub path_in_word : (word : Parts) → list_all is_part word ≡ true → word ≢ [] → path_in (text_of word) ≡ word
@@ -32,3 +39,61 @@ pub kept_is : (suite : Suite) (dir : Parts) (item : Item) (text : List ℕ) (b :
     → is_kept suite dir item ≡ b
 kept_is suite dir item text b is open_here file ends =
     (λ i. not (open_here i) && (is_file (file i) && (has_suffix suite (sym is i) && is_part item.name))) ∙ ends
+
+-- ---- paths
+
+pub parts_left : (xs ys : Parts) → list_all is_part (xs ++ ys) ≡ true → list_all is_part xs ≡ true
+parts_left xs ys h = and_left (list_all is_part xs) (list_all is_part ys) (sym (list_all-append is_part xs ys) ∙ h)
+
+pub parts_right : (xs ys : Parts) → list_all is_part (xs ++ ys) ≡ true → list_all is_part ys ≡ true
+parts_right xs ys h = and_right (list_all is_part xs) (list_all is_part ys) (sym (list_all-append is_part xs ys) ∙ h)
+
+pub parts_push : (dir : Parts) (part : List ℕ) → list_all is_part dir ≡ true → is_part part ≡ true
+    → list_all is_part (dir ++ part ∷ []) ≡ true
+parts_push dir part h k =
+    list_all-append is_part dir (part ∷ [])
+    ∙ and_both (list_all is_part dir) (list_all is_part (part ∷ [])) h (ap (λ b. b && true) k)
+
+pub last_part : (dir : Parts) (part : List ℕ) → list_all is_part (dir ++ part ∷ []) ≡ true → is_part part ≡ true
+last_part dir part h = and_left (is_part part) true (parts_right dir (part ∷ []) h)
+
+pub dir_of_push : (dir : Parts) (part : List ℕ) → dir_of (dir ++ part ∷ []) ≡ dir
+dir_of_push dir part =
+    let e : length (dir ++ part ∷ []) - 1 ≡ length dir = omega (arith, length-append dir (part ∷ [])) in
+    ap (λ n. take n (dir ++ part ∷ [])) e ∙ take-append-le (length dir) dir (part ∷ []) (omega arith) ∙ take_all dir
+  where
+    take_all : (xs : Parts) → take (length xs) xs ≡ xs
+    take_all [] = refl
+    take_all (x ∷ xs) = ap (λ ys. x ∷ ys) (take_all xs)
+
+-- ---- ways
+
+way_push : (nodes : List Node) (dir rest : Parts) (part : List ℕ) → IsWay nodes dir rest
+    → IsDirIn nodes (dir ++ rest) part → IsWay nodes dir (rest ++ part ∷ [])
+way_push nodes dir [] part way inside = (subst (λ path. IsDirIn nodes path part) (append-nil dir) inside, tt)
+way_push nodes dir (one ∷ rest) part way inside = (
+  way.0,
+  way_push nodes (dir ++ one ∷ []) rest part way.1
+      (subst (λ path. IsDirIn nodes path part) (sym (append_assoc dir (one ∷ []) rest)) inside),
+)
+
+pub walked_below : (nodes : List Node) (word dir : Parts) (part : List ℕ) → IsWalked nodes word dir
+    → IsDirIn nodes dir part → IsWalked nodes word (dir ++ part ∷ [])
+walked_below nodes word dir part walked inside = record {
+  rest = walked.rest ++ part ∷ [];
+  behind = ap (λ path. path ++ part ∷ []) walked.behind ∙ append_assoc word walked.rest (part ∷ []);
+  from_dir = walked.from_dir;
+  way = way_push nodes word walked.rest part walked.way (subst (λ path. IsDirIn nodes path part) walked.behind inside);
+}
+
+-- a directory is reached, or one above it is still to be walked through
+pub reached : (nodes : List Node) (W P : Parts → Type 0)
+    → ((dir : Parts) (part : List ℕ) → W dir → IsDirIn nodes dir part → W (dir ++ part ∷ []) ⊎ P (dir ++ part ∷ []))
+    → (dir rest : Parts) → IsWay nodes dir rest → W dir ⊎ P dir
+    → W (dir ++ rest) ⊎ ((front below : Parts) × (dir ++ rest ≡ front ++ below) × P front)
+reached nodes W P closed dir [] way (inl w) = inl (subst W (sym (append-nil dir)) w)
+reached nodes W P closed dir [] way (inr p) = inr (dir, [], refl, p)
+reached nodes W P closed dir (part ∷ rest) way (inr p) = inr (dir, part ∷ rest, refl, p)
+reached nodes W P closed dir (part ∷ rest) (inside, way) (inl w) =
+    subst (λ path. W path ⊎ ((front below : Parts) × (path ≡ front ++ below) × P front)) (append_assoc dir (part ∷ []) rest)
+    (reached nodes W P closed (dir ++ part ∷ []) rest way (closed dir part w inside))

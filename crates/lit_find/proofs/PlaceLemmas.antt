@@ -1,7 +1,7 @@
 -- What lists of places and files have behind one that is put in, and behind what a directory lists.
 -- By induction over the list, and over the items: what was there stays, and what an item makes is there.
 -- The hard one is `put_has`.
-use Rattle.std.proofs.Common.{◌≡◌, ◌+◌, ◌≤◌, Bool, true, false, true≢false, cond, ◌⊎◌, inl, inr, List, [], ◌∷◌, ◌++◌, length, map, All, refl, sym, ap, ◌∙◌, subst, arith}
+use Rattle.std.proofs.Common.{◌≡◌, ◌+◌, ◌≤◌, Bool, true, false, cond, ◌⊎◌, inl, inr, List, [], ◌∷◌, ◌++◌, length, map, All, refl, sym, ap, ◌∙◌, subst, arith}
 use Rattle.std.specs.BTreeMap.{insert_entry}
 use Rattle.std.specs.List.{Contains}
 use Rattle.std.specs.Ordering.{match_ordering}
@@ -11,14 +11,14 @@ use Rattle.std.proofs.lemmas.List.{map_push}
 use Rattle.std.proofs.lemmas.List.Elements.{All-cons, All-head, All-push, All-tail, Contains-append_left, Contains-push}
 use Rattle.tt_outside.specs.declared.tree.Item.{Item}
 use Rattle.lit_look.specs.declared.root.SuiteRoot.{SuiteRoot}
+use Rattle.lit_look.proofs.ListLemmas.{cons_cases, first_in, later_in, none_in}
 use Rattle.lit_paths.specs.Paths.{Parts, text_of}
 use Rattle.lit_find.specs.Places.{IsInside, path_order, place_of_entry, put}
-use Rattle.lit_find.specs.Sorting.{file_of, is_entered, is_kept, place_of, text_in, with_dir, with_dirs, with_file, with_files}
+use Rattle.lit_find.specs.Sorting.{file_of, is_entered, is_kept, place_of, put_file, put_place, with_dir, with_dirs, with_each, with_files}
 use Rattle.lit_find.specs.Walk.{HasFile, HasPath}
 use Rattle.lit_find.specs.declared.place.TestFile.{TestFile}
 use Rattle.lit_find.specs.declared.place.Place.{Place}
 use Rattle.lit_find.proofs.KeyLemmas.{Key, exact_parts, inserted, vec_cmp}
-use Rattle.lit_find.proofs.ListLemmas.{cons_cases, first_in, later_in, none_in}
 
 -- ---- one more
 
@@ -95,6 +95,34 @@ file_has file files path h =
       | inr had ↦ Contains-append_left (map (λ one. one.path) files) (file.path ∷ []) (text_of path) had
     ])
 
+-- ---- steps
+
+module _ {A B : Type 0} (test : A → Bool) (step : A → B → B) where
+  -- what each step keeps
+  each_holds : (I : B → Type 0) (items : List A) (from : B)
+      → ((item : A) (now : B) → Contains items item → test item ≡ true → I now → I (step item now)) → I from
+      → I (with_each test step items from)
+  each_holds I [] from keeps i = i
+  each_holds I (item ∷ items) from keeps i =
+      each_holds I items (cond (test item) (step item from) from)
+      (λ one now within. keeps one now (later_in item one items within)) (by_test (test item) refl)
+    where
+      by_test : (b : Bool) → test item ≡ b → I (cond b (step item from) from)
+      by_test true is = keeps item from (first_in item items) is i
+      by_test false is = i
+
+  -- what the step of one item brings, and each keeps
+  each_has : (I : B → Type 0) (items : List A) (from : B) (item : A) → Contains items item → test item ≡ true
+      → ((now : B) → I (step item now)) → ((other : A) (now : B) → I now → I (step other now))
+      → I (with_each test step items from)
+  each_has I [] from item within passes brings keeps = absurd (none_in item within)
+  each_has I (one ∷ items) from item within passes brings keeps = elim (cons_cases one item items within) [
+    | inl same ↦ each_holds I items (cond (test one) (step one from) from) (λ other now among is. keeps other now)
+        (subst (λ b. I (cond b (step one from) from)) (sym (ap test (sym same) ∙ passes))
+        (subst (λ x. I (step x from)) same (brings from)))
+    | inr later ↦ each_has I items (cond (test one) (step one from) from) item later passes brings keeps
+  ]
+
 -- ---- what a directory lists
 
 module _ (root : SuiteRoot) (dir : Parts) where
@@ -102,82 +130,39 @@ module _ (root : SuiteRoot) (dir : Parts) where
   pub all_dirs : (P : Place → Type 0) (items : List Item) (places : List Place)
       → ((item : Item) → Contains items item → is_entered root.suite item ≡ true → P (place_of root dir item))
       → All P places → All P (with_dirs root dir items places)
-  all_dirs P [] places each all = all
-  all_dirs P (item ∷ items) places each all =
-      all_dirs P items (with_dir root dir item places) (λ one within. each one (later_in item one items within))
-      (by_test (is_entered root.suite item) refl)
-    where
-      by_test : (b : Bool) → is_entered root.suite item ≡ b
-          → All P (cond b (put path_order (place_of root dir item) places) places)
-      by_test true is = all_put P (place_of root dir item) places (each item (first_in item items) is) all
-      by_test false is = all
+  all_dirs P items places each all =
+      each_holds (is_entered root.suite) (put_place root dir) (All P) items places
+      (λ item now within is. all_put P (place_of root dir item) now (each item within is)) all
 
   pub all_files : (P : TestFile → Type 0) (items : List Item) (files : List TestFile)
       → ((item : Item) → Contains items item → is_kept root.suite dir item ≡ true → P (file_of root dir item))
       → All P files → All P (with_files root dir items files)
-  all_files P [] files each all = all
-  all_files P (item ∷ items) files each all =
-      all_files P items (with_file root dir item files) (λ one within. each one (later_in item one items within))
-      (by_test (is_kept root.suite dir item) refl)
-    where
-      by_test : (b : Bool) → is_kept root.suite dir item ≡ b → All P (cond b (files ++ file_of root dir item ∷ []) files)
-      by_test true is = All-push P files (file_of root dir item) all (each item (first_in item items) is)
-      by_test false is = all
+  all_files P items files each all =
+      each_holds (is_kept root.suite dir) (put_file root dir) (All P) items files
+      (λ item now within is holds. All-push P now (file_of root dir item) holds (each item within is)) all
 
   -- the paths that were there, and those of the items
-  dir_has : (item : Item) (places : List Place) (path : Parts)
-      → ((path ≡ dir ++ item.name ∷ []) × (is_entered root.suite item ≡ true)) ⊎ HasPath places path
-      → HasPath (with_dir root dir item places) path
-  dir_has item places path h = by_test (is_entered root.suite item) refl h
-    where
-      by_test : (b : Bool) → is_entered root.suite item ≡ b
-          → ((path ≡ dir ++ item.name ∷ []) × (is_entered root.suite item ≡ true)) ⊎ HasPath places path
-          → HasPath (cond b (put path_order (place_of root dir item) places) places) path
-      by_test true is (inl same) = put_has (place_of root dir item) places path (inl same.0)
-      by_test true is (inr had) = put_has (place_of root dir item) places path (inr had)
-      by_test false is (inl same) = absurd (true≢false (sym same.1 ∙ is))
-      by_test false is (inr had) = had
-
   pub dirs_have : (items : List Item) (places : List Place) (path : Parts)
       → ((item : Item) × Contains items item × (is_entered root.suite item ≡ true) × (path ≡ dir ++ item.name ∷ []))
       ⊎ HasPath places path → HasPath (with_dirs root dir items places) path
-  dirs_have [] places path (inl (item, within, entered, is)) = absurd (none_in item within)
-  dirs_have [] places path (inr had) = had
-  dirs_have (one ∷ items) places path (inl (item, within, entered, is)) =
-      dirs_have items (with_dir root dir one places) path (elim (cons_cases one item items within) [
-        | inl same ↦ inr (dir_has one places path
-            (inl (is ∙ ap (λ x. dir ++ x.name ∷ []) same, ap (is_entered root.suite) (sym same) ∙ entered)))
-        | inr later ↦ inl (item, later, entered, is)
-      ])
-  dirs_have (one ∷ items) places path (inr had) =
-      dirs_have items (with_dir root dir one places) path (inr (dir_has one places path (inr had)))
-
-  one_file : (item : Item) (files : List TestFile) (path : Parts)
-      → ((text_of path ≡ text_in dir item) × (is_kept root.suite dir item ≡ true)) ⊎ HasFile files path
-      → HasFile (with_file root dir item files) path
-  one_file item files path h = by_test (is_kept root.suite dir item) refl h
-    where
-      by_test : (b : Bool) → is_kept root.suite dir item ≡ b
-          → ((text_of path ≡ text_in dir item) × (is_kept root.suite dir item ≡ true)) ⊎ HasFile files path
-          → HasFile (cond b (files ++ file_of root dir item ∷ []) files) path
-      by_test true is (inl same) = file_has (file_of root dir item) files path (inl same.0)
-      by_test true is (inr had) = file_has (file_of root dir item) files path (inr had)
-      by_test false is (inl same) = absurd (true≢false (sym same.1 ∙ is))
-      by_test false is (inr had) = had
+  dirs_have items places path (inl (item, within, entered, is)) =
+      each_has (is_entered root.suite) (put_place root dir) (λ now. HasPath now path) items places item within entered
+      (λ now. put_has (place_of root dir item) now path (inl is))
+      (λ other now had. put_has (place_of root dir other) now path (inr had))
+  dirs_have items places path (inr had) =
+      each_holds (is_entered root.suite) (put_place root dir) (λ now. HasPath now path) items places
+      (λ item now within is had. put_has (place_of root dir item) now path (inr had)) had
 
   pub files_have : (items : List Item) (files : List TestFile) (path : Parts)
       → ((item : Item) × Contains items item × (is_kept root.suite dir item ≡ true) × (path ≡ dir ++ item.name ∷ []))
       ⊎ HasFile files path → HasFile (with_files root dir items files) path
-  files_have [] files path (inl (item, within, kept, is)) = absurd (none_in item within)
-  files_have [] files path (inr had) = had
-  files_have (one ∷ items) files path (inl (item, within, kept, is)) =
-      files_have items (with_file root dir one files) path (elim (cons_cases one item items within) [
-        | inl same ↦ inr (one_file one files path
-            (inl (ap text_of is ∙ ap (text_in dir) same, ap (is_kept root.suite dir) (sym same) ∙ kept)))
-        | inr later ↦ inl (item, later, kept, is)
-      ])
-  files_have (one ∷ items) files path (inr had) =
-      files_have items (with_file root dir one files) path (inr (one_file one files path (inr had)))
+  files_have items files path (inl (item, within, kept, is)) =
+      each_has (is_kept root.suite dir) (put_file root dir) (λ now. HasFile now path) items files item within kept
+      (λ now. file_has (file_of root dir item) now path (inl (ap text_of is)))
+      (λ other now had. file_has (file_of root dir other) now path (inr had))
+  files_have items files path (inr had) =
+      each_holds (is_kept root.suite dir) (put_file root dir) (λ now. HasFile now path) items files
+      (λ item now within is had. file_has (file_of root dir item) now path (inr had)) had
 
   pub dirs_length : (items : List Item) (places : List Place)
       → length (with_dirs root dir items places) ≤ length places + length items
@@ -187,6 +172,6 @@ module _ (root : SuiteRoot) (dir : Parts) where
       let one = by_test (is_entered root.suite item) in
       omega arith
     where
-      by_test : (b : Bool) → length (cond b (put path_order (place_of root dir item) places) places) ≤ length places + 1
+      by_test : (b : Bool) → length (cond b (put_place root dir item places) places) ≤ length places + 1
       by_test true = put_length (place_of root dir item) places
       by_test false = omega arith

@@ -9,7 +9,7 @@ use Rattle.std.specs.Cmp.{eq_by_cmp_equiv}
 use Rattle.std.specs.Cmp.Lexicographic.{on_texts, slice_cmp}
 use Rattle.std.specs.Ordering.{is_eq, is_lt, nat_cmp}
 use Rattle.std.specs.declared.cmp.Ordering.{Ordering}
-use Rattle.std.specs.declared.cmp.Ordering.TheVariants.{Less, Equal, Greater}
+use Rattle.std.specs.declared.cmp.Ordering.TheVariants.{Less}
 use Rattle.std.proofs.lemmas.List.Elements.{All-contains_itself, All-map, All-weaker}
 use Rattle.std.proofs.lemmas.List.Filters.{All-dedup}
 use Rattle.std.proofs.lemmas.List.Kept.{Any-dedup, IsStrictlySortedBy-dedup}
@@ -18,7 +18,8 @@ use Rattle.std.proofs.lemmas.Map.Lookups.{exact_bytes}
 use Rattle.lit_find.specs.Files.{IsFiled, test_in}
 use Rattle.lit_find.specs.Found.{IsInOrder}
 use Rattle.lit_find.specs.declared.place.TestFile.{TestFile}
-use Rattle.lit_find.proofs.ListLemmas.{any_one, contains_map, its_one}
+use Rattle.lit_look.proofs.IndexLemmas.{is_equal}
+use Rattle.lit_look.proofs.ListLemmas.{any_one, contains_map, its_one}
 
 abbrev pub file_cmp : TestFile → TestFile → Ordering
 file_cmp one other = slice_cmp nat_cmp one.path other.path
@@ -36,11 +37,6 @@ sorted_mapped : {A B : Type 0} (f : A → B) (cmp : B → B → Ordering) (xs : 
 unfolding IsStrictlySortedBy
 sorted_mapped f cmp [] sorted = tt
 sorted_mapped f cmp (x ∷ xs) (below, rest) = (below_mapped f cmp x xs below, sorted_mapped f cmp xs rest)
-
-equal : (o : Ordering) → is_eq o ≡ true → o ≡ Equal
-equal Equal is = refl
-equal Less is = absurd (cc)
-equal Greater is = absurd (cc)
 
 pub all_filed : (files sorted : List TestFile) → IsPermutation files sorted → All IsFiled files
     → All IsFiled (dedup same_path sorted)
@@ -75,4 +71,4 @@ in_order files sorted moved up filed = record {
     kept file (other, within, same) =
         any_one (λ test. test.path ≡ file.path) (map test_in ordered) (test_in other)
         (contains_map test_in ordered other within)
-        (sym (exact_bytes file.path other.path (equal (file_cmp file other) same)))
+        (sym (exact_bytes file.path other.path (is_equal (file_cmp file other) same)))

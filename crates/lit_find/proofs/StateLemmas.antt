@@ -1,32 +1,113 @@
 -- What stands of a discovery behind further looks, behind one directory of a walk, and with one more word.
 -- Idea: of each directory that was walked through, those in it were begun, and its tests are found; both stay so.
 -- The hard one is `state_through`.
-use Rattle.std.proofs.Common.{◌≡◌, ◌⊎◌, inl, inr, ℕ, ◌<◌, true, List, [], ◌∷◌, ◌++◌, length, length-append, map, All, Some, sym, ap, ◌∙◌, subst, arith}
-use Rattle.std.specs.Option.{unwrap_or}
+use Rattle.std.proofs.Common.{◌≡◌, ℕ, ◌<◌, ◌==◌, Bool, true, false, cond, ◌⊎◌, inl, inr, List, length, Some, get_or, refl, sym, ap, ◌∙◌, arith, [], ◌∷◌, ◌++◌, length-append, map, All, subst}
 use Rattle.std.specs.Prelude.{slice_get}
+use Rattle.std.proofs.lemmas.Bool.Decides.{nat_tests}
+use Rattle.std.proofs.lemmas.Option.{slice_get-get_or, slice_get_within}
+use Rattle.std.specs.Option.{unwrap_or}
 use Rattle.std.specs.BTreeSet.{contains}
-use Rattle.std.specs.List.{Any}
+use Rattle.std.specs.List.{Any, Contains}
 use Rattle.std.specs.Ordering.{nat_cmp}
-use Rattle.std.proofs.lemmas.Option.{slice_get_within}
 use Rattle.std.proofs.lemmas.List.Elements.{All-head, All-tail, All-weaker, Contains-append_left, Contains-push, Contains-push_cases}
-use Rattle.tt_outside.specs.declared.tree.Node.{Node}
-use Rattle.tt_outside.specs.declared.tree.ItemKind.TheVariants.{File, Dir}
 use Rattle.lit_paths.specs.Paths.{Parts, path_in}
-use Rattle.lit_dirs.specs.Looks.{kind_of}
-use Rattle.lit_look.specs.Looks.{Extends}
-use Rattle.lit_look.specs.Seen.{AreLooks}
-use Rattle.lit_look.specs.declared.root.SuiteRoot.{SuiteRoot}
+use Rattle.lit_look.specs.Looks.{Extends, IsNumberOf}
 use Rattle.lit_look.specs.declared.seen.Looked.{Looked}
-use Rattle.lit_look.proofs.ClimbLemmas.{its_look}
-use Rattle.lit_find.specs.Discovery.{IsBelow, IsTest}
-use Rattle.lit_find.specs.Walk.{HasFile, HasPath, IsBegun, IsDirIn, IsState, IsTestFile, IsTestIn, IsThrough, IsUnder, Walked, was_walked, with_first}
-use Rattle.lit_find.specs.declared.place.TestFile.{TestFile}
-use Rattle.lit_find.specs.declared.place.Place.{Place}
-use Rattle.lit_find.specs.declared.walk.Walk.{Walk}
+use Rattle.lit_look.proofs.ListLemmas.{all_at, any_one, cons_cases, get_before, its_one, none_in}
+use Rattle.tt_outside.specs.declared.tree.Node.{Node}
+use Rattle.tt_outside.specs.declared.tree.ItemKind.TheVariants.{Dir, File}
+use Rattle.lit_dirs.specs.Looks.{kind_of}
+use Rattle.lit_look.specs.Seen.{AreLooks, IsLook}
+use Rattle.lit_look.specs.declared.root.SuiteRoot.{SuiteRoot}
 use Rattle.lit_find.proofs.InsideLemmas.{IsOf, dir_in, dir_item, file_in, file_item, is_of, test_it, under_it}
-use Rattle.lit_find.proofs.ListLemmas.{any_one, cons_cases, its_one}
 use Rattle.lit_find.proofs.PlaceLemmas.{all_dirs, all_files, dirs_have, files_have}
-use Rattle.lit_find.proofs.SeenLemmas.{marked_before, marked_cases, marked_here, marked_only, walked_longer, walked_shorter}
+use Rattle.lit_find.proofs.PathLemmas.{reached}
+use Rattle.lit_find.specs.Discovery.{IsBelow, IsDirIn, IsTest, IsTestIn, IsWalked}
+use Rattle.lit_find.specs.Walk.{HasFile, HasPath, IsBegun, IsState, IsTestFile, IsThrough, IsUnder, Walked, was_walked, with_first}
+use Rattle.lit_find.specs.declared.place.Place.{Place}
+use Rattle.lit_find.specs.declared.place.TestFile.{TestFile}
+use Rattle.lit_find.specs.declared.walk.Walk.{Walk}
+
+get_longer : (old new : List Looked) (number : ℕ) (looked : Looked) → Extends old new
+    → slice_get old number ≡ Some looked → slice_get new number ≡ Some looked
+get_longer old new number looked (more, is) h = ap (λ seen. slice_get seen number) is ∙ get_before old more number looked h
+
+pub walked_longer : (old new : List Looked) (walk : Walk) (dir : Parts) → Extends old new → Walked old walk dir
+    → Walked new walk dir
+walked_longer old new walk dir longer (number, (looked, here, is), was) =
+    (number, (looked, get_longer old new number looked longer here, is), was)
+
+-- a number below the first ones is of one of these
+pub walked_shorter : (old new : List Looked) (walk : Walk) (dir : Parts) → Extends old new
+    → ((number : ℕ) → was_walked walk number ≡ true → number < length old) → Walked new walk dir → Walked old walk dir
+walked_shorter old new walk dir longer below (number, (looked, here, is), was) =
+    let one = get_or old number looked in
+    let there : slice_get old number ≡ Some one = slice_get-get_or old number looked (below number was) in
+    let same : Some one ≡ Some looked = sym (get_longer old new number one longer there) ∙ here in
+    (number, (looked, there ∙ same, is), was)
+
+pub dir_at : (seen : List Looked) (dir : Parts) (number : ℕ) (looked : Looked) → IsNumberOf seen dir number
+    → slice_get seen number ≡ Some looked → looked.dir ≡ dir
+dir_at seen dir number looked (one, there, is) here =
+    let both : Some one ≡ Some looked = sym there ∙ here in
+    let same : one ≡ looked = cc in
+    ap (λ x. x.dir) (sym same) ∙ is
+
+-- ---- one more is marked
+
+pub either : (a b : Bool) → b ≡ true → cond a true b ≡ true
+either true b h = refl
+either false b h = h
+
+module _ (number : ℕ) (old new : Walk)
+    (marked : (other : ℕ) → was_walked new other ≡ cond (other == number) true (was_walked old other)) where
+  pub marked_before : (seen : List Looked) (dir : Parts) → Walked seen old dir → Walked seen new dir
+  marked_before seen dir (other, is, was) =
+      (other, is, marked other ∙ either (other == number) (was_walked old other) was)
+
+  pub marked_here : was_walked new number ≡ true
+  marked_here = marked number ∙ ap (λ b. cond b true (was_walked old number)) (itself number)
+    where
+      itself : (n : ℕ) → (n == n) ≡ true
+      itself n = grind (arith, nat_tests)
+
+  pub marked_cases : (other : ℕ) → was_walked new other ≡ true → (was_walked old other ≡ true) ⊎ (other ≡ number)
+  marked_cases other was = by_test (other == number) refl (sym (marked other) ∙ was)
+    where
+      by_test : (b : Bool) → (other == number) ≡ b → cond b true (was_walked old other) ≡ true
+          → (was_walked old other ≡ true) ⊎ (other ≡ number)
+      by_test true same h = inr (grind (arith, nat_tests))
+      by_test false same h = inl h
+
+  pub marked_only : (seen : List Looked) (looked : Looked) (dir : Parts) → slice_get seen number ≡ Some looked
+      → Walked seen new dir → Walked seen old dir ⊎ (dir ≡ looked.dir)
+  marked_only seen looked dir here (other, (one, there, is), was) = elim (marked_cases other was) [
+    | inl before ↦ inl (other, (one, there, is), before)
+    | inr same ↦
+        let both : Some one ≡ Some looked = sym there ∙ ap (slice_get seen) same ∙ here in
+        inr (sym is ∙ (let e : one ≡ looked = cc in ap (λ x. x.dir) e))
+  ]
+
+-- ---- what is reached
+
+-- a directory that is walked through from a word was walked through, or one above it is still before the walk
+pub reached_from : (nodes : List Node) (words : List Parts) (seen : List Looked) (walk : Walk) (word dir : Parts)
+    → IsState nodes words seen walk → Contains words word → IsWalked nodes word dir
+    → Walked seen walk dir ⊎ ((front below : Parts) × (dir ≡ front ++ below) × HasPath walk.pending front)
+reached_from nodes words seen walk word dir is within walked =
+    subst (λ path. Walked seen walk path ⊎ ((front below : Parts) × (path ≡ front ++ below) × HasPath walk.pending front))
+    (sym walked.behind)
+    (reached nodes (Walked seen walk) (HasPath walk.pending) is.closed word walked.rest walked.way
+    (is.dirs word within walked.from_dir))
+
+pub all_reached : (nodes : List Node) (words : List Parts) (seen : List Looked) (walk : Walk) (word dir : Parts)
+    → IsState nodes words seen walk → walk.pending ≡ [] → Contains words word → IsWalked nodes word dir
+    → Walked seen walk dir
+all_reached nodes words seen walk word dir is none within walked =
+    elim (reached_from nodes words seen walk word dir is within walked) [
+      | inl was ↦ was
+      | inr (front, below, same, has) ↦ absurd (none_in front (subst (λ places. HasPath places front) none has))
+    ]
 
 -- ---- further looks
 
@@ -97,7 +178,7 @@ pub through_of : (nodes : List Node) (words : List Parts) (seen : List Looked) (
     → slice_get seen number ≡ Some looked → looked.dir ≡ place.path → IsThrough looked number place.suite old new
     → Through nodes seen number looked place old new
 through_of nodes words seen number looked place old new state is here through = record {
-  of = is_of nodes place looked (its_look nodes seen number looked state.looks.looks is)
+  of = is_of nodes place looked (all_at (IsLook nodes) seen number looked state.looks.looks is)
       (All-head (IsUnder nodes) place old.pending state.under) here;
   here = here;
   is = is;

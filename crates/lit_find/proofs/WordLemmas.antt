@@ -1,163 +1,92 @@
--- One more word: the first look at it, the directories up to its suite, and a word that is a file.
--- Idea: what was looked at for earlier words doesn't count again, and the first look is one of those up to the suite.
--- The hard one is `up_refused`.
-use Rattle.std.proofs.Common.{◌≡◌, ◌≢◌, ℕ, true, ◌⊎◌, inl, inr, List, [], ◌∷◌, ◌++◌, length, All, Some, None, Err, refl, sym, ap, ◌∙◌, subst, append-nil, length-append, arith}
-use Rattle.std.specs.List.{list_all}
-use Rattle.std.proofs.lemmas.List.Elements.{All-push}
+-- One more word: the directories up to its suite, a word that is a file, and the walk of one that is a directory.
+-- Idea: what was looked at for earlier words doesn't count again; where nothing is before the walk, each directory that is
+-- walked through from the word was, since it was begun. The hard ones are `refuses_word` and `walk_ends`.
+use Rattle.std.proofs.Common.{◌≡◌, ◌≢◌, ℕ, ◌==◌, true, ◌⊎◌, inl, inr, List, [], ◌∷◌, ◌++◌, All, Option, Some, None, Result, Ok, Err, OnOk, refl, sym, ap, ◌∙◌, subst, append-nil, arith}
+use Rattle.std.specs.BTreeMap.{is_at}
+use Rattle.std.specs.List.{Contains, list_all}
+use Rattle.std.specs.Ordering.{nat_cmp}
+use Rattle.std.proofs.lemmas.Bool.Decides.{nat_tests}
+use Rattle.std.proofs.lemmas.List.Elements.{All-cons, All-nil, All-push, Contains-push}
 use Rattle.tt_outside.specs.declared.tree.Node.{Node}
 use Rattle.tt_outside.specs.declared.tree.ItemKind.TheVariants.{Dir, File}
 use Rattle.tt_outside.specs.TreeMap.{are_nested, is_part}
 use Rattle.lit_paths.specs.Paths.{Parts, dir_of, path_in, text_of}
+use Rattle.lit_suite.specs.declared.suite_file.Suite.{Suite}
+use Rattle.lit_suite.specs.declared.suite_file.SuiteFault.{SuiteFault}
 use Rattle.lit_dirs.specs.Looks.{kind_of}
+use Rattle.lit_dirs.specs.Suites.{suite_at}
 use Rattle.lit_dirs.specs.declared.fault.DiscoverFault.{DiscoverFault}
 use Rattle.lit_dirs.specs.declared.fault.DiscoverFault.TheVariants.{Missing}
-use Rattle.lit_look.specs.Looks.{AreSeenUp, Extends, GivesLook, GivesNearest, HasNone, IsAbsent, IsNumberOf, IsRefusedUp}
-use Rattle.lit_look.specs.Seen.{AreSeen, Has, Refuses}
-use Rattle.lit_look.specs.Suites.{GoesUp, IsAbove, LiesIn, nearest, rooted_at}
+use Rattle.lit_look.specs.Looks.{AreSeenUp, Extends, GivesNearest, HasNoSuite, IsAbsent, IsRefusedFrom, IsRefusedUp}
+use Rattle.lit_look.specs.Seen.{AreSeen, Has}
+use Rattle.lit_look.specs.Suites.{LiesIn, Rooted, looked_up, nearest, or_else, rooted, rooted_at}
 use Rattle.lit_look.specs.declared.root.SuiteRoot.{SuiteRoot}
 use Rattle.lit_look.specs.declared.seen.Looked.{Looked}
-use Rattle.lit_look.proofs.ClimbLemmas.{its_look}
+use Rattle.lit_look.proofs.ListLemmas.{first_in, none_in}
 use Rattle.lit_look.proofs.DirLemmas.{above_is_dir}
-use Rattle.lit_look.proofs.SeenLemmas.{further, refused_behind, same_seen}
+use Rattle.lit_look.proofs.SeenLemmas.{further, has_number, refused_behind, same_seen}
+use Rattle.lit_look.proofs.SuiteLemmas.{nearest_here}
 use Rattle.lit_look.proofs.TreeLemmas.{told}
-use Rattle.lit_look.proofs.UpLemmas.{starts_up}
-use Rattle.lit_find.specs.Discovery.{IsBelow, IsLookedAt, LooksAt, start_at, start_of}
+use Rattle.lit_find.specs.Discovery.{IsBelow, IsLookedAt, IsWalked, LooksAt, start_at, start_of}
 use Rattle.lit_find.specs.Files.{IsFiled}
-use Rattle.lit_find.specs.Refusals.{HasPlace, RefusesWord, Stands}
-use Rattle.lit_find.specs.Walk.{GivesWord, HasFile, HasPath, IsCovered, IsCoveredBut, IsTestFile, IsUnder}
+use Rattle.lit_find.specs.Places.{IsBefore}
+use Rattle.lit_find.specs.Refusals.{HasPlace, IsDue, IsRefusedDown, RefusesWord, Stands}
+use Rattle.lit_find.specs.Walk.{GivesWalk, GivesWord, HasFile, HasPath, IsCovered, IsTestFile, IsUnder, IsWalk}
 use Rattle.lit_find.specs.declared.walk.Walk.{Walk}
 use Rattle.lit_find.proofs.FileLemmas.{filed}
-use Rattle.lit_find.proofs.PathLemmas.{path_in_word}
+use Rattle.lit_find.proofs.PathLemmas.{dir_of_push, last_part, parts_left, path_in_word}
 use Rattle.lit_find.proofs.PlaceLemmas.{file_has}
-use Rattle.lit_find.proofs.ReachLemmas.{dir_of_push, last_part, parts_left}
-use Rattle.lit_find.proofs.StateLemmas.{any_cases, any_last, any_longer, state_longer, state_word, tests_longer}
+use Rattle.lit_find.proofs.StateLemmas.{all_reached, any_cases, any_last, any_longer, state_longer, state_word, tests_longer}
+
+pub same_number : (k q : ℕ) → is_at (nat_cmp k) q ≡ (q == k)
+same_number k q = grind (arith, nat_tests)
 
 -- ---- the directories up to its suite
 
--- those that were looked at before: for earlier words, and maybe the first of these
-pub seen_from : (nodes : List Node) (words : List Parts) (start : Parts) (Own : Parts → Type 0) (old new : List Looked)
-    → AreSeen nodes (λ one. IsLookedAt nodes words one ⊎ Own one) old → ((one : Parts) → Own one → one ≡ start)
-    → AreSeenUp nodes start old new
-    → AreSeen nodes (λ one. IsLookedAt nodes words one ⊎ GoesUp nodes start one) new
-seen_from nodes words start Own old new all own seen =
-    further nodes (λ one. IsLookedAt nodes words one ⊎ Own one) (GoesUp nodes start)
-    (λ one. IsLookedAt nodes words one ⊎ GoesUp nodes start one) old new all seen
-    (λ one b. elim b [
-      | inl early ↦ inl early
-      | inr its ↦ inr (subst (GoesUp nodes start) (sym (own one its)) (starts_up nodes start))
-    ])
-    (λ one m. inr m)
-    (λ one c. elim c [ inl early ↦ inl (inl early) | inr up ↦ inr up ])
+pub seen_from : (nodes : List Node) (words : List Parts) (start : Parts) (old new : List Looked)
+    → AreSeen nodes (IsLookedAt nodes words) old → AreSeenUp nodes start old new
+    → AreSeen nodes (IsDue nodes words start) new
+seen_from nodes words start old new all seen =
+    further nodes (IsLookedAt nodes words) (Contains (looked_up nodes start)) (IsDue nodes words start) old new all seen
+    (λ one h. inl h) (λ one h. inr h) (λ one h. h)
 
--- what goes up is the directory or above it
-up_cases : (nodes : List Node) (word one : Parts) → GoesUp nodes word one → (one ≡ word) ⊎ IsAbove one word
-up_cases nodes word one ([], is, none) = inl (sym (is ∙ append-nil one))
-up_cases nodes word one (part ∷ below, is, none) = inr (part, below, is)
-
-pub up_refused : (nodes : List Node) (words : List Parts) (word start : Parts) (Own : Parts → Type 0)
-    (old new : List Looked) (fault : DiscoverFault) → Stands nodes word → start_of nodes word ≡ start
-    → AreSeen nodes (λ one. IsLookedAt nodes words one ⊎ Own one) old → ((one : Parts) → Own one → one ≡ start)
-    → HasNone nodes start word old new fault ⊎ IsRefusedUp nodes start old fault → RefusesWord nodes words word fault
-up_refused nodes words word start Own old new fault stands is all own (inl (same, seen, none)) = inr (
-  stands,
-  inr (inl (
-    new,
-    subst (λ x. AreSeen nodes (λ one. IsLookedAt nodes words one ⊎ GoesUp nodes x one) new) (sym is)
-        (seen_from nodes words start Own old new all own seen),
-    subst (λ x. nearest nodes x ≡ None) (sym is) none,
-    same,
-  )),
-)
-up_refused nodes words word start Own old new fault stands is all own (inr (one, up, refuses)) = inr (
+refuses_word : (nodes : List Node) (words : List Parts) (word start : Parts) (old new : List Looked)
+    (fault : DiscoverFault) → Stands nodes word → start_of nodes word ≡ start → AreSeen nodes (IsLookedAt nodes words) old
+    → HasNoSuite nodes (Has old) start word new fault ⊎ IsRefusedUp nodes (Has old) start fault
+    → RefusesWord nodes words word fault
+refuses_word nodes words word start old new fault stands is all (inl (seen, none, same)) = inr (
   stands,
   inl (
-    one,
-    subst (λ x. GoesUp nodes x one) (sym is) up,
-    subst (λ x. Refuses nodes (λ other. IsLookedAt nodes words other ⊎ (GoesUp nodes x other × IsAbove one other))
-        one fault) (sym is)
-        (refused_behind nodes (λ other. Has old other ⊎ (GoesUp nodes start other × IsAbove one other))
-        (λ other. IsLookedAt nodes words other ⊎ (GoesUp nodes start other × IsAbove one other)) one fault refuses
-        (λ other b. elim b [
-          | inl has ↦ elim (all.right other has) [ inl early ↦ inl early | inr its ↦ inr (first other has (own other its)) ]
-          | inr later ↦ inr later
-        ])
-        (λ other c. elim c [ inl early ↦ inl (all.whole other (inl early)) | inr later ↦ inr later ])),
+    new,
+    subst (λ (x : Parts). HasNoSuite nodes (IsLookedAt nodes words) x word new fault) (sym is)
+        (seen_from nodes words start old new all seen, none, same),
   ),
 )
-  where
-    first : (other : Parts) → Has old other → other ≡ start → GoesUp nodes start other × IsAbove one other
-    first other has same = elim (up_cases nodes start one up) [
-      | inl here ↦ absurd (refuses.new (inl (subst (Has old) (same ∙ sym here) has)))
-      | inr higher ↦ (
-        subst (GoesUp nodes start) (sym same) (starts_up nodes start),
-        subst (IsAbove one) (sym same) higher,
-      )
-    ]
+refuses_word nodes words word start old new fault stands is all (inr (early, one, later, up, refuses)) = inr (
+  stands,
+  inr (inl (subst (λ (x : Parts). IsRefusedUp nodes (IsLookedAt nodes words) x fault) (sym is) (
+    early,
+    one,
+    later,
+    up,
+    refused_behind nodes (λ other. Has old other ⊎ Contains early other)
+        (λ other. IsLookedAt nodes words other ⊎ Contains early other) one fault refuses
+        (λ other h. elim h [ inl has ↦ inl (all.right other has) | inr before ↦ inr before ])
+        (λ other h. elim h [ inl looked ↦ inl (all.whole other looked) | inr before ↦ inr before ]),
+  ))),
+)
 
--- ---- the first look at it
-
--- it is a directory
-pub covered_but : (nodes : List Node) (words : List Parts) (word : Parts) (old new : List Looked) (walk : Walk)
-    (number : ℕ) → IsCovered nodes words old walk → Extends old new
-    → AreSeen nodes (λ one. Has old one ⊎ (one ≡ word)) new → IsNumberOf new word number
-    → IsCoveredBut nodes words word new walk
-covered_but nodes words word old new walk number is longer seen (looked, here, same) = record {
-  state = state_longer nodes words old new walk is.state longer
-      (same_seen nodes (λ one. Has old one ⊎ (one ≡ word)) (Has new) new seen seen.whole seen.right);
-  done = is.done;
-  places = is.places;
-  all = further nodes (IsLookedAt nodes words) (λ one. one ≡ word) (λ one. IsLookedAt nodes words one ⊎ (one ≡ word))
-      old new is.all seen (λ one b. inl b) (λ one m. inr m) (λ one c. c);
-  is_dir = ap (kind_of nodes) (sym same) ∙ (its_look nodes new number looked seen.looks here).lists.here;
-}
-
--- nothing below a directory lies above it
-not_up : (nodes : List Node) (word one : Parts) → GoesUp nodes word one → IsAbove word one → ⊥
-not_up nodes word one (below, is, none) (part, rest, same) =
-    absurd (omega (arith, ap length is, ap length same, length-append one below, length-append word (part ∷ rest)))
-
--- it is refused
-first_refused : (nodes : List Node) (words : List Parts) (word : Parts) (old : List Looked) (walk : Walk)
-    (fault : DiscoverFault) → IsCovered nodes words old walk → Refuses nodes (Has old) word fault
-    → RefusesWord nodes words word fault
-first_refused nodes words word old walk fault is refuses =
-    let start : start_of nodes word ≡ word = ap (start_at word) refuses.lists.here in
-    inr (
-      inl refuses.lists.here,
-      inl (
-        word,
-        subst (λ one. GoesUp nodes one word) (sym start) (starts_up nodes word),
-        refused_behind nodes (Has old)
-            (λ one. IsLookedAt nodes words one ⊎ (GoesUp nodes (start_of nodes word) one
-            × IsAbove word one)) word fault refuses
-            (λ one has. inl (is.all.right one has))
-            (λ one h. elim h [
-              | inl early ↦ is.all.whole one early
-              | inr up ↦ absurd (not_up nodes word one (subst (λ x. GoesUp nodes x one) start up.0) up.1)
-            ]),
-      ),
-    )
-
-pub look_refused : (nodes : List Node) (words : List Parts) (word : Parts) (old new next : List Looked)
-    (walk after : Walk) (fault : DiscoverFault) → IsCovered nodes words old walk → GivesLook nodes word old new (Err fault)
-    → GivesWord {A = Unit {0}} nodes words word next after (Err fault)
-look_refused nodes words word old new next walk after fault is gives =
-    told (λ one. IsAbsent nodes word one ⊎ Refuses nodes (Has old) word one) (RefusesWord nodes words word) fault
-    (λ one h. elim h [
-      | inl absent ↦ inl (absent.1, inl absent.2, absent.0)
-      | inr refuses ↦ first_refused nodes words word old walk one is refuses
-    ]) gives
-
--- no suite is found for a directory
-pub dir_refused : (nodes : List Node) (words : List Parts) (word : Parts) (old new next : List Looked)
-    (walk after : Walk) (fault : DiscoverFault) → IsCoveredBut nodes words word old walk
+-- nothing is there, or there is no suite for a directory
+pub word_refused : (nodes : List Node) (words : List Parts) (word : Parts) (old new next : List Looked)
+    (walk after : Walk) (fault : DiscoverFault) → IsCovered nodes words old walk
     → GivesNearest nodes word word old new (Err fault)
     → GivesWord {A = Unit {0}} nodes words word next after (Err fault)
-dir_refused nodes words word old new next walk after fault is gives =
-    told (λ one. HasNone nodes word word old new one ⊎ IsRefusedUp nodes word old one) (RefusesWord nodes words word)
-    fault
-    (λ one h. up_refused nodes words word word (λ other. other ≡ word) old new one (inl is.is_dir)
-    (ap (start_at word) is.is_dir) is.all (λ other same. same) h) gives
+word_refused nodes words word old new next walk after fault is gives =
+    told (λ one. IsAbsent nodes word one ⊎ IsRefusedFrom nodes word word old new one) (RefusesWord nodes words word) fault
+    (λ one h. elim h [
+      | inl absent ↦ inl (absent.1, inl absent.2, absent.0)
+      | inr from ↦ refuses_word nodes words word word old new one (inl from.0) (ap (start_at word) from.0) is.all from.1
+    ]) gives
 
 -- ---- a word that is a file
 
@@ -194,15 +123,8 @@ dir_is_dir nodes word nested parts some file =
     above_is_dir nodes (dir_of word) part nested (subst (λ path. list_all is_part path ≡ true) is parts)
     (subst (λ path. kind_of nodes path ≢ None) is (λ none. absurd (cc)))
 
-apart : (nodes : List Node) (word : Parts) → kind_of nodes word ≡ Some File → kind_of nodes word ≡ Some Dir → ⊥
+pub apart : (nodes : List Node) (word : Parts) → kind_of nodes word ≡ Some File → kind_of nodes word ≡ Some Dir → ⊥
 apart nodes word file dir = let e : Some File ≡ Some Dir = sym file ∙ dir in absurd (cc)
-
--- only the directories of earlier words were looked at
-no_other : (nodes : List Node) (words : List Parts) (seen : List Looked) → AreSeen nodes (IsLookedAt nodes words) seen
-    → AreSeen nodes (λ one. IsLookedAt nodes words one ⊎ ⊥) seen
-no_other nodes words seen all =
-    same_seen nodes (IsLookedAt nodes words) (λ one. IsLookedAt nodes words one ⊎ ⊥) seen all (λ one b. inl b)
-    (λ one c. elim c [ inl b ↦ b | inr none ↦ absurd none ])
 
 pub file_added : (nodes : List Node) (words : List Parts) (word : Parts) (old new : List Looked) (root : SuiteRoot)
     (text : List ℕ) (walk after : Walk) → list_all is_part word ≡ true → kind_of nodes word ≡ Some File → word ≢ []
@@ -212,13 +134,11 @@ pub file_added : (nodes : List Node) (words : List Parts) (word : Parts) (old ne
     → after.pending ≡ walk.pending → IsCovered nodes (words ++ word ∷ []) new after
 file_added nodes words word old new root text walk after parts kind some is longer seen near named found marks waits =
     let start : start_of nodes word ≡ dir_of word = ap (start_at word) kind in
-    let before = seen_from nodes words (dir_of word) (λ one. ⊥) old new (no_other nodes words old is.all)
-    (λ one none. absurd none) seen in
     let same : path_in text ≡ word = ap path_in named ∙ path_in_word word parts some in
     record {
       state = state_word nodes words word new walk after
           (state_longer nodes words old new walk is.state longer
-          (same_seen nodes (λ one. Has old one ⊎ GoesUp nodes (dir_of word) one) (Has new) new seen seen.whole
+          (same_seen nodes (λ one. Has old one ⊎ Contains (looked_up nodes (dir_of word)) one) (Has new) new seen seen.whole
           seen.right))
           marks (subst (All (IsUnder nodes)) (sym waits) is.state.under)
           (λ dir had. subst (λ places. HasPath places dir) (sym waits) had)
@@ -241,32 +161,131 @@ file_added nodes words word old new root text walk after parts kind some is long
         stands = inr (kind, some);
         suite = subst (λ one. nearest nodes one ≢ None) (sym start) (λ none. let e = sym near ∙ none in cc);
       });
-      all = same_seen nodes (λ one. IsLookedAt nodes words one ⊎ GoesUp nodes (dir_of word) one)
-          (IsLookedAt nodes (words ++ word ∷ [])) new before
+      all = same_seen nodes (IsDue nodes words (dir_of word)) (IsLookedAt nodes (words ++ word ∷ [])) new
+          (seen_from nodes words (dir_of word) old new is.all seen)
           (λ one b. elim b [
             | inl early ↦ any_longer (LooksAt nodes one) words word early
-            | inr up ↦ any_last (LooksAt nodes one) words word (inl (subst (λ x. GoesUp nodes x one) (sym start) up))
+            | inr up ↦ any_last (LooksAt nodes one) words word
+                (inl (subst (λ x. Contains (looked_up nodes x) one) (sym start) up))
           ])
           (λ one c. elim (any_cases (LooksAt nodes one) words word c) [
             | inl early ↦ inl early
-            | inr (inl up) ↦ inr (subst (λ x. GoesUp nodes x one) start up)
-            | inr (inr below) ↦ absurd (apart nodes word kind below.0)
+            | inr (inl up) ↦ inr (subst (λ x. Contains (looked_up nodes x) one) start up)
+            | inr (inr below) ↦ absurd (apart nodes word kind below.from_dir)
           ]);
     }
 
 pub file_refused : (nodes : List Node) (words : List Parts) (word : Parts) (old new next : List Looked)
     (walk after : Walk) (fault : DiscoverFault) → kind_of nodes word ≡ Some File → word ≢ []
-    → IsCovered nodes words old walk → GivesNearest nodes (dir_of word) word old new (Err fault)
+    → kind_of nodes (dir_of word) ≡ Some Dir → IsCovered nodes words old walk
+    → GivesNearest nodes (dir_of word) word old new (Err fault)
     → GivesWord {A = Unit {0}} nodes words word next after (Err fault)
-file_refused nodes words word old new next walk after fault kind some is gives =
-    told (λ one. HasNone nodes (dir_of word) word old new one ⊎ IsRefusedUp nodes (dir_of word) old one)
+file_refused nodes words word old new next walk after fault kind some up is gives =
+    told (λ one. IsAbsent nodes (dir_of word) one ⊎ IsRefusedFrom nodes (dir_of word) word old new one)
     (RefusesWord nodes words word) fault
-    (λ one h. up_refused nodes words word (dir_of word) (λ other. ⊥) old new one (inr (kind, some))
-    (ap (start_at word) kind) (no_other nodes words old is.all) (λ other none. absurd none) h) gives
+    (λ one h. elim h [
+      | inl absent ↦ absurd (absent.1 up)
+      | inr from ↦ refuses_word nodes words word (dir_of word) old new one (inr (kind, some)) (ap (start_at word) kind)
+          is.all from.1
+    ]) gives
 
 -- a file at `/`
-pub root_file : (nodes : List Node) (words : List Parts) (word : Parts) (next : List Looked) (after : Walk)
-    (path : List ℕ) → word ≡ [] → kind_of nodes word ≡ Some File → path ≡ text_of word
-    → RefusesWord nodes words word (Missing path)
-root_file nodes words word next after path none kind is =
-    inl (apart nodes word kind, inr none, ap (λ text. Missing text) is)
+pub root_file : (nodes : List Node) (words : List Parts) (word : Parts) (path : List ℕ) → word ≡ []
+    → kind_of nodes word ≡ Some File → path ≡ text_of word → RefusesWord nodes words word (Missing path)
+root_file nodes words word path none kind is = inl (apart nodes word kind, inr none, ap (λ text. Missing text) is)
+
+-- ---- a word that is a directory
+
+near_itself : (nodes : List Node) (word : Parts) (root : Option Rooted) → nearest nodes word ≡ root
+    → nearest nodes word ≡ or_else (rooted word (suite_at nodes word)) root
+near_itself nodes word root near = by_suite (suite_at nodes word) refl
+  where
+    by_suite : (s : Option (Result Suite SuiteFault)) → suite_at nodes word ≡ s
+        → nearest nodes word ≡ or_else (rooted word s) root
+    by_suite None is = near
+    by_suite (Some (Ok suite)) is = nearest_here nodes word suite is
+    by_suite (Some (Err fault)) is = near
+
+pub walk_begins : (nodes : List Node) (words : List Parts) (word : Parts) (old new : List Looked) (root : SuiteRoot)
+    (walk after : Walk) → list_all is_part word ≡ true → kind_of nodes word ≡ Some Dir → IsCovered nodes words old walk
+    → Extends old new → AreSeenUp nodes word old new → nearest nodes word ≡ Some (rooted_at root)
+    → after.found ≡ walk.found → after.walked ≡ walk.walked
+    → after.pending ≡ record { path = word; suite = root } ∷ []
+    → IsWalk nodes (words ++ word ∷ []) word new new after
+walk_begins nodes words word old new root walk after parts kind is longer seen near found marks pending = record {
+  state = state_word nodes words word new walk after
+      (state_longer nodes words old new walk is.state longer
+      (same_seen nodes (λ one. Has old one ⊎ Contains (looked_up nodes word) one) (Has new) new seen seen.whole seen.right))
+      marks
+      (subst (All (IsUnder nodes)) (sym pending)
+      (All-cons (IsUnder nodes) (record { path = word; suite = root }) []
+      (record { parts = parts; is_dir = kind; suite = near_itself nodes word _ near }) (All-nil (IsUnder nodes))))
+      (λ dir had. absurd (none_in dir (subst (λ places. HasPath places dir) is.done had)))
+      (subst (All (IsTestFile nodes (words ++ word ∷ []))) (sym found) (tests_longer nodes words word walk.found is.state.tests))
+      (λ path had. subst (λ files. HasFile files path) (sym found) had)
+      (λ dir. subst (λ places. HasPath places word) (sym pending) (first_in word []))
+      (λ file. absurd (apart nodes word file kind));
+  right = subst (All (λ place. IsWalked nodes word place.path)) (sym pending)
+      (All-cons (λ place. IsWalked nodes word place.path) (record { path = word; suite = root }) []
+      (record { rest = []; behind = sym (append-nil word); from_dir = kind; way = tt })
+      (All-nil (λ place. IsWalked nodes word place.path)));
+  from = λ dir has. has;
+  new = λ dir has. inl has;
+  one = Contains-push words word;
+  is_dir = kind;
+}
+
+walk_ends : (nodes : List Node) (words : List Parts) (word : Parts) (first new : List Looked) (walk : Walk)
+    → IsWalk nodes (words ++ word ∷ []) word first new walk → walk.pending ≡ []
+    → AreSeen nodes (IsDue nodes words word) first → nearest nodes word ≢ None → All (HasPlace nodes) words
+    → IsCovered nodes (words ++ word ∷ []) new walk
+walk_ends nodes words word first new walk is none seen suite places =
+    let start : start_of nodes word ≡ word = ap (start_at word) is.is_dir in
+    record {
+      state = is.state;
+      done = none;
+      places = All-push (HasPlace nodes) words word places
+          (record { stands = inl is.is_dir; suite = subst (λ one. nearest nodes one ≢ None) (sym start) suite });
+      all = same_seen nodes (Has new) (IsLookedAt nodes (words ++ word ∷ [])) new is.state.looks
+          (λ dir has. elim (is.new dir has) [
+            | inl early ↦ elim (seen.right dir early) [
+              | inl looked ↦ any_longer (LooksAt nodes dir) words word looked
+              | inr up ↦ any_last (LooksAt nodes dir) words word
+                  (inl (subst (λ one. Contains (looked_up nodes one) dir) (sym start) up))
+            ]
+            | inr later ↦ any_last (LooksAt nodes dir) words word (inr later.0)
+          ])
+          (λ dir any. elim (any_cases (LooksAt nodes dir) words word any) [
+            | inl early ↦ is.from dir (seen.whole dir (inl early))
+            | inr (inl up) ↦ is.from dir (seen.whole dir
+                (inr (subst (λ one. Contains (looked_up nodes one) dir) start up)))
+            | inr (inr below) ↦
+                let (number, its, was) = all_reached nodes (words ++ word ∷ []) new walk word dir is.state none is.one below in
+                has_number new dir number its
+          ]);
+    }
+
+-- what a walk gives is what its word gives
+pub word_walked : (nodes : List Node) (words : List Parts) (word : Parts) (first new : List Looked) (walk : Walk)
+    (result : Result (Unit {0}) DiscoverFault) → kind_of nodes word ≡ Some Dir → nearest nodes word ≢ None
+    → AreSeen nodes (IsDue nodes words word) first → All (HasPlace nodes) words
+    → OnOk result (walk.pending ≡ []) → GivesWalk nodes (words ++ word ∷ []) word first new walk result
+    → GivesWord nodes words word new walk result
+word_walked nodes words word first new walk (Ok done) kind suite seen places none gives =
+    walk_ends nodes words word first new walk gives none seen suite places
+word_walked nodes words word first new walk (Err fault) kind suite seen places none gives =
+    told (IsRefusedDown nodes (Has first) word) (RefusesWord nodes words word) fault
+    (λ one h. let (dir, walked, refuses) = h in inr (
+      inl kind,
+      inr (inr (
+        suite,
+        (
+          dir,
+          walked,
+          refused_behind nodes (λ other. Has first other ⊎ (IsWalked nodes word other × IsBefore other dir))
+              (λ other. IsDue nodes words word other ⊎ (IsWalked nodes word other × IsBefore other dir)) dir one refuses
+              (λ other h. elim h [ inl has ↦ inl (seen.right other has) | inr before ↦ inr before ])
+              (λ other h. elim h [ inl due ↦ inl (seen.whole other due) | inr before ↦ inr before ]),
+        ),
+      )),
+    )) gives

@@ -1,8 +1,8 @@
--- Which files are tests: a filter over all paths of a tree.
+-- Which files are tests: those that words name, and those in directories that are walked through from one.
 -- After LLVM Command Guide, lit, 'TEST DISCOVERY'. Own rule: a part is passed over by the suite of the directory in which it
 -- stands.
 use Rattle.std.specs.Prelude.{◌≡◌, ℕ, Bool, true, false, List, [], ◌∷◌, ◌++◌, Option, None, Some, ◌⊎◌, ⊤}
-use Rattle.std.specs.List.{Any, list_all}
+use Rattle.std.specs.List.{Any, Contains}
 use Rattle.tt_outside.specs.declared.tree.Node.{Node}
 use Rattle.tt_outside.specs.declared.tree.ItemKind.{ItemKind}
 use Rattle.tt_outside.specs.declared.tree.ItemKind.TheVariants.{File, Dir, Other}
@@ -10,7 +10,7 @@ use Rattle.tt_outside.specs.TreeMap.{is_part}
 use Rattle.lit_paths.specs.Paths.{Parts, dir_of, text_of}
 use Rattle.lit_dirs.specs.Looks.{kind_of}
 use Rattle.lit_dirs.specs.Passing as suite
-use Rattle.lit_look.specs.Suites.{GoesUp, Rooted, nearest}
+use Rattle.lit_look.specs.Suites.{Rooted, looked_up, nearest}
 
 -- a name is passed over in a directory with this suite
 abbrev pub is_passed : Option Rooted → List ℕ → Bool
@@ -22,36 +22,35 @@ abbrev pub has_suffix : Option Rooted → List ℕ → Bool
 has_suffix None path = false
 has_suffix (Some rooted) path = suite.has_suffix rooted.suite path
 
--- no part of the rest is passed over in the directory in which it stands
-abbrev pub IsOpen : List Node → Parts → Parts → Type 0
-IsOpen nodes dir [] = ⊤
-IsOpen nodes dir (part ∷ rest) = (is_passed (nearest nodes dir) part ≡ false) × IsOpen nodes (dir ++ part ∷ []) rest
+-- ---- what stands in a directory
 
--- ---- tests
+-- what is of a kind stands there under a name, which isn't passed over
+pub record IsIn (nodes : List Node) (kind : ItemKind) (dir : Parts) (part : List ℕ) : Type 0 where
+  pub named : is_part part ≡ true
+  pub stands : kind_of nodes (dir ++ part ∷ []) ≡ Some kind
+  pub kept : is_passed (nearest nodes dir) part ≡ false
 
--- a path lies below a word that is a directory, no part behind the word is passed over, and its suite has a suffix for
--- it
-pub record IsBelow (nodes : List Node) (word path : Parts) : Type 0 where
-  pub rest : Parts
-  pub behind : path ≡ word ++ rest
-  pub from_dir : kind_of nodes word ≡ Some Dir
-  pub is_open : IsOpen nodes word rest
-  pub suffix : has_suffix (nearest nodes (dir_of path)) (text_of path) ≡ true
+-- a directory is walked through, and a file is a test
+abbrev pub IsDirIn : List Node → Parts → List ℕ → Type 0
+IsDirIn nodes dir part = IsIn nodes Dir dir part
 
--- the words make a path a test: it is that of a file, and one of them or below one
-abbrev pub IsTest : List Node → List Parts → Parts → Type 0
-IsTest nodes words path =
-    (kind_of nodes path ≡ Some File) × Any (λ word. (path ≡ word) ⊎ IsBelow nodes word path) words
+abbrev pub IsTestIn : List Node → Parts → List ℕ → Type 0
+IsTestIn nodes dir part =
+    IsIn nodes File dir part × (has_suffix (nearest nodes dir) (text_of (dir ++ part ∷ [])) ≡ true)
 
 -- ---- directories
 
--- a directory below another, or the same, that no part shuts out
+-- each part of the rest is a directory that is walked through, from the one before it
+abbrev pub IsWay : List Node → Parts → Parts → Type 0
+IsWay nodes dir [] = ⊤
+IsWay nodes dir (part ∷ rest) = IsDirIn nodes dir part × IsWay nodes (dir ++ part ∷ []) rest
+
+-- a directory is walked through from another, or is the same
 pub record IsWalked (nodes : List Node) (word dir : Parts) : Type 0 where
   pub rest : Parts
   pub behind : dir ≡ word ++ rest
-  pub parts : list_all is_part rest ≡ true
-  pub is_dir : kind_of nodes dir ≡ Some Dir
-  pub is_open : IsOpen nodes word rest
+  pub from_dir : kind_of nodes word ≡ Some Dir
+  pub way : IsWay nodes word rest
 
 -- the directory whose suite is that of a word: the word itself, or the directory in which it stands
 abbrev pub start_at : Parts → Option ItemKind → Parts
@@ -63,11 +62,25 @@ start_at word None = dir_of word
 abbrev pub start_of : List Node → Parts → Parts
 start_of nodes word = start_at word (kind_of nodes word)
 
--- a word looks at the directories up to its suite, and at those below it
+-- a word looks at the directories up to its suite, and at those that are walked through from it
 abbrev pub LooksAt : List Node → Parts → Parts → Type 0
-LooksAt nodes dir word =
-    GoesUp nodes (start_of nodes word) dir ⊎ (kind_of nodes word ≡ Some Dir × IsWalked nodes word dir)
+LooksAt nodes dir word = Contains (looked_up nodes (start_of nodes word)) dir ⊎ IsWalked nodes word dir
 
 -- one of these words looks at a directory
 abbrev pub IsLookedAt : List Node → List Parts → Parts → Type 0
 IsLookedAt nodes words dir = Any (LooksAt nodes dir) words
+
+-- ---- tests
+
+-- a path is that of a test in a directory that is walked through from a word
+pub record IsBelow (nodes : List Node) (word path : Parts) : Type 0 where
+  pub dir : Parts
+  pub part : List ℕ
+  pub is : path ≡ dir ++ part ∷ []
+  pub walked : IsWalked nodes word dir
+  pub test : IsTestIn nodes dir part
+
+-- the words make a path a test: it is that of a file, and one of them or below one
+abbrev pub IsTest : List Node → List Parts → Parts → Type 0
+IsTest nodes words path =
+    (kind_of nodes path ≡ Some File) × Any (λ word. (path ≡ word) ⊎ IsBelow nodes word path) words

@@ -3,15 +3,17 @@
 -- then the walk, a directory before those below it and siblings in byte order of names. In each directory come the items
 -- that were listed in all, the Python configuration and the suite file. Each directory counts once.
 use Rattle.std.specs.Prelude.{◌≡◌, ◌≢◌, List, [], ◌∷◌, ◌++◌, All, None, Some, ◌⊎◌}
+use Rattle.std.specs.List.{Contains}
 use Rattle.tt_outside.specs.declared.tree.Node.{Node}
 use Rattle.tt_outside.specs.declared.tree.ItemKind.TheVariants.{File, Dir}
 use Rattle.lit_paths.specs.Paths.{Parts, text_of}
 use Rattle.lit_dirs.specs.Looks.{kind_of}
 use Rattle.lit_dirs.specs.declared.fault.DiscoverFault.{DiscoverFault}
-use Rattle.lit_dirs.specs.declared.fault.DiscoverFault.TheVariants.{Missing, NoSuite}
+use Rattle.lit_dirs.specs.declared.fault.DiscoverFault.TheVariants.{Missing}
 use Rattle.lit_look.specs.declared.seen.Looked.{Looked}
 use Rattle.lit_look.specs.Seen.{AreSeen, Refuses}
-use Rattle.lit_look.specs.Suites.{GoesUp, IsAbove, nearest}
+use Rattle.lit_look.specs.Looks.{HasNoSuite, IsRefusedUp}
+use Rattle.lit_look.specs.Suites.{looked_up, nearest}
 use Rattle.lit_find.specs.Discovery.{IsLookedAt, IsWalked, start_of}
 use Rattle.lit_find.specs.Places.{IsBefore}
 
@@ -40,34 +42,24 @@ IsMissing nodes word fault =
     (kind_of nodes word ≢ Some Dir) × ((kind_of nodes word ≢ Some File) ⊎ (word ≡ []))
     × (fault ≡ Missing (text_of word))
 
--- a directory that is looked at on the way up is refused, behind those below it
-abbrev pub IsRefusedUp : List Node → List Parts → Parts → DiscoverFault → Type 0
-IsRefusedUp nodes earlier word fault =
-    (dir : Parts) × GoesUp nodes (start_of nodes word) dir
-    × Refuses nodes (λ one. IsLookedAt nodes earlier one ⊎ (GoesUp nodes (start_of nodes word) one
-    × IsAbove dir one)) dir fault
-
--- nothing on the way up is refused, and there is no suite
-abbrev pub HasNoSuite : List Node → List Parts → Parts → DiscoverFault → Type 0
-HasNoSuite nodes earlier word fault =
-    (seen : List Looked)
-    × AreSeen nodes (λ one. IsLookedAt nodes earlier one ⊎ GoesUp nodes (start_of nodes word) one) seen
-    × (nearest nodes (start_of nodes word) ≡ None) × (fault ≡ NoSuite (text_of word))
+-- the directories of earlier words, and those up to the suite of a further one
+abbrev pub IsDue : List Node → List Parts → Parts → Parts → Type 0
+IsDue nodes earlier start one = IsLookedAt nodes earlier one ⊎ Contains (looked_up nodes start) one
 
 -- a directory of the walk is refused, behind those before it
-abbrev pub IsRefusedDown : List Node → List Parts → Parts → DiscoverFault → Type 0
-IsRefusedDown nodes earlier word fault =
-    (dir : Parts) × (kind_of nodes word ≡ Some Dir) × (nearest nodes word ≢ None) × IsWalked nodes word dir
-    × Refuses nodes (λ one.
-    IsLookedAt nodes earlier one ⊎ GoesUp nodes word one ⊎ (IsWalked nodes word one × IsBefore one dir)) dir fault
+abbrev pub IsRefusedDown : List Node → (Parts → Type 0) → Parts → DiscoverFault → Type 0
+IsRefusedDown nodes Before word fault =
+    (dir : Parts) × IsWalked nodes word dir
+    × Refuses nodes (λ one. Before one ⊎ (IsWalked nodes word one × IsBefore one dir)) dir fault
 
--- a word is refused, behind others
+-- Nothing stands there; or there is no suite, or a directory is refused: first one that is looked at for its suite.
 abbrev pub RefusesWord : List Node → List Parts → Parts → DiscoverFault → Type 0
 RefusesWord nodes earlier word fault =
     IsMissing nodes word fault
     ⊎ (Stands nodes word
-    × (IsRefusedUp nodes earlier word fault ⊎ HasNoSuite nodes earlier word fault
-    ⊎ IsRefusedDown nodes earlier word fault))
+    × (((seen : List Looked) × HasNoSuite nodes (IsLookedAt nodes earlier) (start_of nodes word) word seen fault)
+    ⊎ IsRefusedUp nodes (IsLookedAt nodes earlier) (start_of nodes word) fault
+    ⊎ ((nearest nodes word ≢ None) × IsRefusedDown nodes (IsDue nodes earlier word) word fault)))
 
 -- the first of the words that is refused, and its refusal
 pub record IsRefused (nodes : List Node) (words : List Parts) (fault : DiscoverFault) : Type 0 where

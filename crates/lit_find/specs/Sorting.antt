@@ -42,19 +42,27 @@ is_kept suite dir item =
     not (is_passed suite item.name)
     && (is_file item.kind && (has_suffix suite (text_in dir item) && is_part item.name))
 
+-- what a step makes of something, at each item that passes a test
+abbrev pub with_each : {A B : Type 0} → (A → Bool) → (A → B → B) → List A → B → B
+with_each test step [] from = from
+with_each test step (item ∷ items) from = with_each test step items (if test item then step item from else from)
+
 -- the directories that are to be walked through, with an item and with some
+abbrev pub put_place : SuiteRoot → Parts → Item → List Place → List Place
+put_place root dir item = put path_order (place_of root dir item)
+
 abbrev pub with_dir : SuiteRoot → Parts → Item → List Place → List Place
-with_dir root dir item places =
-    if is_entered root.suite item then put path_order (place_of root dir item) places else places
+with_dir root dir item places = if is_entered root.suite item then put_place root dir item places else places
 
 abbrev pub with_dirs : SuiteRoot → Parts → List Item → List Place → List Place
-with_dirs root dir [] places = places
-with_dirs root dir (item ∷ items) places = with_dirs root dir items (with_dir root dir item places)
+with_dirs root dir = with_each (is_entered root.suite) (put_place root dir)
 
 -- the files that are tests, with an item and with some
+abbrev pub put_file : SuiteRoot → Parts → Item → List TestFile → List TestFile
+put_file root dir item files = files ++ file_of root dir item ∷ []
+
 abbrev pub with_file : SuiteRoot → Parts → Item → List TestFile → List TestFile
-with_file root dir item files = if is_kept root.suite dir item then files ++ file_of root dir item ∷ [] else files
+with_file root dir item files = if is_kept root.suite dir item then put_file root dir item files else files
 
 abbrev pub with_files : SuiteRoot → Parts → List Item → List TestFile → List TestFile
-with_files root dir [] files = files
-with_files root dir (item ∷ items) files = with_files root dir items (with_file root dir item files)
+with_files root dir = with_each (is_kept root.suite dir) (put_file root dir)

@@ -13,14 +13,14 @@ use Rattle.lit_dirs.specs.Looks.{kind_of}
 use Rattle.lit_dirs.specs.Suites.{suite_at}
 use Rattle.lit_dirs.specs.declared.fault.DiscoverFault.{DiscoverFault}
 use Rattle.lit_look.specs.Looks.{IsNumberOf}
-use Rattle.lit_look.specs.Seen.{AreLooks, AreSeen, Has, Refuses, count_items}
+use Rattle.lit_look.specs.Seen.{AreLooks, AreSeen, Has}
 use Rattle.lit_look.specs.Suites.{nearest, or_else, rooted, rooted_at}
 use Rattle.lit_look.specs.Trees.{Gives, Told}
 use Rattle.lit_look.specs.declared.root.SuiteRoot.{SuiteRoot}
 use Rattle.lit_look.specs.declared.seen.Looked.{Looked}
-use Rattle.lit_find.specs.Discovery.{IsLookedAt, IsTest, IsWalked, has_suffix, is_passed}
+use Rattle.lit_find.specs.Discovery.{IsDirIn, IsLookedAt, IsTest, IsTestIn, IsWalked}
 use Rattle.lit_find.specs.Places.{IsBefore}
-use Rattle.lit_find.specs.Refusals.{HasPlace, IsRefused, RefusesWord}
+use Rattle.lit_find.specs.Refusals.{HasPlace, IsRefused, IsRefusedDown, RefusesWord}
 use Rattle.lit_find.specs.Sorting.{with_dirs, with_files}
 use Rattle.lit_find.specs.declared.place.TestFile.{TestFile}
 use Rattle.lit_find.specs.declared.place.Place.{Place}
@@ -61,29 +61,16 @@ pub record Enters (looked : Looked) (number : ℕ) (known : SuiteRoot) (old new 
 
 -- ---- how long a walk may take
 
--- how many items the directories list that were not walked through, from this number on
-abbrev pub idle : (ℕ → Bool) → ℕ → List Looked → ℕ
-idle was number [] = 0
-idle was number (looked ∷ seen) = (if was number then 0 else length looked.items) + idle was (number + 1) seen
+-- how many items the directories list that were walked through, from this number on
+abbrev pub spent : (ℕ → Bool) → ℕ → List Looked → ℕ
+spent was number [] = 0
+spent was number (looked ∷ seen) = (if was number then length looked.items else 0) + spent was (number + 1) seen
 
 -- how many further directories are walked through at most
 abbrev pub room : List Looked → Walk → ℕ
-room seen walk = length walk.pending + idle (was_walked walk) 0 seen + (1000000 - count_items seen)
+room seen walk = length walk.pending + (1000000 - spent (was_walked walk) 0 seen)
 
 -- ---- what holds between two directories
-
--- a name that a directory lists is walked through
-pub record IsDirIn (nodes : List Node) (dir : Parts) (part : List ℕ) : Type 0 where
-  pub named : is_part part ≡ true
-  pub kind : kind_of nodes (dir ++ part ∷ []) ≡ Some Dir
-  pub kept : is_passed (nearest nodes dir) part ≡ false
-
--- a name that a directory lists is a test
-pub record IsTestIn (nodes : List Node) (dir : Parts) (part : List ℕ) : Type 0 where
-  pub named : is_part part ≡ true
-  pub kind : kind_of nodes (dir ++ part ∷ []) ≡ Some File
-  pub kept : is_passed (nearest nodes dir) part ≡ false
-  pub suffix : has_suffix (nearest nodes dir) (text_of (dir ++ part ∷ [])) ≡ true
 
 -- a directory that is to be walked through, with the suite of the one that it stands in
 pub record IsUnder (nodes : List Node) (place : Place) : Type 0 where
@@ -127,23 +114,25 @@ pub record IsWalk (nodes : List Node) (words : List Parts) (word : Parts) (first
 abbrev pub with_first : Place → Walk → Walk
 with_first place walk = record { found = walk.found; walked = walk.walked; pending = place ∷ walk.pending }
 
--- what one directory of a walk gives
-abbrev pub GivesVisit : {A : Type 0} → List Node → List Parts → Parts → Parts → List Looked → List Looked → List Looked
-    → Walk → Result A DiscoverFault → Type 0
-GivesVisit nodes words word dir first old new walk =
-    Gives (λ done. IsWalk nodes words word first new walk) (Refuses nodes (Has old) dir)
-
--- a directory of a walk is refused, behind those before it
-abbrev pub IsRefusedIn : List Node → Parts → List Looked → DiscoverFault → Type 0
-IsRefusedIn nodes word first fault =
-    (dir : Parts) × IsWalked nodes word dir
-    × Refuses nodes (λ one. Has first one ⊎ (IsWalked nodes word one × IsBefore one dir)) dir fault
-
--- What a walk gives: all directories below the word were walked through; or one is refused.
+-- what a walk gives, behind one directory or all: that; or one is refused
 abbrev pub GivesWalk : {A : Type 0} → List Node → List Parts → Parts → List Looked → List Looked → Walk
     → Result A DiscoverFault → Type 0
 GivesWalk nodes words word first new walk =
-    Gives (λ done. IsWalk nodes words word first new walk × (walk.pending ≡ [])) (IsRefusedIn nodes word first)
+    Gives (λ done. IsWalk nodes words word first new walk) (IsRefusedDown nodes (Has first) word)
+
+-- a walk goes on from what some words and the walk so far give
+abbrev pub GoesOn : {A : Type 0} → Option (List Node) → List Looked → List Looked → Walk → Walk → Result A DiscoverFault
+    → Type 0
+GoesOn told old new before after result =
+    (nodes : List Node) (words : List Parts) (word : Parts) (first : List Looked) → told ≡ Some nodes
+    → IsWalk nodes words word first old before → GivesWalk nodes words word first new after result
+
+-- one directory of it is next
+abbrev pub GoesThrough : {A : Type 0} → Option (List Node) → Place → List Looked → List Looked → Walk → Walk
+    → Result A DiscoverFault → Type 0
+GoesThrough told place old new before after result =
+    All (λ other. IsBefore place.path other.path) before.pending
+    → GoesOn told old new (with_first place before) after result
 
 -- ---- what holds between two words
 
@@ -153,15 +142,6 @@ pub record IsCovered (nodes : List Node) (words : List Parts) (seen : List Looke
   pub done : walk.pending ≡ []
   pub places : All (HasPlace nodes) words
   pub all : AreSeen nodes (IsLookedAt nodes words) seen
-
--- the same behind a look at one more word, which is a directory
-pub record IsCoveredBut (nodes : List Node) (words : List Parts) (word : Parts) (seen : List Looked) (walk : Walk)
-    : Type 0 where
-  pub state : IsState nodes words seen walk
-  pub done : walk.pending ≡ []
-  pub places : All (HasPlace nodes) words
-  pub all : AreSeen nodes (λ one. IsLookedAt nodes words one ⊎ (one ≡ word)) seen
-  pub is_dir : kind_of nodes word ≡ Some Dir
 
 -- what one more word gives: all that it makes is found; or it is refused
 abbrev pub GivesWord : {A : Type 0} → List Node → List Parts → Parts → List Looked → Walk → Result A DiscoverFault
@@ -173,10 +153,29 @@ GivesWord nodes words word seen walk =
 abbrev pub GivesWords : {A : Type 0} → List Node → List Parts → List Looked → Walk → Result A DiscoverFault → Type 0
 GivesWords nodes words seen walk = Gives (λ done. IsCovered nodes words seen walk) (IsRefused nodes words)
 
+-- words, a further one, and one that is a file, where the tree tells what stands in it
+abbrev pub AddsWords : {A : Type 0} → Option (List Node) → List Parts → List Looked → List Looked → Walk → Walk
+    → Result A DiscoverFault → Type 0
+AddsWords told words old new before after result =
+    (nodes : List Node) → told ≡ Some nodes → are_nested nodes ≡ true → IsCovered nodes [] old before
+    → GivesWords nodes words new after result
+
+abbrev pub AddsWord : {A : Type 0} → Option (List Node) → Parts → List Looked → List Looked → Walk → Walk
+    → Result A DiscoverFault → Type 0
+AddsWord told word old new before after result =
+    (nodes : List Node) (words : List Parts) → told ≡ Some nodes → are_nested nodes ≡ true
+    → IsCovered nodes words old before → GivesWord nodes words word new after result
+
+abbrev pub AddsFile : {A : Type 0} → Option (List Node) → Parts → List Looked → List Looked → Walk → Walk
+    → Result A DiscoverFault → Type 0
+AddsFile told word old new before after result =
+    (nodes : List Node) (words : List Parts) → told ≡ Some nodes → are_nested nodes ≡ true
+    → IsCovered nodes words old before → kind_of nodes word ≡ Some File → GivesWord nodes words word new after result
+
 -- what all words of a discovery give, where the tree tells what stands in it
 abbrev pub Walks : Option (List Node) → List ℕ → List (List ℕ) → Result (List TestFile) DiscoverFault → Type 0
 Walks None base texts result = ⊤
 Walks (Some nodes) base texts (Ok found) =
-    (are_nested nodes ≡ true) × ((seen : List Looked) × (walk : Walk)
-    × IsCovered nodes (map (joined (parts_of base)) texts) seen walk × (walk.found ≡ found))
+    (seen : List Looked) × (walk : Walk) × IsCovered nodes (map (joined (parts_of base)) texts) seen walk
+    × (walk.found ≡ found)
 Walks (Some nodes) base texts (Err fault) = Told (IsRefused nodes (map (joined (parts_of base)) texts)) fault

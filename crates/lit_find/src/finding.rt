@@ -1,12 +1,11 @@
 //! Discovery.
-ghost use Rattle.std.specs.Prelude.{◌≡◌, ◌≤◌, [], IfOk, List, Some, length, map, true};
+ghost use Rattle.std.specs.Prelude.{◌≡◌, ◌≤◌, IfOk, length, map, true};
 ghost use Rattle.std.specs.List.{list_all};
 ghost use Rattle.lit_find.specs.Found.{Discovers};
-ghost use Rattle.lit_find.specs.Walk.{GivesWords, IsCovered, Walks};
+ghost use Rattle.lit_find.specs.Walk.{AddsWords, Walks};
 ghost use Rattle.lit_look.specs.Trees.{Leaves, fault_of};
 ghost use Rattle.lit_paths.specs.Paths.{joined};
-ghost use Rattle.tt_outside.specs.TreeMap.{are_nested, is_part};
-ghost use Rattle.tt_outside.specs.declared.tree.Node.{Node};
+ghost use Rattle.tt_outside.specs.TreeMap.{is_part};
 
 use crate::discovery::Discovery;
 use crate::found::Found;
@@ -34,9 +33,8 @@ fn add_words<T: Tree>(
     texts: &[Bytes],
 ) -> Result<(), DiscoverFault>
     requires parts { list_all is_part base.now ≡ true }
-    ensures gives { (nodes : List Node) → T.nodes tree.old ≡ Some nodes → are_nested nodes ≡ true
-        → IsCovered nodes [] seen.old walk.old
-        → GivesWords nodes (map (joined base.now) texts.now) seen.new walk.new result }
+    ensures gives { AddsWords (T.nodes tree.old) (map (joined base.now) texts.now) seen.old seen.new walk.old walk.new
+        result }
     ensures tree { Leaves T.nodes T.root T.faults T.steady tree.old tree.new (fault_of result) }
 {
     for text in texts {

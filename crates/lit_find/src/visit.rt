@@ -1,19 +1,16 @@
 //! The walk through directories.
-ghost use Rattle.std.specs.Prelude.{◌≡◌, ◌≤◌, ◌==◌, ℕ, if◌then◌else◌, All, IfErr, List, OnOk, Some, true};
+ghost use Rattle.std.specs.Prelude.{◌≡◌, ◌≤◌, ◌==◌, [], ℕ, if◌then◌else◌, IfErr, OnOk, true};
 ghost use Rattle.std.specs.List.{list_all};
 ghost use Rattle.std.specs.BTreeSet.{contains};
 ghost use Rattle.std.specs.Option.{unwrap_or};
 ghost use Rattle.std.specs.Ordering.{nat_cmp};
 ghost use Rattle.lit_dirs.specs.Looks.{IsGone};
-ghost use Rattle.lit_find.specs.Places.{IsBefore, IsInside};
-ghost use Rattle.lit_find.specs.Walk.{Enters, GivesVisit, GivesWalk, IsWalk, room, with_first};
-ghost use Rattle.lit_look.specs.declared.seen.Looked.{Looked};
+ghost use Rattle.lit_find.specs.Places.{IsInside};
+ghost use Rattle.lit_find.specs.Walk.{Enters, GoesOn, GoesThrough, room};
 ghost use Rattle.lit_look.specs.Seen.{HasRoot};
 ghost use Rattle.lit_look.specs.Suites.{LiesIn};
 ghost use Rattle.lit_look.specs.Trees.{Leaves, fault_of};
-ghost use Rattle.lit_paths.specs.Paths.{Parts};
-ghost use Rattle.tt_outside.specs.TreeMap.{are_nested, is_part};
-ghost use Rattle.tt_outside.specs.declared.tree.Node.{Node};
+ghost use Rattle.tt_outside.specs.TreeMap.{is_part};
 
 use crate::place::Place;
 use crate::sorting::{is_part, sort_items};
@@ -37,7 +34,7 @@ fn own_or<'a>(looked: &'a Looked, known: &'a SharedRoot) -> &'a SharedRoot
 }
 
 /// Marks a directory as walked through.
-#[tactic(auto, using(crate::proofs::WalkLemmas::same_number))]
+#[tactic(auto, using(crate::proofs::WordLemmas::same_number))]
 fn mark(walked: &mut BTreeSet<usize>, number: usize) -> Result<(), NoMemory>
     ensures { OnOk result ((other : ℕ) → contains nat_cmp walked.new other
         ≡ (if other == number then true else contains nat_cmp walked.old other)) }
@@ -90,10 +87,7 @@ fn visit<T: Tree>(
     place: Place,
 ) -> Result<(), DiscoverFault>
     requires { IsInside place }
-    ensures gives { (nodes : List Node) (words : List Parts) (word : Parts) (first : List Looked)
-        → T.nodes tree.old ≡ Some nodes → IsWalk nodes words word first seen.old (with_first place walk.old)
-        → All (λ other. IsBefore place.path other.path) walk.old.pending
-        → GivesVisit nodes words word place.path first seen.old seen.new walk.new result }
+    ensures gives { GoesThrough (T.nodes tree.old) place seen.old seen.new walk.old walk.new result }
     ensures gone { IfErr result (IsGone place.path) }
     ensures room { OnOk result (room seen.new walk.new ≤ room seen.old walk.old) }
     ensures tree { Leaves T.nodes T.root T.faults T.steady tree.old tree.new (fault_of result) }
@@ -122,10 +116,8 @@ pub(crate) fn walk_all<T: Tree>(
     seen: &mut Seen,
     walk: &mut Walk,
 ) -> Result<(), DiscoverFault>
-    ensures gives { (nodes : List Node) (words : List Parts) (word : Parts) (first : List Looked)
-        → T.nodes tree.old ≡ Some nodes → are_nested nodes ≡ true → list_all is_part word ≡ true
-        → IsWalk nodes words word first seen.old walk.old
-        → GivesWalk nodes words word first seen.new walk.new result }
+    ensures gives { GoesOn (T.nodes tree.old) seen.old seen.new walk.old walk.new result }
+    ensures done { OnOk result (walk.new.pending ≡ []) }
     ensures tree { Leaves T.nodes T.root T.faults T.steady tree.old tree.new (fault_of result) }
 {
     while let Some(place) = walk.pending.pop(alloc)? {

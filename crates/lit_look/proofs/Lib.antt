@@ -1,9 +1,8 @@
 pub mod ClimbLemmas
 pub mod DirLemmas
-pub mod EnterLemmas
 pub mod FaultLemmas
 pub mod IndexLemmas
+pub mod ListLemmas
 pub mod SeenLemmas
 pub mod SuiteLemmas
-pub mod UpLemmas
 pub mod TreeLemmas

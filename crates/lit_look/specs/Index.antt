@@ -1,6 +1,6 @@
 -- The directories that were looked at, with their numbers under their paths.
 -- Own rule.
-use Rattle.std.specs.Prelude.{◌≡◌, ℕ, ◌<◌, ◌≤◌, List, length, All, Option, Some, Vec, slice_index_or}
+use Rattle.std.specs.Prelude.{◌≡◌, ℕ, ◌≤◌, List, map, All, Option, Some, Vec, slice_get}
 use Rattle.std.specs.declared.alloc.Global.{Global}
 use Rattle.std.specs.BTreeMap.{is_at}
 use Rattle.std.specs.Cmp.Lexicographic.{slice_cmp}
@@ -14,15 +14,14 @@ use Rattle.lit_look.specs.declared.seen.Looked.{Looked}
 abbrev pub number_at : List (Vec ℕ Global × ℕ) → List ℕ → Option ℕ
 number_at numbers path = lookup (is_at (λ key. slice_cmp nat_cmp path key.items)) numbers
 
--- the directory of this number has this path
-abbrev pub IsAt : List Looked → ℕ → List ℕ → Type 0
-IsAt seen number path =
-    (number < length seen) × ((other : Looked) → text_of (slice_index_or seen number other).dir ≡ path)
+-- each text has its number, and there are no other numbers
+pub record AreNumbers (texts : List (List ℕ)) (numbers : List (Vec ℕ Global × ℕ)) : Type 0 where
+  pub right : (path : List ℕ) (number : ℕ) → number_at numbers path ≡ Some number → slice_get texts number ≡ Some path
+  pub whole : (path : List ℕ) (number : ℕ) → slice_get texts number ≡ Some path → number_at numbers path ≡ Some number
 
--- each directory has its number under its path, and there are no other numbers
+-- each directory has its number under its path
 pub record IsIndexed (seen : List Looked) (numbers : List (Vec ℕ Global × ℕ)) (items : ℕ) : Type 0 where
-  pub right : (path : List ℕ) (number : ℕ) → number_at numbers path ≡ Some number → IsAt seen number path
-  pub whole : (number : ℕ) (path : List ℕ) → IsAt seen number path → number_at numbers path ≡ Some number
+  pub numbered : AreNumbers (map (λ looked. text_of looked.dir) seen) numbers
   pub parts : All HasParts seen
   pub roots : All HasRoot seen
   pub count : items ≡ count_items seen

@@ -1,6 +1,7 @@
 -- What a look at a directory gives, and a look for its suite, where the tree tells what stands in it.
 -- Own rule: directories are looked at from the one whose suite is wanted upward, to the first with a suite file.
-use Rattle.std.specs.Prelude.{◌≡◌, ◌≢◌, ℕ, List, ◌++◌, Option, None, Some, Result, ◌⊎◌, slice_get}
+use Rattle.std.specs.Prelude.{◌≡◌, ◌≢◌, ℕ, List, ◌∷◌, ◌++◌, Option, None, Some, Result, ◌⊎◌, slice_get}
+use Rattle.std.specs.List.{Contains}
 use Rattle.tt_outside.specs.declared.tree.Node.{Node}
 use Rattle.tt_outside.specs.declared.tree.ItemKind.TheVariants.{Dir, File}
 use Rattle.lit_paths.specs.Paths.{Parts, text_of}
@@ -10,7 +11,7 @@ use Rattle.lit_dirs.specs.declared.fault.DiscoverFault.TheVariants.{Missing, NoS
 use Rattle.lit_look.specs.declared.root.SuiteRoot.{SuiteRoot}
 use Rattle.lit_look.specs.declared.seen.Looked.{Looked}
 use Rattle.lit_look.specs.Seen.{AreSeen, Has, Refuses}
-use Rattle.lit_look.specs.Suites.{GoesUp, IsAbove, nearest, rooted_at}
+use Rattle.lit_look.specs.Suites.{looked_up, nearest, rooted_at}
 use Rattle.lit_look.specs.Trees.{Gives}
 
 -- this is the number of a directory
@@ -42,7 +43,7 @@ abbrev pub GivesLook : List Node → Parts → List Looked → List Looked → R
 GivesLook nodes dir old new =
     Gives (WasLookedAt nodes dir old new) (λ fault. IsAbsent nodes dir fault ⊎ Refuses nodes (Has old) dir fault)
 
--- a directory was looked at, now or earlier; or it is refused
+-- a directory was looked at; or it is refused
 abbrev pub GivesDirLook : List Node → Parts → List Looked → List Looked → Result ℕ DiscoverFault → Type 0
 GivesDirLook nodes dir old new =
     Gives (λ number. AreSeen nodes (λ one. Has old one ⊎ (one ≡ dir)) new) (Refuses nodes (Has old) dir)
@@ -51,21 +52,33 @@ GivesDirLook nodes dir old new =
 
 -- all of them were looked at
 abbrev pub AreSeenUp : List Node → Parts → List Looked → List Looked → Type 0
-AreSeenUp nodes dir old new = AreSeen nodes (λ one. Has old one ⊎ GoesUp nodes dir one) new
+AreSeenUp nodes dir old new = AreSeen nodes (λ one. Has old one ⊎ Contains (looked_up nodes dir) one) new
 
--- none has a suite, and that is told
-abbrev pub HasNone : List Node → Parts → Parts → List Looked → List Looked → DiscoverFault → Type 0
-HasNone nodes dir word old new fault =
-    (fault ≡ NoSuite (text_of word)) × AreSeenUp nodes dir old new × (nearest nodes dir ≡ None)
+-- one of them is refused, behind those before it
+abbrev pub IsRefusedUp : List Node → (Parts → Type 0) → Parts → DiscoverFault → Type 0
+IsRefusedUp nodes Before dir fault =
+    (early : List Parts) × (one : Parts) × (later : List Parts) × (looked_up nodes dir ≡ early ++ one ∷ later)
+    × Refuses nodes (λ other. Before other ⊎ Contains early other) one fault
 
--- one of them is refused, behind those below it
-abbrev pub IsRefusedUp : List Node → Parts → List Looked → DiscoverFault → Type 0
-IsRefusedUp nodes dir old fault =
-    (one : Parts) × GoesUp nodes dir one
-    × Refuses nodes (λ other. Has old other ⊎ (GoesUp nodes dir other × IsAbove one other)) one fault
+-- nothing refuses one, and none has a suite, which is told of a word
+abbrev pub HasNoSuite : List Node → (Parts → Type 0) → Parts → Parts → List Looked → DiscoverFault → Type 0
+HasNoSuite nodes Before dir word seen fault =
+    AreSeen nodes (λ one. Before one ⊎ Contains (looked_up nodes dir) one) seen × (nearest nodes dir ≡ None)
+    × (fault ≡ NoSuite (text_of word))
 
--- the directories up to the nearest suite were looked at; or one of them is refused; or none has a suite
-abbrev pub GivesNearest : List Node → Parts → Parts → List Looked → List Looked → Result SuiteRoot DiscoverFault → Type 0
+-- the directories up to the nearest suite were looked at; or a file has the path
+abbrev pub IsNearest : List Node → Parts → List Looked → List Looked → Option SuiteRoot → Type 0
+IsNearest nodes dir old new (Some root) =
+    (kind_of nodes dir ≡ Some Dir) × AreSeenUp nodes dir old new × (nearest nodes dir ≡ Some (rooted_at root))
+IsNearest nodes dir old new None = (kind_of nodes dir ≡ Some File) × (new ≡ old)
+
+-- it is a directory, and none up to a suite has one, or one of them is refused
+abbrev pub IsRefusedFrom : List Node → Parts → Parts → List Looked → List Looked → DiscoverFault → Type 0
+IsRefusedFrom nodes dir word old new fault =
+    (kind_of nodes dir ≡ Some Dir)
+    × (HasNoSuite nodes (Has old) dir word new fault ⊎ IsRefusedUp nodes (Has old) dir fault)
+
+abbrev pub GivesNearest : List Node → Parts → Parts → List Looked → List Looked → Result (Option SuiteRoot) DiscoverFault
+    → Type 0
 GivesNearest nodes dir word old new =
-    Gives (λ root. AreSeenUp nodes dir old new × (nearest nodes dir ≡ Some (rooted_at root)))
-    (λ fault. HasNone nodes dir word old new fault ⊎ IsRefusedUp nodes dir old fault)
+    Gives (IsNearest nodes dir old new) (λ fault. IsAbsent nodes dir fault ⊎ IsRefusedFrom nodes dir word old new fault)

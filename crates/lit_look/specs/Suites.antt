@@ -1,6 +1,6 @@
 -- The suite of a directory.
 -- Own rule: a directory's suite is the one at it, or at the nearest directory above.
-use Rattle.std.specs.Prelude.{◌≡◌, ◌≢◌, ℕ, true, List, [], ◌∷◌, ◌++◌, Option, None, Some, Result, Ok, Err, map, reverse}
+use Rattle.std.specs.Prelude.{◌≡◌, true, List, [], ◌∷◌, ◌++◌, Option, None, Some, Result, Ok, Err, map, reverse}
 use Rattle.std.specs.List.{list_all}
 use Rattle.tt_outside.specs.TreeMap.{is_part}
 use Rattle.lit_paths.specs.Paths.{Parts}
@@ -42,23 +42,26 @@ abbrev pub first_suite : List Node → List Parts → Option Rooted
 first_suite nodes [] = None
 first_suite nodes (dir ∷ dirs) = or_else (rooted dir (suite_at nodes dir)) (first_suite nodes dirs)
 
+-- of these directories, those up to the first that has a suite file
+abbrev pub if_none : Option (Result Suite SuiteFault) → List Parts → List Parts
+if_none None dirs = dirs
+if_none (Some read) dirs = []
+
+abbrev pub up_to_suite : List Node → List Parts → List Parts
+up_to_suite nodes [] = []
+up_to_suite nodes (dir ∷ dirs) = dir ∷ if_none (suite_at nodes dir) (up_to_suite nodes dirs)
+
+-- the directories that are looked at for the suite of one, in their order: itself and those above it, up to one that has
+-- a suite
+abbrev pub looked_up : List Node → Parts → List Parts
+looked_up nodes dir = up_to_suite nodes (upward dir)
+
 -- the suite of the files in a directory
 abbrev pub nearest : List Node → Parts → Option Rooted
 nearest nodes dir = first_suite nodes (upward dir)
-
--- a directory lies above another
-abbrev pub IsAbove : Parts → Parts → Type 0
-IsAbove one dir = (part : List ℕ) × (rest : Parts) × (dir ≡ one ++ part ∷ rest)
 
 -- a path made of parts is a directory, or lies below it
 pub record LiesIn (dir path : Parts) : Type 0 where
   pub rest : Parts
   pub is : path ≡ dir ++ rest
   pub parts : list_all is_part path ≡ true
-
--- A directory is the one to start from or lies above it, and none from there to just below it has a suite: so it is
--- looked at for the suite of that one.
-abbrev pub GoesUp : List Node → Parts → Parts → Type 0
-GoesUp nodes start dir =
-    (below : Parts) × (start ≡ dir ++ below)
-    × ((one rest : Parts) → below ≡ one ++ rest → one ≢ [] → suite_at nodes (dir ++ one) ≡ None)

@@ -2,12 +2,11 @@
 ghost use Rattle.std.specs.Prelude.{◌≡◌, IfErr, IfOk, IfSome, List, true};
 ghost use Rattle.std.specs.List.{list_all};
 ghost use Rattle.lit_suite.specs.Whole.{IsWhole};
-ghost use Rattle.lit_dirs.specs.Looks.{IsGone, kind_of};
+ghost use Rattle.lit_dirs.specs.Looks.{IsGone};
 ghost use Rattle.lit_paths.specs.Paths.{text_of};
 ghost use Rattle.lit_look.specs.Looks.{Extends, GivesDirLook, GivesLook, IsNumberOf};
 ghost use Rattle.lit_look.specs.Seen.{AreLooks, Has, Roots};
 ghost use Rattle.lit_look.specs.Trees.{Leaves, fault_of};
-ghost use Rattle.tt_outside.specs.declared.tree.ItemKind.TheVariants.{Dir};
 ghost use Rattle.tt_outside.specs.declared.tree.Node.{Node};
 ghost use Rattle.tt_outside.specs.TreeMap.{Lists, is_part};
 
@@ -97,27 +96,6 @@ pub fn look<T: Tree>(
             Err(fault) => Err(fault),
         },
         Ok(None) => Ok(None),
-        Err(fault) => Err(fault),
-    }
-}
-
-/// Looks at a directory, if it wasn't looked at, and gives its number. A file that stands there has taken its place.
-pub(crate) fn look_at_dir<T: Tree>(
-    alloc: Global,
-    tree: &mut T,
-    seen: &mut Seen,
-    dir: &[Bytes],
-) -> Result<usize, DiscoverFault>
-    requires parts { list_all is_part dir.now ≡ true }
-    ensures gives { (nodes : List Node) → T.nodes tree.old ≡ Some nodes → AreLooks nodes seen.old
-        → kind_of nodes dir.now ≡ Some Dir → GivesDirLook nodes dir.now seen.old seen.new result }
-    ensures number { IfOk result (IsNumberOf seen.new dir.now) }
-    ensures extends { Extends seen.old seen.new }
-    ensures tree { Leaves T.nodes T.root T.faults T.steady tree.old tree.new (fault_of result) }
-{
-    match look(alloc, tree, seen, dir) {
-        Ok(Some(number)) => Ok(number),
-        Ok(None) => Err(DiscoverFault::Missing(text_of(alloc, dir)?)),
         Err(fault) => Err(fault),
     }
 }

@@ -1,17 +1,15 @@
 //! The nearest suite of a directory.
 ghost use Rattle.std.specs.Prelude.{◌≡◌, ◌<◌, IfOk, IfSome, List, Some, length, slice_get, true};
 ghost use Rattle.std.specs.List.{list_all};
-ghost use Rattle.lit_dirs.specs.Looks.{kind_of};
 ghost use Rattle.lit_look.specs.Looks.{Extends, GivesNearest, IsNumberOf, suite_of};
 ghost use Rattle.lit_look.specs.Seen.{AreLooks};
 ghost use Rattle.lit_look.specs.Suites.{LiesIn};
 ghost use Rattle.lit_look.specs.Trees.{Leaves, fault_of};
 ghost use Rattle.lit_paths.specs.Paths.{Parts};
-ghost use Rattle.tt_outside.specs.declared.tree.ItemKind.TheVariants.{Dir};
 ghost use Rattle.tt_outside.specs.declared.tree.Node.{Node};
 ghost use Rattle.tt_outside.specs.TreeMap.{are_nested, is_part};
 
-use crate::looking::look_at_dir;
+use crate::looking::look;
 use crate::root::SharedRoot;
 use crate::seen::Seen;
 use lit_dirs::DiscoverFault;
@@ -33,31 +31,37 @@ fn suite_of(seen: &Seen, number: usize) -> Result<Option<SharedRoot>, NoMemory>
     }
 }
 
-/// The suite of the nearest directory that has one, from a directory upward. `word` is the path that is told where
-/// there is none.
+/// The suite of the nearest directory that has one, from a directory upward; none, where a file has the path. `word` is
+/// the path that is told where there is no suite.
 pub fn nearest<T: Tree>(
     alloc: Global,
     tree: &mut T,
     seen: &mut Seen,
     dir: &[Bytes],
     word: &[Bytes],
-) -> Result<SharedRoot, DiscoverFault>
+) -> Result<Option<SharedRoot>, DiscoverFault>
     requires parts { list_all is_part dir.now ≡ true }
     ensures gives { (nodes : List Node) → T.nodes tree.old ≡ Some nodes → AreLooks nodes seen.old
-        → are_nested nodes ≡ true → kind_of nodes dir.now ≡ Some Dir
-        → GivesNearest nodes dir.now word.now seen.old seen.new result }
-    ensures above { IfOk result (λ root. LiesIn root.dir dir.now) }
+        → are_nested nodes ≡ true → GivesNearest nodes dir.now word.now seen.old seen.new result }
+    ensures above { IfOk result (λ found. IfSome found (λ root. LiesIn root.dir dir.now)) }
     ensures extends { Extends seen.old seen.new }
     ensures tree { Leaves T.nodes T.root T.faults T.steady tree.old tree.new (fault_of result) }
 {
     let mut at = dir;
     loop {
-        let number = match look_at_dir(alloc, tree, seen, at) {
-            Ok(number) => number,
+        let number = match look(alloc, tree, seen, at) {
+            Ok(Some(number)) => number,
+            Ok(None) => {
+                if at.len() == dir.len() {
+                    return Ok(None);
+                }
+                // A file has taken the directory's place.
+                return Err(DiscoverFault::Missing(text_of(alloc, at)?));
+            }
             Err(fault) => return Err(fault),
         };
         if let Some(root) = suite_of(seen, number)? {
-            return Ok(root);
+            return Ok(Some(root));
         }
         match at.split_last() {
             Some((_, above)) => at = above,

@@ -1,5 +1,6 @@
--- A call that ends with 0 or 1 and shows no names ran the tests that the tree and the words tell; so two of them ran the same, and what
--- is known of runs holds of them.
+-- Calls that ask for the same, but for the number of workers, end alike where each test is reported.
+-- Idea: a call that ends with 0 or 1 and shows no names ran the tests that the tree and the words tell; so two of them ran the same,
+-- and what is known of runs holds of them. The hard one is `ran_call`.
 use Rattle.std.proofs.Common.{◌≡◌, ℕ, ◌≤◌, false, List, map, Some, Result, Ok, Err, sym, ap, ◌∙◌, subst, arith, inl, inr}
 use Rattle.tt_outside.specs.declared.test_data.Test.{Test}
 use Rattle.tt_outside.specs.declared.tree.Node.{Node}

@@ -1,4 +1,6 @@
--- Lists that rise strictly by a key and have the same items are equal; and so a tree and words have one list of tests.
+-- A tree and words have one list of tests.
+-- Idea: lists that rise strictly by a key and have the same items are equal, and a file of a tree has one test.
+-- The hard one is `same_lists`.
 use Rattle.std.proofs.Common.{◌≡◌, ◌⊎◌, ℕ, zero, suc, ◌<◌, List, [], ◌∷◌, ◌++◌, length, map, get_or, refl, sym, ap, ◌∙◌, subst, arith, inl, inr, Ordering, Less}
 use Rattle.std.proofs.lemmas.Cmp.{nat_list_cmp_total}
 use Rattle.std.proofs.lemmas.List.Elements.{recursion_from_All}

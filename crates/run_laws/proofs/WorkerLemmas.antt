@@ -1,5 +1,6 @@
--- A run that ends with 0 or 1 reported every test. A steady crew leaves one list of trials for these, which tells the report, the status
--- and what its hands did; and a run that stops has trials of the first tests.
+-- Runs of the same tests by any numbers of workers: that report each test they end alike, and one that stops has the first trials.
+-- Idea: a run that ends with 0 or 1 reported every test, and a steady crew leaves one list of trials for these, which tells the
+-- report, the status and what its hands did. The hard one is `ends_alike`.
 use Rattle.std.proofs.Common.{◌≡◌, ℕ, ◌≤◌, List, [], ◌++◌, map, take, drop, length, Option, sym, ap, ◌∙◌, subst, arith, inl, inr}
 use Rattle.std.proofs.lemmas.List.{append-nil, take-append-drop}
 use Rattle.std.proofs.Math.Seq.{take-append_seam}

@@ -18,16 +18,13 @@ returns-in-Ok-clause-walk g c =
     let walk : Walk = record { found = c.new.result; walked = c.new-2.result; pending = c.new-3.result } in
     let begun = nothing_yet nodes walk (λ number. ap (list_any (is_at (nat_cmp number))) c.new-2.ensures.empty)
     c.new-3.ensures c.new.ensures in (
-      nested,
-      (
-        c.add_words.new.seen,
-        c.add_words.new.walk,
-        subst (λ base. IsCovered nodes (map (joined base) c.args.paths.now) c.add_words.new.seen c.add_words.new.walk)
-            (c.as_slice.ensures ∙ c.in_ok-base.ensures.path)
-            (c.in-Ok.ensures.gives nodes told nested
-            (subst (λ seen. IsCovered nodes [] seen walk) (sym c.new-seen.ensures) begun)),
-        refl,
-      ),
+      c.add_words.new.seen,
+      c.add_words.new.walk,
+      subst (λ base. IsCovered nodes (map (joined base) c.args.paths.now) c.add_words.new.seen c.add_words.new.walk)
+          (c.as_slice.ensures ∙ c.in_ok-base.ensures.path)
+          (c.in-Ok.ensures.gives nodes told nested
+          (subst (λ seen. IsCovered nodes [] seen walk) (sym c.new-seen.ensures) begun)),
+      refl,
     ))
 
 pub returns-clause-walk : goal.returns-clause-walk

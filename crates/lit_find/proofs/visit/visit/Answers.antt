@@ -8,17 +8,17 @@ use Rattle.lit_dirs.specs.Looks.{kind_of}
 use Rattle.lit_look.specs.Looks.{GivesLook, IsNumberOf}
 use Rattle.lit_look.specs.Seen.{AreSeen, Has}
 use Rattle.lit_find.proofs.RoomLemmas.{room_entered, room_longer}
-use Rattle.lit_find.proofs.SeenLemmas.{dir_at}
+use Rattle.lit_find.proofs.StateLemmas.{dir_at}
 use Rattle.lit_find.proofs.VisitLemmas.{is_dir, its_parts, visit_refused, visited}
 use Rattle.lit_find.proofs.visit.visit.Goals as goal
 
 pub returns-then-not-are_parts-clause-gives : goal.returns-then-not-are_parts-clause-gives
-returns-then-not-are_parts-clause-gives g c = λ nodes words word first told is least.
+returns-then-not-are_parts-clause-gives g c = λ least nodes words word first told is.
     absurd (true≢false (sym (its_parts nodes words word first c.args.seen.now c.args.place c.args.walk.now is)
     ∙ ap (list_all is_part) (sym c.as_slice-dir.ensures) ∙ sym c.are_parts.ensures ∙ c.if-not-are_parts.true))
 
 pub returns-in-Ok-clause-gives : goal.returns-in-Ok-clause-gives
-returns-in-Ok-clause-gives g c = λ nodes words word first told is least.
+returns-in-Ok-clause-gives g c = λ least nodes words word first told is.
     let seen = c.look.new.seen in
     let number = c.in-Ok-Some.number in
     let its = subst (λ dir. IsNumberOf seen dir number) c.as_slice-dir.ensures
@@ -34,13 +34,12 @@ returns-in-Ok-clause-gives g c = λ nodes words word first told is least.
 pub returns-in-Ok-clause-room : goal.returns-in-Ok-clause-room
 returns-in-Ok-clause-room g c =
     let entered = room_entered c.look.new.seen c.at.result.now c.in-Ok-Some.number c.args.place.suite c.args.walk.now
-    c.enter.new.walk c.at.ensures.is c.in-Ok.ensures in
-    let longer = room_longer c.args.seen.now c.look.new.seen c.args.walk.now c.in-Ok-Some.ensures.extends
-    c.at.ensures.within in
+    c.enter.new.walk c.at.ensures.is c.at.ensures.within c.in-Ok.ensures in
+    let longer = room_longer c.args.seen.now c.look.new.seen c.args.walk.now c.in-Ok-Some.ensures.extends in
     omega arith
 
 pub returns-in-Ok-None-clause-gives : goal.returns-in-Ok-None-clause-gives
-returns-in-Ok-None-clause-gives g c = λ nodes words word first told is least.
+returns-in-Ok-None-clause-gives g c = λ least nodes words word first told is.
     let file = (subst (λ found. GivesLook nodes c.as_slice-dir.result.now c.args.seen.now c.look.new.seen (Ok found))
     c.in-Ok-None.field-0-is (c.in-Ok-None.ensures.gives nodes told is.state.looks)).0 in
     let both : Some Dir ≡ Some File =
@@ -49,8 +48,8 @@ returns-in-Ok-None-clause-gives g c = λ nodes words word first told is least.
     absurd (cc)
 
 pub returns-clause-gives : goal.returns-clause-gives
-returns-clause-gives g c = λ nodes words word first told is least.
+returns-clause-gives g c = λ least nodes words word first told is.
     visit_refused nodes words word first c.args.seen.now c.look.new.seen c.args.place c.args.walk.now c.args.walk.now
-    c.in-Err.fault is
+    c.in-Err.fault is least
     (subst (λ dir. GivesLook nodes dir c.args.seen.now c.look.new.seen (Err c.in-Err.fault)) c.as_slice-dir.ensures
     (c.in-Err.ensures.gives nodes told is.state.looks))

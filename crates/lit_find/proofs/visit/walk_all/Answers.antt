@@ -7,7 +7,6 @@ use Rattle.lit_find.specs.Places.{IsBefore}
 use Rattle.lit_find.specs.Walk.{IsWalk}
 use Rattle.lit_find.specs.declared.place.Place.{Place}
 use Rattle.lit_find.specs.declared.walk.Walk.{Walk}
-use Rattle.lit_find.proofs.VisitLemmas.{walk_refused}
 use Rattle.lit_find.proofs.visit.walk_all.Goals as goal
 
 -- a walk with what is before it written otherwise
@@ -28,31 +27,26 @@ loop-place-preserved g c =
     record {
       tree = leaves_on c.loop-place.invariant.tree c.in-Ok.ensures.tree;
       walk = λ nodes words word first told is.
-          c.in-Ok.ensures.gives nodes words word first (c.loop-place.invariant.tree.nodes ∙ told)
+          c.in-Ok.ensures.gives least nodes words word first (c.loop-place.invariant.tree.nodes ∙ told)
           (with_pending nodes words word first c.loop-place.seen walk _ first_is
-          (c.loop-place.invariant.walk nodes words word first told is)) least;
+          (c.loop-place.invariant.walk nodes words word first told is));
     }
 
 pub returns-in-Err-clause-gives : goal.returns-in-Err-clause-gives
-returns-in-Err-clause-gives g c = λ nodes words word first told nested parts is.
+returns-in-Err-clause-gives g c = λ nodes words word first told is.
     let walk = c.loop-place.walk in
     let first_is = subst (λ found. IfSome found (λ place. walk.pending ≡ place ∷ c.pop.new.self)) c.in-Some.is
     c.in_ok-place.ensures.first in
     let least = subst (λ found. IfSome found (λ place. All (λ other. IsBefore place.path other.path) c.pop.new.self))
     c.in-Some.is c.in_ok-place.ensures.least in
-    let before = with_pending nodes words word first c.loop-place.seen walk _ first_is
-    (c.loop-place.invariant.walk nodes words word first told is) in
-    walk_refused nodes words word first c.loop-place.seen c.visit.new.seen c.in-Some.place
-    (record { found = walk.found; walked = walk.walked; pending = c.pop.new.self }) c.visit.new.walk c.in-Err.fault nested
-    parts before least
-    (c.in-Err.ensures.gives nodes words word first (c.loop-place.invariant.tree.nodes ∙ told) before least)
+    c.in-Err.ensures.gives least nodes words word first (c.loop-place.invariant.tree.nodes ∙ told)
+    (with_pending nodes words word first c.loop-place.seen walk _ first_is
+    (c.loop-place.invariant.walk nodes words word first told is))
 
 pub returns-clause-gives : goal.returns-clause-gives
-returns-clause-gives g c = λ nodes words word first told nested parts is.
+returns-clause-gives g c = λ nodes words word first told is.
     let walk = c.loop-place.walk in
     let none = subst (λ found. IfNone found (walk.pending ≡ [])) c.in_default.is c.in_ok-place.ensures.none in
-    let left = subst (λ found. IfNone found (c.pop.new.self ≡ [])) c.in_default.is c.in_ok-place.ensures.left in (
-      with_pending nodes words word first c.loop-place.seen walk _ (none ∙ sym left)
-          (c.loop-place.invariant.walk nodes words word first told is),
-      left,
-    )
+    let left = subst (λ found. IfNone found (c.pop.new.self ≡ [])) c.in_default.is c.in_ok-place.ensures.left in
+    with_pending nodes words word first c.loop-place.seen walk _ (none ∙ sym left)
+    (c.loop-place.invariant.walk nodes words word first told is)

@@ -1,6 +1,6 @@
 use Rattle.std.proofs.Common.{◌+◌, ◌≤◌, length, rules}
 use Rattle.lit_look.specs.Seen.{count_items}
-use Rattle.lit_look.proofs.EnterLemmas.{entered, last_number, suite_refuses}
+use Rattle.lit_look.proofs.SeenLemmas.{entered, last_number, suite_refuses}
 use Rattle.lit_look.proofs.looking.enter.Goals as goal
 
 pub returns-in-Err-clause-gives : goal.returns-in-Err-clause-gives
