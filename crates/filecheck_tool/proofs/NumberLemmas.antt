@@ -1,4 +1,6 @@
 -- Directives have the numbers of a check file, and so have faults.
+-- Shown: what is compiled, a body that is refused and what a scan tells are each of a directive of the file. Idea: there are as many
+-- bodies as numbers, and numbers go up one by one. The hard one is `compiled_of`.
 use Rattle.std.proofs.Common.{◌≡◌, ◌<◌, ℕ, ◌+◌, List, [], ◌∷◌, ◌++◌, All, Ok, length, length-append, map, ap, arith, refl, subst}
 use Rattle.std.proofs.lemmas.List.{length-map}
 use Rattle.std.proofs.lemmas.List.Elements.{All-contains, All-from_recursion, All-map, recursion_from_All}
