@@ -1,0 +1,3 @@
+pub mod EmptyLemmas
+pub mod FirstLemmas
+pub mod MadeLemmas

@@ -1,0 +1,103 @@
+//! Check files that are made from outputs. A row is a line with fields between `~`: an old check file, an output, a lead, and the check file
+//! that is due, or `bad lead`, `line N` or `large`.
+use crate::fields::field_of;
+use make_checks::{MakeFail, MakeFault, make_checks, refresh};
+use std::alloc::Global;
+use tt_base::{Bytes, NoMemory};
+
+/// What stands for an answer in a row.
+fn told_of(alloc: Global, made: Result<Bytes, MakeFail>) -> Result<Bytes, NoMemory> {
+    match made {
+        Ok(text) => Ok(text),
+        Err(MakeFail::Bad(MakeFault::BadLead)) => Bytes::from_slice(alloc, b"bad lead"),
+        Err(MakeFail::Bad(MakeFault::LineTooLong(number))) => {
+            let mut told = Bytes::from_slice(alloc, b"line ")?;
+            let Ok(digits) = number.to_string(alloc) else {
+                return Err(NoMemory);
+            };
+            told.append(digits.as_bytes())?;
+            Ok(told)
+        }
+        Err(MakeFail::Bad(MakeFault::TooLarge)) => Bytes::from_slice(alloc, b"large"),
+        Err(MakeFail::NoMemory) => Err(NoMemory),
+    }
+}
+
+/// Whether what is made is due.
+fn is_due(alloc: Global, row: &str) -> Result<bool, NoMemory> {
+    let mut fields = row.split('~');
+    let (Some(old), Some(output), Some(lead), Some(due)) = (
+        fields.next(),
+        fields.next(),
+        fields.next(),
+        fields.next(),
+    ) else {
+        return Ok(false);
+    };
+    let old = field_of(alloc, old)?;
+    let output = field_of(alloc, output)?;
+    let lead = field_of(alloc, lead)?;
+    if old.len() > 1 << 20 || output.len() > 1 << 20 {
+        return Ok(false);
+    }
+    let made = refresh(alloc, old.as_slice(), output.as_slice(), lead.as_slice());
+    Ok(told_of(alloc, made)?.as_slice() == field_of(alloc, due)?.as_slice())
+}
+
+const MADE: [&str; 22] = [
+    "~a [x]//b/~~CHECK-NOT: {{.|[[:space:]]}}/CHECK: {{^}}a {{\\[}}x]{{$}}/CHECK-EMPTY:/CHECK-NEXT: {{^}}b{{$}}/CHECK-NOT: {{.}}/",
+    "~~~CHECK-NOT: {{.}}/",
+    "~//%//~; ~; CHECK-NOT: {{.}}/",
+    "~  ~~CHECK-NOT: {{.|[[:space:]]}}/CHECK: {{^}} {{$}}/CHECK-NOT: {{.}}/",
+    "~k~; ~; CHECK-NOT: {{.|[[:space:]]}}/; CHECK: {{^}}k{{$}}/; CHECK-NOT: {{.}}/",
+    "~a  b%/~~CHECK-NOT: {{.|[[:space:]]}}/CHECK: {{^}}a b{{$}}/CHECK-NOT: {{.}}/",
+    "~a%~~CHECK-NOT: {{.|[[:space:]]}}/CHECK: {{^}}a%{{$}}/CHECK-NOT: {{.}}/",
+    "~/a~~CHECK-NOT: {{.|[[:space:]]}}/CHECK: {{^}}{{$}}/CHECK-NEXT: {{^}}a{{$}}/CHECK-NOT: {{.}}/",
+    "~{{[[~~CHECK-NOT: {{.|[[:space:]]}}/CHECK: {{^}}{{[{]}}{{[{]}}{{\\[}}{{\\[}}{{$}}/CHECK-NOT: {{.}}/",
+    "~a}}]]\\~~CHECK-NOT: {{.|[[:space:]]}}/CHECK: {{^}}a}}]]\\{{$}}/CHECK-NOT: {{.}}/",
+    "~k~a~bad lead",
+    "~k~Z ~bad lead",
+    "~k~9~bad lead",
+    "~k~-- ~bad lead",
+    "~k~_~bad lead",
+    "~k~;/~bad lead",
+    "~k~;%~bad lead",
+    "; RUN: p/; CHECK: z/~k~; ~; RUN: p/; CHECK-NOT: {{.|[[:space:]]}}/; CHECK: {{^}}k{{$}}/; CHECK-NOT: {{.}}/",
+    "//a%/CHECK-NEXT: b/c~~~//a%/c/CHECK-NOT: {{.}}/",
+    "COM: CHECK: x/CHECK-COUNT-0: a/CHECK-NOTE: b/MYCHECK: c/CHECK:/~~~COM: CHECK: x/CHECK-NOTE: b/MYCHECK: c/CHECK-NOT: {{.}}/",
+    "CHECK{  LITERAL   }: x/~~~CHECK-NOT: {{.}}/",
+    "/~~~/CHECK-NOT: {{.}}/",
+];
+
+#[test]
+fn check_files_are_made_from_outputs(rt: HostRuntime) -> Result<(), NoMemory> {
+    for row in MADE {
+        assert!(rt; is_due(rt.alloc(), row)?, "{row}");
+    }
+    Ok(())
+}
+
+/// What is made of a line with so many of a byte, behind another line.
+fn is_made_of(alloc: Global, count: usize, byte: u8, due: &str) -> Result<bool, NoMemory> {
+    let mut output = Bytes::from_slice(alloc, b"a\n")?;
+    for _ in 0..count {
+        output.append(&[byte])?;
+    }
+    if output.len() > 1 << 20 {
+        return Ok(false);
+    }
+    match make_checks(alloc, output.as_slice(), b"") {
+        Ok(text) => Ok(due == "made" && text.len() > count),
+        Err(fail) => Ok(told_of(alloc, Err(fail))?.as_slice() == due.as_bytes()),
+    }
+}
+
+#[test]
+fn the_first_line_too_long_is_told(rt: HostRuntime) -> Result<(), NoMemory> {
+    let alloc = rt.alloc();
+    assert!(rt; is_made_of(alloc, 65_526, b'a', "made")?);
+    assert!(rt; is_made_of(alloc, 65_527, b'a', "line 2")?);
+    assert!(rt; is_made_of(alloc, 10_921, b'[', "made")?);
+    assert!(rt; is_made_of(alloc, 10_922, b'[', "line 2")?);
+    Ok(())
+}

@@ -1,0 +1,6 @@
+pub mod AddLemmas
+pub mod KeptLemmas
+pub mod LineLemmas
+pub mod MadeLemmas
+pub mod QuoteLemmas
+pub mod TrimLemmas

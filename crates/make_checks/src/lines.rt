@@ -1,0 +1,71 @@
+//! The lines of a text, and those of an output that count.
+ghost use Rattle.std.specs.Prelude.{◌≡◌, ◌≤◌, ◌<◌, ◌^◌, ◌∷◌, [], IfSome, MatchOption, length};
+ghost use Rattle.std.specs.List.{position_from, slice_split};
+ghost use Rattle.std.specs.Option.{option_map_or};
+ghost use Rattle.tt_base.specs.Place.{is_newline};
+ghost use Rattle.make_checks.specs.Made.{is_too_long, trimmed};
+
+use crate::quoting::quoted_length;
+use memchr::memchr;
+use pattern_parse::MAX_BODY;
+
+/// How many bytes the two anchors of a body have.
+const ANCHORS: usize = 10;
+
+/// The first line of a text, and what stands behind its newline, if it has one.
+pub(crate) fn first_line(text: &[u8]) -> (&[u8], Option<&[u8]>)
+    ensures split { slice_split is_newline text.now
+        ≡ result.0.now ∷ option_map_or (λ rest. slice_split is_newline rest.now) result.1 [] }
+    ensures within { length result.0.now ≤ length text.now }
+    ensures rest { MatchOption result.1 (result.0.now ≡ text.now) (λ rest. length rest.now < length text.now) }
+{
+    match memchr(b'\n', text) {
+        Some(at) => (&text[..at], Some(&text[at + 1..])),
+        None => (text, None),
+    }
+}
+
+/// A text without the newlines at its end.
+#[tactic(auto, using(crate::proofs::TrimLemmas::trimmed_newline, crate::proofs::TrimLemmas::trimmed_other))]
+pub(crate) fn trimmed(text: &[u8]) -> &[u8]
+    ensures value { result.now ≡ trimmed text.now }
+    ensures within { length result.now ≤ length text.now }
+{
+    let mut rest = text;
+    while let Some((last, front)) = rest.split_last() {
+        if *last != b'\n' {
+            return rest;
+        }
+        rest = front;
+    }
+    rest
+}
+
+/// Whether the body of a line would be too long for a directive.
+#[tactic(auto, using(crate::proofs::QuoteLemmas::quote_small))]
+fn is_too_long(line: &[u8]) -> bool
+    requires { length line.now ≤ 2 ^ 30 }
+    ensures { result ≡ is_too_long line.now }
+{
+    quoted_length(line) + ANCHORS > MAX_BODY
+}
+
+/// The number of the first line whose body would be too long, from 1.
+pub(crate) fn long_line(text: &[u8]) -> Option<u32>
+    requires { length text.now ≤ 2 ^ 30 }
+    ensures { result ≡ position_from is_too_long 1 (slice_split is_newline text.now) }
+{
+    let mut number = 1;
+    let mut rest = text;
+    loop {
+        let (line, behind) = first_line(rest);
+        if is_too_long(line) {
+            return Some(number);
+        }
+        match behind {
+            None => return None,
+            Some(behind) => rest = behind,
+        }
+        number += 1;
+    }
+}
