@@ -13,7 +13,7 @@ front_alike : (strict : Bool) (byte : ℕ) (behind : List ℕ) → BeginsApart b
 front_alike strict byte [] apart = refl
 front_alike strict byte (next ∷ behind) apart = kept_alike strict byte next apart.0 apart.1
 
-if_append : (kept : Bool) (byte : ℕ) (front behind : List ℕ) → (if kept then byte ∷ (front ++ behind) else front ++ behind)
+pub if_append : (kept : Bool) (byte : ℕ) (front behind : List ℕ) → (if kept then byte ∷ (front ++ behind) else front ++ behind)
     ≡ (if kept then byte ∷ front else front) ++ behind
 if_append true byte front behind = refl
 if_append false byte front behind = refl

@@ -1,2 +1,3 @@
 pub mod CanonLemmas
+pub mod FormLemmas
 pub mod MarkLemmas
