@@ -2,7 +2,9 @@
 -- Shown: part by part, a text is a run that ends before `{{`, and the two bytes are expressions of their own.
 -- The hard one is `cut_parts`: a text of a line ends exactly where the next part begins.
 use Rattle.std.proofs.Common.{◌≡◌, codes, ℕ, ◌+◌, ◌==◌, Bool, true, false, true≢false, arith, ◌&&◌, not, if◌then◌else◌, List, [], ◌∷◌, ◌++◌, length, map, Option, Ok, refl, sym, ap, ◌∙◌, subst, append_assoc}
+use Rattle.std.proofs.lemmas.Bool.{and_left, or_parts}
 use Rattle.std.proofs.lemmas.Bool.Decides.{nat_tests}
+use Rattle.std.specs.List.{list_any}
 use Rattle.ere_tree.specs.Bound.{begins_bound, bound_at}
 use Rattle.ere_tree.specs.Bracket.{begins_range, bracket, class_len, element, member, members}
 use Rattle.ere_tree.specs.Front.{begins_with}
@@ -11,11 +13,11 @@ use Rattle.ere_tree.specs.Token.{atom_at, bound_behind, token}
 use Rattle.ere_tree.specs.Tree.{Tree, alt, bytes_passing, line_start, line_end, numbers_below, set}
 use Rattle.ere_tree.specs.Tree as tree
 use Rattle.quote_laws.specs.Quote as quote_of
-use Rattle.quote_laws.specs.Quote.{BodiesAreCut, BodiesAreRead, Part, QuotesAreParts, bit_of, body_of, brace, items_of, part_before, parts_of, quote, quote_byte, raws_of, text, text_before, written, written_all}
+use Rattle.quote_laws.specs.Quote.{BodiesAreCut, BodiesAreRead, NotsAreRead, Part, QuotesAreParts, bit_of, body_of, brace, items_of, part_before, parts_of, quote, quote_byte, raws_of, text, text_before, written, written_all}
 use Rattle.line_laws.specs.Left.{alternatives, dot}
 use Rattle.line_laws.specs.Quoted.{bytes_in}
 use Rattle.num_base.specs.declared.format.Format.{Format}
-use Rattle.pattern_parse.specs.Cut.{IsCut, IsRun, front_at, over, starts_twice}
+use Rattle.pattern_parse.specs.Cut.{IsCut, IsRun, IsUpToEnd, front_at, over, starts_twice}
 use Rattle.pattern_parse.specs.Block.{and_said}
 use Rattle.pattern_parse.specs.Item.{Item, plain, regex}
 use Rattle.pattern_parse.specs.Cut as cut
@@ -214,3 +216,23 @@ dot_read = refl
 any_read : reading false (codes ".|[[:space:]]") ≡ Ok (alt alternatives)
 unfolding reading tree_read reading_from token begins_with begins_bound atom_at bound_behind bound_at bracket members member begins_range element class_len
 any_read = refl
+
+-- bytes other than `}` stand before an end
+up_to_end : (bytes rest : List ℕ) → list_any (λ b. b == 125) bytes ≡ false → IsUpToEnd bytes (bytes ++ 125 ∷ 125 ∷ rest) rest
+up_to_end [] rest none = refl
+up_to_end (b ∷ []) rest none = (125 ∷ 125 ∷ rest, refl, and_left (b == 125) true (or_parts (b == 125) false none).0, refl)
+up_to_end (b ∷ c ∷ bytes) rest none =
+    let parts = or_parts (b == 125) (list_any (λ b. b == 125) (c ∷ bytes)) none in
+    (c ∷ (bytes ++ 125 ∷ 125 ∷ rest), refl, and_left (b == 125) (c == 125) parts.0, up_to_end (c ∷ bytes) rest parts.1)
+
+pub nots_are_read : NotsAreRead
+nots_are_read = record {
+  end = (
+    (refl, [], up_to_end (codes ".") [] refl, refl),
+    λ known. one_read known 0 (codes ".") dot [] [] dot_read refl,
+  );
+  start = (
+    (refl, [], up_to_end (codes ".|[[:space:]]") [] refl, refl),
+    λ known. one_read known 0 (codes ".|[[:space:]]") (alt alternatives) [] [] any_read refl,
+  );
+}
