@@ -1,13 +1,15 @@
 -- What is kept of lines, the first before the others.
 -- Shown: a line with its canonical form is decided, and what is kept of it stands before what is kept of the lines behind it.
 -- The hard one is `ended_first`: the empty line behind a last newline is none.
-use Rattle.std.proofs.Common.{◌≡◌, ℕ, ◌<◌, ◌==◌, Bool, false, Bor, List, [], ◌∷◌, ◌++◌, Option, None, Some, length, refl, sym, ap, ◌∙◌, arith, append_assoc, append-nil}
+use Rattle.std.proofs.Common.{◌≡◌, ℕ, ◌<◌, ◌==◌, Bool, false, Bor, List, [], ◌∷◌, ◌++◌, Option, None, Some, length, refl, sym, ap, ◌∙◌, arith, append_assoc, append-nil, ne_eqb}
 use Rattle.std.proofs.lemmas.List.Splits.{length-slice_split}
 use Rattle.std.specs.List.{slice_split}
 use Rattle.std.specs.Option.{MatchOption, option_map_or}
+use Rattle.lead_laws.proofs.FormLemmas.{unreturned_other}
+use Rattle.lead_laws.specs.Canon.{unreturned}
 use Rattle.tt_base.specs.Place.{is_newline}
 use Rattle.make_checks.proofs.AddLemmas.{left}
-use Rattle.make_checks.specs.Kept.{ended, free_text, kept_line, kept_of, last_of}
+use Rattle.file_laws.specs.Kept.{ended, free_text, kept_line, kept_of, last_of}
 
 -- between newlines there is a line
 pub some_lines : (text : List ℕ) → 0 < length (slice_split is_newline text)
@@ -67,3 +69,7 @@ module _ (checks comments : List (List ℕ)) (text whole rest shown line form : 
   kept_short new none new_is =
       new_is ∙ sym (append-nil with_line) ∙ ap (λ l. with_line ++ l) (sym (kept_none checks comments (ended_left behind)))
       ∙ ap (λ b. with_line ++ kept_left behind b) (sym none) ∙ kept_first
+
+-- another byte than `\r` stays at the end of a text
+pub unreturned_byte : (front : List ℕ) (b : ℕ) → (b ≡ 13 → ⊥) → unreturned (front ++ b ∷ []) ≡ front ++ b ∷ []
+unreturned_byte front b other = unreturned_other front b (ne_eqb b 13 other)

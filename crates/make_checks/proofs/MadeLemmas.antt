@@ -11,9 +11,10 @@ use Rattle.line_laws.specs.Lines.{lines_of}
 use Rattle.make_checks.proofs.KeptLemmas.{some_lines}
 use Rattle.make_checks.proofs.TrimLemmas.{trimmed_lines}
 use Rattle.make_checks.specs.Adding.{IsAnswer, IsRefused}
-use Rattle.make_checks.specs.Kept.{kept}
-use Rattle.make_checks.specs.Lead.{is_barred}
-use Rattle.make_checks.specs.Made.{asking, canonical_lines, directives_of, is_too_long, lines_in, long_line, made_line, made_text, refreshed, trimmed, unless_large, unless_long}
+use Rattle.file_laws.specs.Kept.{kept}
+use Rattle.file_laws.specs.Lead.{is_barred}
+use Rattle.file_laws.specs.Made.{canonical_lines, directives_of, is_too_long, long_line, made_line, made_text}
+use Rattle.make_checks.specs.Made.{asking, lines_in, refreshed, trimmed, unless_large, unless_long}
 use Rattle.make_checks.specs.declared.fault.MakeFail.{MakeFail}
 use Rattle.make_checks.specs.declared.fault.MakeFail.TheVariants.{Bad, NoMemory}
 use Rattle.make_checks.specs.declared.fault.MakeFault.{MakeFault}

@@ -1,8 +1,9 @@
 //! What a refreshed check file keeps of the old one.
 ghost use Rattle.std.specs.Prelude.{◌≡◌, ◌≤◌, ◌^◌, ◌++◌, IfOk, length};
+ghost use Rattle.lead_laws.specs.Canon.{unreturned};
 ghost use Rattle.lead_laws.specs.Marks.{checks, comments};
 ghost use Rattle.make_checks.specs.Adding.{Becomes, Makes};
-ghost use Rattle.make_checks.specs.Kept.{free_text, is_free, kept, kept_line};
+ghost use Rattle.file_laws.specs.Kept.{free_text, is_free, kept, kept_line};
 
 use crate::fault::{MAX_FILE, MakeFail, MakeFault};
 use crate::lines::first_line;
@@ -97,8 +98,20 @@ fn free_lines(
     Ok(text)
 }
 
+/// A text without a `\r` at its end.
+#[tactic(auto, using(lead_laws::proofs::FormLemmas::unreturned_return, crate::proofs::KeptLemmas::unreturned_byte))]
+fn unreturned(text: &[u8]) -> &[u8]
+    ensures value { result.now ≡ unreturned text.now }
+    ensures within { length result.now ≤ length text.now }
+{
+    match text.split_last() {
+        None => text,
+        Some((last, front)) => { if *last == b'\r' { front } else { text } }
+    }
+}
+
 /// The lines of a check file that hold no directive, as they are, each with a newline. A line is decided as it stands in the canonical
-/// text, which has as many lines.
+/// text before a newline, which has as many lines: a `\r` at the end of the text goes with the newline that is put behind it.
 pub(crate) fn kept_lines(alloc: Global, old: &[u8]) -> Result<Bytes, MakeFail>
     requires { length old.now ≤ 2 ^ 30 }
     ensures { Makes (kept old.now) result }
@@ -109,6 +122,6 @@ pub(crate) fn kept_lines(alloc: Global, old: &[u8]) -> Result<Bytes, MakeFail>
         checks: PrefixTree::new(alloc, checks.as_slice())?,
         comments: PrefixTree::new(alloc, comments.as_slice())?,
     };
-    let canonical = canon_owned(Bytes::from_slice(alloc, old)?, false);
+    let canonical = canon_owned(Bytes::from_slice(alloc, unreturned(old))?, false);
     free_lines(alloc, &prefixes, old, canonical.as_slice())
 }

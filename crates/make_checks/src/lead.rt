@@ -1,7 +1,7 @@
 //! What stands before each directive that is made.
 ghost use Rattle.std.specs.Prelude.{◌≡◌};
 ghost use Rattle.std.specs.List.{list_any};
-ghost use Rattle.make_checks.specs.Lead.{is_barred};
+ghost use Rattle.file_laws.specs.Lead.{is_barred};
 
 /// Whether a byte is a letter, a digit, `-`, `_` or of an end of a line.
 fn is_barred(byte: u8) -> bool

@@ -1,7 +1,7 @@
 //! Check files that are made from an output: one directive for each of its lines, between anchors, behind the line before it, with a NOT in
 //! front and one at the end, so that they accept that output and refuse each other one. Own form, of the directives of the LLVM Command
-//! Guide, FileCheck. How a line is quoted is said in `quote_laws`, and what the directives accept in `made_laws`; `filecheck` writes the
-//! text.
+//! Guide, FileCheck. What such a file is is said in `file_laws`, how a line is quoted in `quote_laws`, and when a file stands for an output
+//! in `exact_laws`; `filecheck` writes the text.
 #![tactic(auto)]
 
 mod fault;

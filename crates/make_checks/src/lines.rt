@@ -3,7 +3,8 @@ ghost use Rattle.std.specs.Prelude.{◌≡◌, ◌≤◌, ◌<◌, ◌^◌, ◌�
 ghost use Rattle.std.specs.List.{position_from, slice_split};
 ghost use Rattle.std.specs.Option.{option_map_or};
 ghost use Rattle.tt_base.specs.Place.{is_newline};
-ghost use Rattle.make_checks.specs.Made.{is_too_long, trimmed};
+ghost use Rattle.file_laws.specs.Made.{is_too_long};
+ghost use Rattle.make_checks.specs.Made.{trimmed};
 
 use crate::quoting::quoted_length;
 use memchr::memchr;

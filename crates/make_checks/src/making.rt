@@ -1,10 +1,12 @@
 //! A check file that is made from an output.
-ghost use Rattle.std.specs.Prelude.{◌≡◌, ◌≤◌, ◌^◌, ◌++◌, OnOk, length, map};
+ghost use Rattle.std.specs.Prelude.{◌≡◌, ◌≤◌, ◌^◌, ◌++◌, IfOk, OnOk, length, map};
 ghost use Rattle.std.specs.List.{flat_map, slice_split};
 ghost use Rattle.std.specs.Option.{option_map};
 ghost use Rattle.tt_base.specs.Place.{is_newline};
 ghost use Rattle.make_checks.specs.Adding.{Becomes, IsAnswer};
-ghost use Rattle.make_checks.specs.Made.{asked_by, asking, lines_in, made_checks, made_line, made_text, next_of, refreshed};
+ghost use Rattle.exact_laws.specs.Exact.{IsExactFor};
+ghost use Rattle.file_laws.specs.Made.{made_line, made_text, next_of};
+ghost use Rattle.make_checks.specs.Made.{asked_by, asking, lines_in, made_checks, refreshed};
 
 use crate::fault::{MAX_FILE, MakeFail, MakeFault};
 use crate::kept::kept_lines;
@@ -18,7 +20,8 @@ use tt_base::{Bytes, NoMemory};
 /// The check file that an output makes, with a lead before each directive.
 pub fn make_checks(alloc: Global, output: &[u8], lead: &[u8]) -> Result<Bytes, MakeFail>
     requires { length output.now ≤ 2 ^ 30 }
-    ensures { IsAnswer (made_checks output.now lead.now) result }
+    ensures value { IsAnswer (made_checks output.now lead.now) result }
+    ensures exact { IfOk result (IsExactFor output.now) }
 {
     refresh(alloc, b"", output, lead)
 }
@@ -27,7 +30,8 @@ pub fn make_checks(alloc: Global, output: &[u8], lead: &[u8]) -> Result<Bytes, M
 pub fn refresh(alloc: Global, old: &[u8], output: &[u8], lead: &[u8]) -> Result<Bytes, MakeFail>
     requires old_short { length old.now ≤ 2 ^ 30 }
     requires short { length output.now ≤ 2 ^ 30 }
-    ensures { IsAnswer (refreshed old.now output.now lead.now) result }
+    ensures value { IsAnswer (refreshed old.now output.now lead.now) result }
+    ensures exact { IfOk result (IsExactFor output.now) }
 {
     if is_bad(lead) {
         return Err(MakeFail::Bad(MakeFault::BadLead));

@@ -1,5 +1,5 @@
 use Rattle.std.proofs.Common.{◌≡◌, ◌≤◌, ◌^◌, ◌++◌, length}
-use Rattle.make_checks.specs.Kept.{free_text}
+use Rattle.file_laws.specs.Kept.{free_text}
 use Rattle.make_checks.proofs.kept.free_lines.Given as goal
 
 -- what was kept, and what is kept of the rest, is what is kept of all

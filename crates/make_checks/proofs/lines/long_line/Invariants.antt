@@ -1,7 +1,7 @@
 use Rattle.std.proofs.Common.{◌≡◌, ◌+◌, ◌≤◌, length}
 use Rattle.std.specs.List.{position_from, slice_split}
 use Rattle.tt_base.specs.Place.{is_newline}
-use Rattle.make_checks.specs.Made.{is_too_long}
+use Rattle.file_laws.specs.Made.{is_too_long}
 use Rattle.make_checks.proofs.lines.long_line.Given as goal
 
 -- the first of what is left is the first of all

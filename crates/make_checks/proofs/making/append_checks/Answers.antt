@@ -4,7 +4,8 @@ use Rattle.tt_base.specs.Place.{is_newline}
 use Rattle.make_checks.proofs.AddLemmas.{refused}
 use Rattle.make_checks.proofs.MadeLemmas.{first_not, last_not, made_all}
 use Rattle.make_checks.specs.Adding.{Becomes}
-use Rattle.make_checks.specs.Made.{asking, made_line}
+use Rattle.file_laws.specs.Made.{made_line}
+use Rattle.make_checks.specs.Made.{asking}
 use Rattle.make_checks.proofs.making.append_checks.Goals as goal
 
 abbrev asked : List ℕ → List ℕ → List ℕ

@@ -1,7 +1,7 @@
 use Rattle.std.proofs.Common.{◌≡◌, ◌++◌, length, map}
 use Rattle.std.specs.List.{flat_map, slice_split}
 use Rattle.tt_base.specs.Place.{is_newline}
-use Rattle.make_checks.specs.Made.{made_line, next_of}
+use Rattle.file_laws.specs.Made.{made_line, next_of}
 use Rattle.make_checks.proofs.making.append_further.Given as goal
 
 -- what was added, and the directives of what is left, are those of all

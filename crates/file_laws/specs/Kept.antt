@@ -1,14 +1,14 @@
 -- What a refreshed check file keeps of the old one.
--- Own rule: each line that holds no directive, good or faulty, by the default prefixes. A line is decided as it stands in the canonical text,
--- which has as many lines.
+-- Own rule: each line that holds no directive, good or faulty, by the default prefixes. A line is decided as it stands in the canonical text of
+-- what it is kept in, so before a newline.
 use Rattle.std.specs.Prelude.{ℕ, Bool, true, false, List, [], ◌∷◌, ◌++◌, if◌then◌else◌, Option, None, Some}
 use Rattle.std.specs.List.{slice_split}
 use Rattle.tt_base.specs.Place.{is_newline}
-use Rattle.check_lines.specs.Canonical.{canon}
 use Rattle.check_lines.specs.Decision.{decide}
 use Rattle.check_lines.specs.declared.decision.Decision.{Decision}
 use Rattle.check_lines.specs.declared.decision.Mark.{Mark}
 use Rattle.check_lines.specs.declared.decision.Mark.TheVariants.{Comment, Check}
+use Rattle.lead_laws.specs.Canon.{form_of}
 use Rattle.lead_laws.specs.Marks as default
 
 -- whether a mark is that of a comment
@@ -57,4 +57,4 @@ module _ (checks comments : List (List ℕ)) where
 
 -- what is kept of a check file
 abbrev pub kept : List ℕ → List ℕ
-kept old = free_text default.checks default.comments old (canon false old)
+kept old = free_text default.checks default.comments old (form_of old)

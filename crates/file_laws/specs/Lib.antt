@@ -1,0 +1,4 @@
+pub mod Asks
+pub mod Kept
+pub mod Lead
+pub mod Made
