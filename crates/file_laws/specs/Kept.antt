@@ -1,6 +1,6 @@
 -- What a refreshed check file keeps of the old one.
--- Own rule: each line that holds no directive, good or faulty, by the default prefixes. A line is decided as it stands in the canonical text of
--- what it is kept in, so before a newline.
+-- Own rule: each line that holds no directive, good or faulty, by the default prefixes. It is kept with a newline, so it is decided in the
+-- canonical form that it has before one.
 use Rattle.std.specs.Prelude.{ℕ, Bool, true, false, List, [], ◌∷◌, ◌++◌, if◌then◌else◌, Option, None, Some}
 use Rattle.std.specs.List.{slice_split}
 use Rattle.tt_base.specs.Place.{is_newline}

@@ -44,7 +44,7 @@ fn is_due(alloc: Global, row: &str) -> Result<bool, NoMemory> {
     Ok(told_of(alloc, made)?.as_slice() == field_of(alloc, due)?.as_slice())
 }
 
-const MADE: [&str; 22] = [
+const MADE: [&str; 24] = [
     "~a [x]//b/~~CHECK-NOT: {{.|[[:space:]]}}/CHECK: {{^}}a {{\\[}}x]{{$}}/CHECK-EMPTY:/CHECK-NEXT: {{^}}b{{$}}/CHECK-NOT: {{.}}/",
     "~~~CHECK-NOT: {{.}}/",
     "~//%//~; ~; CHECK-NOT: {{.}}/",
@@ -67,6 +67,8 @@ const MADE: [&str; 22] = [
     "COM: CHECK: x/CHECK-COUNT-0: a/CHECK-NOTE: b/MYCHECK: c/CHECK:/~~~COM: CHECK: x/CHECK-NOTE: b/MYCHECK: c/CHECK-NOT: {{.}}/",
     "CHECK{  LITERAL   }: x/~~~CHECK-NOT: {{.}}/",
     "/~~~/CHECK-NOT: {{.}}/",
+    "a%/CHECK: b%~~~a%/CHECK-NOT: {{.}}/",
+    "CHECK-NOTE%~~~CHECK-NOTE%/CHECK-NOT: {{.}}/",
 ];
 
 #[test]
