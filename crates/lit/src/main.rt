@@ -5,11 +5,13 @@
 mod pages;
 
 use crate::pages::{HELP, VERSION};
+use lit_progress::{Line, ProgressCrew, ProgressSink};
 use lit_tool::lit_run;
+use std::alloc::Global;
 use std::env::{self, Env};
-use std::io::{self, ErrorKind};
+use std::io::{self, ErrorKind, IsTerminal, Write};
 use std::process::ExitCode;
-use tt_base::Bytes;
+use tt_base::{Bytes, NoMemory};
 use tt_main::{Pages, no_words, with_variable, words_or_page};
 use tt_outside::Sink;
 use tt_real::{StdCrew, StdErr, StdOut, StdTree};
@@ -44,6 +46,21 @@ fn no_base<E: Sink>(error: &io::Error, err: &mut E) -> u8 {
     }
 }
 
+/// Whether the words ask for failures alone.
+fn is_quiet(words: &[String]) -> bool {
+    words.iter().any(|word| word.as_str() == "-q")
+}
+
+/// A line of progress for each part of a run: its output, its errors, its crew and its end.
+fn lines<W: Write + Copy>(
+    alloc: Global,
+    writer: W,
+    is_shown: bool,
+) -> Result<(Line<W>, Line<W>, Line<W>, Line<W>), NoMemory> {
+    let line = Line::new(alloc, writer, is_shown)?;
+    Ok((line.another()?, line.another()?, line.another()?, line))
+}
+
 fn main(rt: HostRuntime) -> ExitCode {
     let alloc = rt.alloc();
     let mut out = StdOut::new(rt.stdout());
@@ -60,16 +77,22 @@ fn main(rt: HostRuntime) -> ExitCode {
         Ok(base) => base,
         Err(error) => return ExitCode::from(no_base(&error, &mut err)),
     };
+    let is_shown = rt.stderr().is_terminal() && !is_quiet(words.as_slice());
+    let Ok(lines) = lines(alloc, rt.stderr(), is_shown) else {
+        return ExitCode::from(LIT.out_of_memory(&mut err));
+    };
+    let (for_out, for_err, for_crew, mut line) = lines;
     let mut tree = StdTree::current(rt, base);
-    let mut crew = StdCrew::new(alloc, rt);
+    let mut crew = ProgressCrew::new(StdCrew::new(alloc, rt), for_crew);
     let end = lit_run(
         &rt,
         alloc,
         words.as_slice(),
         &mut tree,
         &mut crew,
-        &mut out,
-        &mut err,
+        &mut ProgressSink::new(out, for_out),
+        &mut ProgressSink::new(err, for_err),
     );
+    line.clear();
     ExitCode::from(end.status)
 }
