@@ -1,4 +1,4 @@
-use Rattle.std.proofs.Common.{sym, ap, subst, ◌∙◌}
+use Rattle.std.proofs.Common.{◌≡◌, true, sym, ap, subst, ◌∙◌}
 use Rattle.tt_outside.specs.TreeMap.{is_part}
 use Rattle.lit_look.specs.declared.root.SuiteRoot.{SuiteRoot}
 use Rattle.lit_find.specs.Files.{IsFiled}
@@ -10,5 +10,5 @@ put-requires c =
     subst (λ (root : SuiteRoot). IsFiled (record { path = c.in_ok-path-in-File.path; suite = root }))
     (sym c.in_ok-suite-in-File.ensures)
     (filed c.args.root.now c.args.dir.now c.args.item.now.name c.in_ok-path-in-File.path c.requires.inside
-    (ap is_part (sym c.as_slice-then-has_suffix.ensures) ∙ sym c.is_part.ensures ∙ c.if-is_part.true)
+    (ap is_part (sym c.as_slice.ensures) ∙ sym c.is_part.ensures ∙ c.if-not-is_part.false)
     (c.in_ok-path-in-File.ensures c.args.dir.now c.requires.front))
