@@ -16,10 +16,10 @@ use Rattle.lit_dirs.specs.declared.fault.DiscoverFault.{DiscoverFault}
 use Rattle.lit_dirs.specs.declared.fault.DiscoverFault.TheVariants.{NoTests, TooMany}
 use Rattle.lit_look.specs.Trees.{Told}
 use Rattle.lit_look.specs.declared.seen.Looked.{Looked}
-use Rattle.lit_look.proofs.ListLemmas.{any_one, its_one, mapped, none_in}
+use Rattle.lit_look.proofs.ListLemmas.{its_one, mapped, none_in}
 use Rattle.lit_look.proofs.FaultLemmas.{IsEarly, early_fault}
 use Rattle.lit_look.proofs.TreeLemmas.{told}
-use Rattle.lit_find.specs.Discovery.{IsBelow, IsLookedAt, IsTest, LooksAt}
+use Rattle.lit_find.specs.Discovery.{IsBelow, IsTest, LooksAt}
 use Rattle.lit_find.specs.Found.{AnswersTo, AreTests, Discovers, IsInOrder, IsRight}
 use Rattle.lit_find.specs.Refusals.{HasPlace, IsClear, IsRefused, RefusesWord}
 use Rattle.lit_find.specs.Walk.{GivesWord, GivesWords, HasTest, IsCovered, Walked, Walks, was_walked}
@@ -39,10 +39,6 @@ test_found nodes words seen walk is path test =
       | inr below ↦ subst (HasTest walk.found) (sym below.is)
           (is.state.closed File below.dir below.part (all_reached is.state is.done within below.walked) below.test)
     ]
-
-is_clear : (nodes : List Node) (words : List Parts) (seen : List Looked) (walk : Walk) → IsCovered nodes words seen walk
-    → IsClear nodes words
-is_clear nodes words seen walk is = record { places = is.places; seen = seen; all = is.all }
 
 are_tests : (nodes : List Node) (words : List Parts) (seen : List Looked) (walk : Walk) (tests : List Test)
     → IsCovered nodes words seen walk → IsInOrder walk.found tests
@@ -65,7 +61,7 @@ pub discovers : (told : Option (List Node)) (base : List ℕ) (texts : List (Lis
 discovers None base texts found tests result walks made answers = tt
 discovers (Some nodes) base texts found tests result (seen, walk, is, same) made answers =
     let words = map (joined (parts_of base)) texts in
-    answers nodes words (is_clear nodes words seen walk is)
+    answers nodes words (record { places = is.places; seen = seen; all = is.all })
     (are_tests nodes words seen walk tests is (subst (λ all. IsInOrder all tests) (sym same) made))
 
 -- ---- refusals
@@ -81,7 +77,7 @@ words_refused nodes words early later word seen next walk after fault is all giv
       word = word;
       later = later;
       all = all;
-      clear = is_clear nodes early seen walk is;
+      clear = record { places = is.places; seen = seen; all = is.all };
       refused = refuses;
     }) gives
 

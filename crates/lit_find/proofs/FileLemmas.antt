@@ -64,12 +64,6 @@ module _ (root : SuiteRoot) (dir : Parts) (name text : List ℕ) (lies : LiesIn 
     };
   }
 
-pub test_is : (file : TestFile) (test : Test) → IsFiled file
-    → IsTestOf file.suite.dir file.suite.suite (below_of file) test → test ≡ test_in file
-test_is file test is made =
-    equal_tests test (test_in file) made.named (made.file ∙ sym is.is) made.source made.work made.temps made.temporary
-    made.features made.substitutions made.tools made.environment
-
 -- what is made by the directory and the suite of a file is its test
 pub test_made : (file : TestFile) (root : SuiteRoot) (dir : Parts) (made : Result Test NoMemory) → IsFiled file
     → root ≡ file.suite → dir ≡ root.dir
@@ -78,7 +72,10 @@ pub test_made : (file : TestFile) (root : SuiteRoot) (dir : Parts) (made : Resul
 test_made file root dir made is same at gives =
     let its : dir ≡ file.suite.dir = at ∙ ap (λ one. one.dir) same in
     IfOk-weaker made (IsTestOf dir root.suite (below_of file)) (λ test. test ≡ test_in file)
-    (λ test right. test_is file test is (subst (λ (path : Parts). IsTestOf path file.suite.suite (below_of file) test) its
-    (subst (λ (one : SuiteRoot). IsTestOf dir one.suite (below_of file) test) same right)))
+    (λ test right.
+    let made = subst (λ (path : Parts). IsTestOf path file.suite.suite (below_of file) test) its
+    (subst (λ (one : SuiteRoot). IsTestOf dir one.suite (below_of file) test) same right) in
+    equal_tests test (test_in file) made.named (made.file ∙ sym is.is) made.source made.work made.temps made.temporary
+    made.features made.substitutions made.tools made.environment)
     (gives (below_of file) (is.is ∙ ap (λ path. text_of (path ++ below_of file)) (sym its))
     (parts_right file.suite.dir (below_of file) is.parts) is.some)

@@ -1,7 +1,7 @@
 -- What stands in a directory, and what it lists: what is walked through, and what is a test.
 -- Idea: names differ, so a listing is a finite map: an item of each name stands for what is there, and the reverse.
 -- The hard ones are `named_item`, and `its_item`, from what is taken to the item that lists it.
-use Rattle.std.proofs.Common.{◌≡◌, ℕ, Bool, true, false, true≢false, cond, not, inl, inr, List, [], ◌∷◌, ◌++◌, Option, Some, None, refl, sym, ap, ◌∙◌, subst, append-nil, IfSome, Ok}
+use Rattle.std.proofs.Common.{◌≡◌, ℕ, Bool, true, false, true≢false, cond, not, inl, inr, List, [], ◌∷◌, ◌++◌, Option, Some, None, refl, sym, ap, ◌∙◌, append-nil}
 use Rattle.std.specs.List.{Contains, find, list_all, list_any}
 use Rattle.std.specs.Option.{option_map, unwrap_or}
 use Rattle.std.specs.Str.{bytes_eq}
@@ -23,7 +23,6 @@ use Rattle.lit_look.proofs.SuiteLemmas.{upward_push}
 use Rattle.lit_look.specs.Seen.{IsLook}
 use Rattle.lit_look.specs.Suites.{LiesIn, first_suite, nearest, or_else, rooted, rooted_at}
 use Rattle.lit_look.specs.declared.root.SuiteRoot.{SuiteRoot}
-use Rattle.lit_look.specs.declared.seen.Looked.{Looked}
 use Rattle.lit_find.specs.Discovery.{IsIn, IsTest, IsWalked, takes}
 use Rattle.lit_find.specs.Files.{test_in}
 use Rattle.lit_find.specs.Found.{IsRight}

@@ -1,7 +1,7 @@
 -- Tests in byte order of their paths, each path once.
 -- Idea: files that are sorted and of which equal neighbours are dropped ascend, and have the paths that there were.
 -- The hard one is `in_order`.
-use Rattle.std.proofs.Common.{◌≡◌, Bool, true, List, [], ◌∷◌, map, All, refl, sym}
+use Rattle.std.proofs.Common.{◌≡◌, Bool, true, List, [], ◌∷◌, map, refl, sym}
 use Rattle.std.specs.List.{Any, Contains, dedup}
 use Rattle.std.specs.List.Sorted.{IsPermutation, IsSortedBy, IsStrictlySortedBy}
 use Rattle.std.specs.List.{AllByRecursion}

@@ -1,7 +1,7 @@
 -- What one directory of a walk gives, and what refuses it.
 -- Idea: of each directory that was walked through, those in it were begun, and its tests are found; both stay so. What was
 -- looked at in the walk stands before all that is to be walked through. The hard ones are `through_next` and `before_first`.
-use Rattle.std.proofs.Common.{◌≡◌, ℕ, Bool, true, false, ◌||◌, ◌⊎◌, inl, inr, List, [], ◌∷◌, ◌++◌, map, All, Option, Result, Ok, Err, OnOk, refl, sym, ap, ◌∙◌, subst}
+use Rattle.std.proofs.Common.{◌≡◌, ℕ, Bool, true, false, ◌||◌, ◌⊎◌, inl, inr, List, [], ◌∷◌, ◌++◌, map, All, Result, Ok, Err, OnOk, refl, sym, ap, ◌∙◌, subst}
 use Rattle.std.proofs.lemmas.Bool.{both_ways, or_cases, or_left, or_right}
 use Rattle.std.proofs.lemmas.Cmp.{nat_list_cmp_total}
 use Rattle.std.proofs.lemmas.List.Elements.{All-contains, All-head, All-map, All-tail, All-weaker}
@@ -27,7 +27,7 @@ use Rattle.lit_look.specs.declared.seen.Looked.{Looked}
 use Rattle.lit_look.proofs.ListLemmas.{any_one, cons_cases, none_in}
 use Rattle.lit_look.proofs.SeenLemmas.{looks_of, same_seen}
 use Rattle.lit_look.proofs.TreeLemmas.{told}
-use Rattle.lit_find.specs.Discovery.{IsBelow, IsIn, IsTest, IsWalked}
+use Rattle.lit_find.specs.Discovery.{IsBelow, IsIn, IsWalked}
 use Rattle.lit_find.specs.Found.{IsRight}
 use Rattle.lit_find.specs.Places.{IsBefore}
 use Rattle.lit_find.specs.Refusals.{IsRefusedDown}
@@ -85,14 +85,6 @@ first_done place old new here keeps waits finds Dir path (inr had) =
     ]
 first_done place old new here keeps waits finds File path had = finds path had
 first_done place old new here keeps waits finds Other path done = tt
-
-test_below : {nodes : List Node} (words : List Parts) (word dir : Parts) (part : List ℕ) → Contains words word
-    → IsWalked nodes word dir → IsIn nodes File dir part → IsTest nodes words (dir ++ part ∷ [])
-test_below {nodes = nodes} words word dir part one walked inside = (
-  inside.stands,
-  any_one (λ one. (dir ++ part ∷ [] ≡ one) ⊎ IsBelow nodes one (dir ++ part ∷ [])) words word one
-      (inr (record { dir = dir; part = part; is = refl; walked = walked; test = inside })),
-)
 
 -- a directory that wasn't walked through yet is, by the text of its path
 pub entered : {A E : Type 0} {path : List ℕ} {all : Walk} (looked : Looked) (known : SuiteRoot) (old new : Walk)
@@ -178,8 +170,12 @@ module _ (nodes : List Node) (words : List Parts) (word : Parts) (first old : Li
       it_fits Dir part inside =
           (ahead_in nodes place.path items root of word part its_ahead.walked inside, before_below place.path part)
       it_fits File part inside =
-          right_in nodes place.path items root of words part inside
-          (test_below words word place.path part is.one its_ahead.walked inside)
+          let path = place.path ++ part ∷ [] in
+          right_in nodes place.path items root of words part inside (
+            inside.stands,
+            any_one (λ one. (path ≡ one) ⊎ IsBelow nodes one path) words word is.one
+                (inr (record { dir = place.path; part = part; is = refl; walked = its_ahead.walked; test = inside })),
+          )
       it_fits Other part inside = tt
 
       fit : AllFit Ahead (IsRight nodes words) new

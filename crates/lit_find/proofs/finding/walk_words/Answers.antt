@@ -1,4 +1,4 @@
-use Rattle.std.proofs.Common.{[], Ok, Err, map, refl, ap, subst, ◌∙◌}
+use Rattle.std.proofs.Common.{Ok, Err, map, refl, ap, subst, ◌∙◌}
 use Rattle.std.specs.List.{list_any}
 use Rattle.lit_look.specs.Trees.{Told}
 use Rattle.lit_paths.specs.Paths.{joined}

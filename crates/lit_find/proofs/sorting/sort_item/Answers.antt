@@ -1,4 +1,4 @@
-use Rattle.std.proofs.Common.{◌≡◌, true, sym, ap, subst, ◌∙◌}
+use Rattle.std.proofs.Common.{sym, ap, subst, ◌∙◌}
 use Rattle.tt_outside.specs.TreeMap.{is_part}
 use Rattle.lit_look.specs.declared.root.SuiteRoot.{SuiteRoot}
 use Rattle.lit_find.specs.Files.{IsFiled}

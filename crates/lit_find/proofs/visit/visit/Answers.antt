@@ -1,6 +1,6 @@
 -- The walk of a word goes on behind one directory, or that is refused: by what the look gave, over the nodes that the tree
 -- tells, where it tells them. The long goal is `returns-in-Ok-clause-gives`.
-use Rattle.std.proofs.Common.{◌≡◌, ◌⊎◌, Some, Ok, Err, IfSome, All, sym, ap, subst, ◌∙◌, arith}
+use Rattle.std.proofs.Common.{◌≡◌, ◌⊎◌, Some, Ok, Err, IfSome, sym, ap, subst, ◌∙◌, arith}
 use Rattle.std.proofs.lemmas.List.Elements.{All-contains}
 use Rattle.std.specs.List.{list_all}
 use Rattle.tt_outside.specs.TreeMap.{is_part}

@@ -1,4 +1,4 @@
-use Rattle.std.proofs.Common.{◌≡◌, List, [], ◌∷◌, MatchOption, subst, sym, ◌∙◌}
+use Rattle.std.proofs.Common.{◌≡◌, List, [], MatchOption, subst, sym, ◌∙◌}
 use Rattle.tt_outside.specs.declared.tree.Node.{Node}
 use Rattle.lit_paths.specs.Paths.{Parts}
 use Rattle.lit_look.specs.declared.seen.Looked.{Looked}

@@ -1,4 +1,4 @@
-use Rattle.std.proofs.Common.{◌≡◌, [], ◌∷◌, ◌++◌, sym, ap, subst, ◌∙◌, Ok, Err, IfSome}
+use Rattle.std.proofs.Common.{[], ◌∷◌, ◌++◌, sym, ap, subst, ◌∙◌, Ok, IfSome}
 use Rattle.std.specs.List.{list_all}
 use Rattle.tt_outside.specs.TreeMap.{is_part}
 use Rattle.lit_paths.specs.Paths.{text_of}

@@ -1,4 +1,4 @@
-use Rattle.std.proofs.Common.{◌≡◌, List, map, ap, sym, subst}
+use Rattle.std.proofs.Common.{List, map, ap, sym, subst}
 use Rattle.std.proofs.lemmas.List.Elements.{All-rest, All-same}
 use Rattle.lit_paths.specs.Paths.{Parts}
 use Rattle.lit_find.specs.Places.{IsFirst, IsInside, place_of_entry}
