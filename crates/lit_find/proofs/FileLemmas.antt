@@ -1,7 +1,7 @@
 -- The tests of files.
 -- Shown: a file in a directory of a suite lies below the suite's root, and its test is right. Idea: a text tells its path.
--- The hard one is `filed`.
-use Rattle.std.proofs.Common.{◌≡◌, ◌≢◌, true, ℕ, List, [], ◌∷◌, ◌++◌, drop, length, Some, Result, IfOk, refl, sym, ap, ◌∙◌, subst, append_assoc}
+-- The hard one is `below`.
+use Rattle.std.proofs.Common.{◌≡◌, ◌≢◌, true, ℕ, List, [], ◌∷◌, ◌++◌, drop, length, Some, Result, IfOk, refl, sym, ap, ◌∙◌, subst}
 use Rattle.std.specs.List.{list_all}
 use Rattle.std.proofs.Math.Seq.{drop-append_seam}
 use Rattle.std.proofs.lemmas.Result.{IfOk-weaker}
@@ -17,39 +17,52 @@ use Rattle.lit_look.specs.declared.root.SuiteRoot.{SuiteRoot}
 use Rattle.lit_find.specs.Discovery.{IsTest}
 use Rattle.lit_find.specs.Files.{IsFiled, below_of, test_in}
 use Rattle.lit_find.specs.Found.{IsRight}
-use Rattle.lit_find.specs.Walk.{IsTestFile}
 use Rattle.lit_find.specs.declared.place.TestFile.{TestFile}
-use Rattle.lit_find.proofs.PathLemmas.{name_behind, parts_push, parts_right, path_in_word}
+use Rattle.lit_find.proofs.PathLemmas.{dir_of_push, lies_push, name_behind, parts_push, parts_right, path_in_word}
 
 -- a name in a directory that lies in that of a suite
-pub filed : (root : SuiteRoot) (dir : Parts) (name text : List ℕ) → LiesIn root.dir dir → is_part name ≡ true
-    → text ≡ text_of (dir ++ name ∷ []) → IsFiled (record { path = text; suite = root })
-filed root dir name text lies named is =
-    subst (λ (one : List ℕ). IsFiled (record { path = one; suite = root })) (sym is) (record {
-      is = ap text_of (sym whole);
-      parts = ap (list_all is_part) whole ∙ parts;
-      some = λ none. name_behind lies.rest name (sym below ∙ none);
-    })
-  where
-    parts : list_all is_part (dir ++ name ∷ []) ≡ true
-    parts = parts_push dir name lies.parts named
+module _ (root : SuiteRoot) (dir : Parts) (name text : List ℕ) (lies : LiesIn root.dir dir) (named : is_part name ≡ true)
+    (is : text ≡ text_of (dir ++ name ∷ [])) where
+  abbrev file : TestFile
+  file = record { path = text; suite = root }
 
-    split : dir ++ name ∷ [] ≡ root.dir ++ (lies.rest ++ name ∷ [])
-    split = ap (λ path. path ++ name ∷ []) lies.is ∙ append_assoc root.dir lies.rest (name ∷ [])
+  below : below_of file ≡ lies.rest ++ name ∷ []
+  below =
+      let inside = lies_push root.dir dir name lies named in
+      ap (drop (length root.dir)) (ap path_in is ∙ path_in_word (dir ++ name ∷ []) inside.parts (name_behind dir name) ∙ inside.is)
+      ∙ drop-append_seam root.dir (lies.rest ++ name ∷ [])
 
-    below : drop (length root.dir) (path_in (text_of (dir ++ name ∷ []))) ≡ lies.rest ++ name ∷ []
-    below =
-        ap (drop (length root.dir)) (path_in_word (dir ++ name ∷ []) parts (name_behind dir name) ∙ split)
-        ∙ drop-append_seam root.dir (lies.rest ++ name ∷ [])
+  whole : root.dir ++ below_of file ≡ dir ++ name ∷ []
+  whole = ap (λ path. root.dir ++ path) below ∙ sym (lies_push root.dir dir name lies named).is
 
-    whole : root.dir ++ drop (length root.dir) (path_in (text_of (dir ++ name ∷ []))) ≡ dir ++ name ∷ []
-    whole = ap (λ path. root.dir ++ path) below ∙ sym split
+  pub filed : IsFiled file
+  filed = record {
+    is = is ∙ ap text_of (sym whole);
+    parts = ap (list_all is_part) whole ∙ parts_push dir name lies.parts named;
+    some = λ none. name_behind lies.rest name (sym below ∙ none);
+  }
 
-pub test_is : (file : TestFile) (test : Test) → IsFiled file
-    → IsTestOf file.suite.dir file.suite.suite (below_of file) test → test ≡ test_in file
-test_is file test is made =
-    equal_tests test (test_in file) made.named (made.file ∙ sym is.is) made.source made.work made.temps made.temporary
-    made.features made.substitutions made.tools made.environment
+  pub right_test : (nodes : List Node) (words : List Parts) → nearest nodes dir ≡ Some (rooted_at root)
+      → IsTest nodes words (dir ++ name ∷ []) → IsRight nodes words (test_in file)
+  right_test nodes words near test = record {
+    rooted = rooted_at root;
+    below = below_of file;
+    parts = filed.parts;
+    suite = ap (λ path. nearest nodes (dir_of path)) whole ∙ ap (nearest nodes) (dir_of_push dir name) ∙ near;
+    passes = subst (IsTest nodes words) (sym whole) test;
+    made = record {
+      named = refl;
+      file = filed.is;
+      source = refl;
+      work = refl;
+      temps = refl;
+      temporary = refl;
+      features = refl;
+      substitutions = refl;
+      tools = refl;
+      environment = refl;
+    };
+  }
 
 -- what is made by the directory and the suite of a file is its test
 pub test_made : (file : TestFile) (root : SuiteRoot) (dir : Parts) (made : Result Test NoMemory) → IsFiled file
@@ -59,37 +72,10 @@ pub test_made : (file : TestFile) (root : SuiteRoot) (dir : Parts) (made : Resul
 test_made file root dir made is same at gives =
     let its : dir ≡ file.suite.dir = at ∙ ap (λ one. one.dir) same in
     IfOk-weaker made (IsTestOf dir root.suite (below_of file)) (λ test. test ≡ test_in file)
-    (λ test right. test_is file test is (subst (λ (path : Parts). IsTestOf path file.suite.suite (below_of file) test) its
-    (subst (λ (one : SuiteRoot). IsTestOf dir one.suite (below_of file) test) same right)))
+    (λ test right.
+    let made = subst (λ (path : Parts). IsTestOf path file.suite.suite (below_of file) test) its
+    (subst (λ (one : SuiteRoot). IsTestOf dir one.suite (below_of file) test) same right) in
+    equal_tests test (test_in file) made.named (made.file ∙ sym is.is) made.source made.work made.temps made.temporary
+    made.features made.substitutions made.tools made.environment)
     (gives (below_of file) (is.is ∙ ap (λ path. text_of (path ++ below_of file)) (sym its))
     (parts_right file.suite.dir (below_of file) is.parts) is.some)
-
-not_behind : (xs ys : Parts) → ys ≢ [] → xs ++ ys ≢ []
-not_behind [] ys some none = some none
-not_behind (x ∷ xs) ys some none = absurd (cc)
-
-pub right_test : (nodes : List Node) (words : List Parts) (file : TestFile) → IsFiled file → IsTestFile nodes words file
-    → IsRight nodes words (test_in file)
-right_test nodes words file is tests =
-    let below = below_of file in
-    let same : path_in file.path ≡ file.suite.dir ++ below =
-    ap path_in is.is ∙ path_in_word (file.suite.dir ++ below) is.parts (not_behind file.suite.dir below is.some) in
-    record {
-      rooted = rooted_at file.suite;
-      below = below;
-      parts = is.parts;
-      suite = subst (λ path. nearest nodes (dir_of path) ≡ Some (rooted_at file.suite)) same tests.suite;
-      passes = subst (IsTest nodes words) same tests.test;
-      made = record {
-        named = refl;
-        file = is.is;
-        source = refl;
-        work = refl;
-        temps = refl;
-        temporary = refl;
-        features = refl;
-        substitutions = refl;
-        tools = refl;
-        environment = refl;
-      };
-    }

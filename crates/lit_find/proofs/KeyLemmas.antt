@@ -1,7 +1,7 @@
 -- Places under keys: their order, what a map of them holds when one is put in, and what is left behind its first.
 -- Idea: a key is the parts of a path, keys are compared as paths are, and a directory stands before those below it.
 -- The hard one is `inserted`.
-use Rattle.std.proofs.Common.{◌≡◌, ℕ, List, [], ◌∷◌, ◌++◌, refl, sym, ap, ◌∙◌, subst, append-nil, map, Result, Ok, Err, OnOk, OnErr, All, arith}
+use Rattle.std.proofs.Common.{◌≡◌, ℕ, Bool, true, false, ◌||◌, List, [], ◌∷◌, ◌++◌, refl, sym, ap, ◌∙◌, subst, append-nil, map, All, arith}
 use Rattle.std.specs.Cmp.{IsTotalOrder}
 use Rattle.std.specs.Ordering.{match_ordering, nat_cmp, ordering_then}
 use Rattle.std.specs.declared.cmp.Ordering.TheVariants.{Equal, Greater, Less}
@@ -10,12 +10,15 @@ use Rattle.std.proofs.lemmas.List.Elements.{All-cons, All-head, All-tail}
 use Rattle.std.specs.Prelude.{Vec}
 use Rattle.std.specs.declared.alloc.Global.{Global}
 use Rattle.std.specs.BTreeMap.{insert_entry}
+use Rattle.std.specs.BTreeSet.{insert_key}
+use Rattle.std.specs.List.{list_any}
 use Rattle.std.specs.Cmp.Lexicographic.{slice_cmp}
 use Rattle.std.specs.declared.cmp.Ordering.{Ordering}
 use Rattle.std.proofs.lemmas.Map.Lookups.{exact_bytes}
 use Rattle.lit_paths.specs.Paths.{Parts}
 use Rattle.lit_look.specs.declared.root.SuiteRoot.{SuiteRoot}
-use Rattle.lit_find.specs.Places.{IsBefore, IsInside, parts_cmp, parts_of, path_order, place_of_entry, put}
+use Rattle.lit_find.specs.Walk.{same_text}
+use Rattle.lit_find.specs.Places.{IsBefore, IsFirst, IsInside, parts_cmp, parts_of, path_order, place_of_entry, put}
 
 pub parts_cmp_total : IsTotalOrder parts_cmp
 parts_cmp_total = lists_total nat_list_cmp_total
@@ -99,7 +102,7 @@ inserted entries key suite =
     ap (λ cmp. map place_of_entry (insert_entry cmp entries key suite)) vec_cmp_is ∙ put_in entries key suite
 
 -- the first entry's place stands before the others
-pub least : (entries : List (Key × SuiteRoot)) (key : Key)
+least : (entries : List (Key × SuiteRoot)) (key : Key)
     → All (λ other. vec_cmp key other ≡ Less) (map (λ e. e.0) entries)
     → All (λ other. IsBefore (parts_of key) other.path) (map place_of_entry entries)
 least [] key low = λ k d less. absurd (omega arith)
@@ -108,17 +111,46 @@ least (e ∷ entries) key low =
     (sym (λ i. vec_cmp_is i key e.0) ∙ All-head (λ other. vec_cmp key other ≡ Less) e.0 (map (λ e. e.0) entries) low)
     (least entries key (All-tail (λ other. vec_cmp key other ≡ Less) e.0 (map (λ e. e.0) entries) low))
 
--- what is left behind the first entry
-pub first_inside : (old new : List (Key × SuiteRoot)) (key : Key) (suite : SuiteRoot) → old ≡ (key, suite) ∷ new
-    → All IsInside (map place_of_entry old)
-    → IsInside (place_of_entry (key, suite)) × All IsInside (map place_of_entry new)
-first_inside old new key suite is all =
-    let both = subst (λ entries. All IsInside (map place_of_entry entries)) is all in (
-      All-head IsInside (place_of_entry (key, suite)) (map place_of_entry new) both,
-      All-tail IsInside (place_of_entry (key, suite)) (map place_of_entry new) both,
-    )
+-- the first entry's place is the first
+pub first_of : (old new : List (Key × SuiteRoot)) (key : Key) (suite : SuiteRoot) → old ≡ (key, suite) ∷ new
+    → All (λ other. vec_cmp key other ≡ Less) (map (λ e. e.0) new) → All IsInside (map place_of_entry old)
+    → IsFirst (map place_of_entry old) (map place_of_entry new) (place_of_entry (key, suite))
+first_of old new key suite is low all = record {
+  first = ap (map place_of_entry) is;
+  least = least new key low;
+  inside = All-head IsInside (place_of_entry (key, suite)) (map place_of_entry new)
+      (subst (λ entries. All IsInside (map place_of_entry entries)) is all);
+}
 
--- what holds behind a call that was done, and behind one that left all as it was
-pub either_way : {A E P Q R : Type 0} (result : Result A E) → OnOk result P → OnErr result Q → (P → R) → (Q → R) → R
-either_way (Ok value) p q from_p from_q = from_p p
-either_way (Err fault) p q from_p from_q = from_q q
+-- ---- a set of texts
+
+or_twice : (a b : Bool) → (a || b) ≡ (a || (a || b))
+or_twice true b = refl
+or_twice false b = refl
+
+or_swap : (a b c : Bool) → (a || (b || c)) ≡ (b || (a || c))
+or_swap true true c = refl
+or_swap true false c = refl
+or_swap false b c = refl
+
+-- it has the text that was put in, and those that it had
+pub has_inserted : (keys : List (Vec ℕ Global)) (key : Vec ℕ Global) (text : List ℕ)
+    → list_any (λ k. same_text text k.items) (insert_key (λ x y. slice_cmp nat_cmp x.items y.items) keys key)
+    ≡ (same_text text key.items || list_any (λ k. same_text text k.items) keys)
+has_inserted [] key text = refl
+has_inserted (one ∷ keys) key text =
+    by_order (slice_cmp nat_cmp key.items one.items) refl (has_inserted keys key text)
+  where
+    by_order : (o : Ordering) → slice_cmp nat_cmp key.items one.items ≡ o
+        → list_any (λ k. same_text text k.items) (insert_key (λ x y. slice_cmp nat_cmp x.items y.items) keys key)
+        ≡ (same_text text key.items || list_any (λ k. same_text text k.items) keys)
+        → list_any (λ k. same_text text k.items) (match_ordering o (key ∷ one ∷ keys) (one ∷ keys)
+        (one ∷ insert_key (λ x y. slice_cmp nat_cmp x.items y.items) keys key))
+        ≡ (same_text text key.items || (same_text text one.items || list_any (λ k. same_text text k.items) keys))
+    by_order Less is later = refl
+    by_order Equal is later =
+        or_twice (same_text text one.items) (list_any (λ k. same_text text k.items) keys)
+        ∙ ap (λ items. same_text text items || (same_text text one.items || list_any (λ k. same_text text k.items) keys)) (sym (exact_bytes key.items one.items is))
+    by_order Greater is later =
+        ap (λ b. same_text text one.items || b) later ∙ or_swap (same_text text one.items) (same_text text key.items)
+        (list_any (λ k. same_text text k.items) keys)

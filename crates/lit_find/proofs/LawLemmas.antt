@@ -1,5 +1,5 @@
 -- A file has one test: its path tells the suite, and the rest of the path below the suite's root.
-use Rattle.std.proofs.Common.{◌≡◌, ◌++◌, length, drop, Some, None, sym, ap, ◌∙◌, subst}
+use Rattle.std.proofs.Common.{◌≡◌, ◌++◌, length, drop, Some, sym, ap, ◌∙◌, subst}
 use Rattle.std.proofs.Math.Seq.{drop-append_seam}
 use Rattle.tt_outside.specs.declared.test_data.Test.{Test}
 use Rattle.tt_outside.proofs.EqualLemmas.{equal_tests}
@@ -18,9 +18,6 @@ made_once root suite below one other made again =
     (made.features ∙ sym again.features) (made.substitutions ∙ sym again.substitutions) (made.tools ∙ sym again.tools)
     (made.environment ∙ sym again.environment)
 
-same_root : (one other : Rooted) → Some one ≡ Some other → one ≡ other
-same_root one other same = ap (λ o. elim o [ Some root ↦ root | None ↦ one ]) same
-
 same_rest : (root below rest : Parts) → root ++ below ≡ root ++ rest → below ≡ rest
 same_rest root below rest same =
     sym (drop-append_seam root below) ∙ ap (drop (length root)) same ∙ drop-append_seam root rest
@@ -29,8 +26,9 @@ pub one_test : IsOneTest
 one_test nodes words others one other first second same =
     let path = texts_tell_paths (first.rooted.root ++ first.below) (second.rooted.root ++ second.below) first.parts
     second.parts (sym first.made.file ∙ same ∙ second.made.file) in
-    let rooted = same_root first.rooted second.rooted
-    (sym first.suite ∙ ap (λ x. nearest nodes (dir_of x)) path ∙ second.suite) in
+    let both : Some first.rooted ≡ Some second.rooted =
+    sym first.suite ∙ ap (λ x. nearest nodes (dir_of x)) path ∙ second.suite in
+    let rooted : first.rooted ≡ second.rooted = cc in
     let below = same_rest second.rooted.root first.below second.below
     (ap (λ (x : Rooted). x.root ++ first.below) (sym rooted) ∙ path) in
     made_once second.rooted.root second.rooted.suite second.below one other

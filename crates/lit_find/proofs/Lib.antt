@@ -7,6 +7,5 @@ pub mod PathLemmas
 pub mod PlaceLemmas
 pub mod RoomLemmas
 pub mod SortLemmas
-pub mod StateLemmas
 pub mod VisitLemmas
 pub mod WordLemmas

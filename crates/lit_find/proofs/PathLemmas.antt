@@ -1,22 +1,19 @@
 -- Paths and their texts, and what is reached from a directory, part by part.
 -- Idea: a way to a directory goes on from a directory that was walked through, or one on it is still to be.
 -- The hard one is `reached`.
-use Rattle.std.proofs.Common.{◌≡◌, ◌≢◌, ℕ, Bool, true, false, not, ◌&&◌, List, [], ◌∷◌, ◌++◌, refl, sym, ap, ◌∙◌, append_assoc, ◌-◌, ◌⊎◌, inl, inr, length, take, subst, append-nil, arith, length-append}
+use Rattle.std.proofs.Common.{◌≡◌, ◌≢◌, ℕ, true, ◌&&◌, List, [], ◌∷◌, ◌++◌, refl, sym, ap, ◌∙◌, append_assoc, ◌-◌, ◌⊎◌, inl, inr, length, take, subst, append-nil, arith, length-append}
 use Rattle.std.specs.List.{list_all}
-use Rattle.std.proofs.lemmas.List.{take-append-le}
 use Rattle.std.proofs.lemmas.List.Folds.{list_all-append}
+use Rattle.std.proofs.Math.Seq.{take-append_seam}
 use Rattle.tt_outside.specs.TreeMap.{is_part}
+use Rattle.tt_outside.specs.declared.tree.ItemKind.TheVariants.{Dir}
+use Rattle.tt_outside.specs.declared.tree.Node.{Node}
 use Rattle.lit_paths.specs.Paths.{Parts, dir_of, path_in, slashed, text_of}
 use Rattle.lit_paths.proofs.LawLemmas.{path_in_text_of}
-use Rattle.lit_dirs.specs.Passing.{has_suffix, is_passed}
-use Rattle.lit_dirs.proofs.MadeLemmas.{text_of_name}
-use Rattle.lit_suite.specs.declared.suite_file.Suite.{Suite}
-use Rattle.tt_outside.specs.declared.tree.Item.{Item}
-use Rattle.tt_outside.specs.declared.tree.ItemKind.TheVariants.{File}
-use Rattle.tt_outside.specs.declared.tree.Node.{Node}
 use Rattle.lit_paths.proofs.PartLemmas.{and_both, and_left, and_right}
-use Rattle.lit_find.specs.Discovery.{IsDirIn, IsWalked, IsWay}
-use Rattle.lit_find.specs.Sorting.{is_file, is_kept, text_in}
+use Rattle.lit_dirs.proofs.MadeLemmas.{text_of_name}
+use Rattle.lit_look.specs.Suites.{LiesIn}
+use Rattle.lit_find.specs.Discovery.{IsIn, IsWalked, IsWay}
 
 -- the path in the text of one that isn't `/`
 pub path_in_word : (word : Parts) → list_all is_part word ≡ true → word ≢ [] → path_in (text_of word) ≡ word
@@ -32,13 +29,6 @@ pub name_text : (dir : Parts) (front name : List ℕ) → front ≡ slashed dir 
     → front ++ name ≡ text_of (dir ++ name ∷ [])
 name_text dir front name is =
     ap (λ xs. xs ++ name) is ∙ append_assoc (slashed dir) (47 ∷ []) name ∙ sym (text_of_name dir name)
-
--- what becomes of a file that is listed
-pub kept_is : (suite : Suite) (dir : Parts) (item : Item) (text : List ℕ) (b : Bool) → text ≡ text_in dir item
-    → is_passed suite item.name ≡ false → item.kind ≡ File → (has_suffix suite text && is_part item.name) ≡ b
-    → is_kept suite dir item ≡ b
-kept_is suite dir item text b is open_here file ends =
-    (λ i. not (open_here i) && (is_file (file i) && (has_suffix suite (sym is i) && is_part item.name))) ∙ ends
 
 -- ---- paths
 
@@ -60,35 +50,39 @@ last_part dir part h = and_left (is_part part) true (parts_right dir (part ∷ [
 pub dir_of_push : (dir : Parts) (part : List ℕ) → dir_of (dir ++ part ∷ []) ≡ dir
 dir_of_push dir part =
     let e : length (dir ++ part ∷ []) - 1 ≡ length dir = omega (arith, length-append dir (part ∷ [])) in
-    ap (λ n. take n (dir ++ part ∷ [])) e ∙ take-append-le (length dir) dir (part ∷ []) (omega arith) ∙ take_all dir
-  where
-    take_all : (xs : Parts) → take (length xs) xs ≡ xs
-    take_all [] = refl
-    take_all (x ∷ xs) = ap (λ ys. x ∷ ys) (take_all xs)
+    ap (λ n. take n (dir ++ part ∷ [])) e ∙ take-append_seam dir (part ∷ [])
+
+-- what a directory below another has in it lies below that one
+abbrev pub lies_push : (root dir : Parts) (part : List ℕ) → LiesIn root dir → is_part part ≡ true → LiesIn root (dir ++ part ∷ [])
+lies_push root dir part lies named = record {
+  rest = lies.rest ++ part ∷ [];
+  is = ap (λ path. path ++ part ∷ []) lies.is ∙ append_assoc root lies.rest (part ∷ []);
+  parts = parts_push dir part lies.parts named;
+}
 
 -- ---- ways
 
 way_push : (nodes : List Node) (dir rest : Parts) (part : List ℕ) → IsWay nodes dir rest
-    → IsDirIn nodes (dir ++ rest) part → IsWay nodes dir (rest ++ part ∷ [])
-way_push nodes dir [] part way inside = (subst (λ path. IsDirIn nodes path part) (append-nil dir) inside, tt)
+    → IsIn nodes Dir (dir ++ rest) part → IsWay nodes dir (rest ++ part ∷ [])
+way_push nodes dir [] part way inside = (subst (λ path. IsIn nodes Dir path part) (append-nil dir) inside, tt)
 way_push nodes dir (one ∷ rest) part way inside = (
   way.0,
   way_push nodes (dir ++ one ∷ []) rest part way.1
-      (subst (λ path. IsDirIn nodes path part) (sym (append_assoc dir (one ∷ []) rest)) inside),
+      (subst (λ path. IsIn nodes Dir path part) (sym (append_assoc dir (one ∷ []) rest)) inside),
 )
 
 pub walked_below : (nodes : List Node) (word dir : Parts) (part : List ℕ) → IsWalked nodes word dir
-    → IsDirIn nodes dir part → IsWalked nodes word (dir ++ part ∷ [])
+    → IsIn nodes Dir dir part → IsWalked nodes word (dir ++ part ∷ [])
 walked_below nodes word dir part walked inside = record {
   rest = walked.rest ++ part ∷ [];
   behind = ap (λ path. path ++ part ∷ []) walked.behind ∙ append_assoc word walked.rest (part ∷ []);
   from_dir = walked.from_dir;
-  way = way_push nodes word walked.rest part walked.way (subst (λ path. IsDirIn nodes path part) walked.behind inside);
+  way = way_push nodes word walked.rest part walked.way (subst (λ path. IsIn nodes Dir path part) walked.behind inside);
 }
 
 -- a directory is reached, or one above it is still to be walked through
 pub reached : (nodes : List Node) (W P : Parts → Type 0)
-    → ((dir : Parts) (part : List ℕ) → W dir → IsDirIn nodes dir part → W (dir ++ part ∷ []) ⊎ P (dir ++ part ∷ []))
+    → ((dir : Parts) (part : List ℕ) → W dir → IsIn nodes Dir dir part → W (dir ++ part ∷ []) ⊎ P (dir ++ part ∷ []))
     → (dir rest : Parts) → IsWay nodes dir rest → W dir ⊎ P dir
     → W (dir ++ rest) ⊎ ((front below : Parts) × (dir ++ rest ≡ front ++ below) × P front)
 reached nodes W P closed dir [] way (inl w) = inl (subst W (sym (append-nil dir)) w)

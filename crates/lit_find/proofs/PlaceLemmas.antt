@@ -1,26 +1,30 @@
--- What lists of places and files have behind one that is put in, and behind what a directory lists.
+-- What lists of places have behind one that is put in, and what a walk has behind what a directory lists.
 -- By induction over the list, and over the items: what was there stays, and what an item makes is there.
 -- The hard one is `put_has`.
-use Rattle.std.proofs.Common.{◌≡◌, ◌+◌, ◌≤◌, Bool, true, false, cond, ◌⊎◌, inl, inr, List, [], ◌∷◌, ◌++◌, length, map, All, refl, sym, ap, ◌∙◌, subst, arith}
+use Rattle.std.proofs.Common.{◌≡◌, ◌+◌, ◌≤◌, Bool, true, false, cond, ◌⊎◌, inl, inr, List, [], ◌∷◌, ◌++◌, length, map, All, Result, Ok, Err, OnOk, OnErr, refl, sym, ap, ◌∙◌, subst, arith}
+use Rattle.std.specs.Prelude.{⊤}
 use Rattle.std.specs.BTreeMap.{insert_entry}
 use Rattle.std.specs.List.{Contains}
 use Rattle.std.specs.Ordering.{match_ordering}
 use Rattle.std.specs.declared.cmp.Ordering.{Ordering}
 use Rattle.std.specs.declared.cmp.Ordering.TheVariants.{Less, Equal, Greater}
-use Rattle.std.proofs.lemmas.List.{map_push}
-use Rattle.std.proofs.lemmas.List.Elements.{All-cons, All-head, All-push, All-tail, Contains-append_left, Contains-push}
+use Rattle.std.proofs.lemmas.List.Elements.{All-cons, All-head, All-push, All-same, All-tail}
+use Rattle.tt_outside.specs.declared.test_data.Test.{Test}
 use Rattle.tt_outside.specs.declared.tree.Item.{Item}
+use Rattle.tt_outside.specs.declared.tree.ItemKind.{ItemKind}
+use Rattle.tt_outside.specs.declared.tree.ItemKind.TheVariants.{Dir, File, Other}
 use Rattle.lit_look.specs.declared.root.SuiteRoot.{SuiteRoot}
-use Rattle.lit_look.proofs.ListLemmas.{cons_cases, first_in, later_in, none_in}
+use Rattle.lit_look.proofs.ListLemmas.{cons_cases, first_in, later_in, none_in, push_has}
 use Rattle.lit_paths.specs.Paths.{Parts, text_of}
+use Rattle.lit_find.specs.Files.{test_in}
 use Rattle.lit_find.specs.Places.{IsInside, path_order, place_of_entry, put}
-use Rattle.lit_find.specs.Sorting.{file_of, is_entered, is_kept, place_of, put_file, put_place, with_dir, with_dirs, with_each, with_files}
-use Rattle.lit_find.specs.Walk.{HasFile, HasPath}
-use Rattle.lit_find.specs.declared.place.TestFile.{TestFile}
+use Rattle.lit_find.specs.Sorting.{is_kept, with_item, with_items, with_path}
+use Rattle.lit_find.specs.Walk.{HasPath, IsDone}
 use Rattle.lit_find.specs.declared.place.Place.{Place}
+use Rattle.lit_find.specs.declared.walk.Walk.{Walk}
 use Rattle.lit_find.proofs.KeyLemmas.{Key, exact_parts, inserted, vec_cmp}
 
--- ---- one more
+-- ---- one more place
 
 -- what holds of each place and of one more
 pub all_put : (P : Place → Type 0) (place : Place) (places : List Place) → P place → All P places
@@ -35,12 +39,17 @@ all_put P place (one ∷ places) p all =
     by_order Equal later = All-cons P place places p (All-tail P one places all)
     by_order Greater later = All-cons P one (put path_order place places) (All-head P one places all) later
 
-pub inside_put : (entries : List (Key × SuiteRoot)) (key : Key) (suite : SuiteRoot) → IsInside (place_of_entry (key, suite))
-    → All IsInside (map place_of_entry entries)
-    → All IsInside (map place_of_entry (insert_entry vec_cmp entries key suite))
-inside_put entries key suite here all =
-    subst (All IsInside) (sym (inserted entries key suite))
-    (all_put IsInside (place_of_entry (key, suite)) (map place_of_entry entries) here all)
+-- what holds of the places of keys holds behind a call that put one in, or was refused
+pub put_inside : {A E : Type 0} (old new : List (Key × SuiteRoot)) (key : Key) (suite : SuiteRoot) (result : Result A E)
+    → OnOk result (new ≡ insert_entry vec_cmp old key suite) → OnErr result (new ≡ old)
+    → IsInside (place_of_entry (key, suite)) → All IsInside (map place_of_entry old)
+    → All IsInside (map place_of_entry new)
+put_inside old new key suite (Ok done) is same one all =
+    All-same IsInside (map place_of_entry new) (put path_order (place_of_entry (key, suite)) (map place_of_entry old))
+    (ap (map place_of_entry) is ∙ inserted old key suite)
+    (all_put IsInside (place_of_entry (key, suite)) (map place_of_entry old) one all)
+put_inside old new key suite (Err why) is same one all =
+    All-same IsInside (map place_of_entry new) (map place_of_entry old) (ap (map place_of_entry) same) all
 
 here : (places : List Place) (place : Place) (path : Parts) → path ≡ place.path → HasPath (place ∷ places) path
 here places place path is =
@@ -85,93 +94,104 @@ put_length place (one ∷ places) = by_order (path_order place one) (put_length 
     by_order Equal later = omega arith
     by_order Greater later = omega arith
 
--- the same of files
-pub file_has : (file : TestFile) (files : List TestFile) (path : Parts) → (text_of path ≡ file.path) ⊎ HasFile files path
-    → HasFile (files ++ file ∷ []) path
-file_has file files path h =
-    subst (λ texts. Contains texts (text_of path)) (sym (map_push (λ one. one.path) files file)) (elim h [
-      | inl is ↦ subst (λ text. Contains (map (λ one. one.path) files ++ file.path ∷ []) text) (sym is)
-          (Contains-push (map (λ one. one.path) files) file.path)
-      | inr had ↦ Contains-append_left (map (λ one. one.path) files) (file.path ∷ []) (text_of path) had
-    ])
+-- ---- one more path
 
--- ---- steps
+-- what is done stays done
+pub done_keeps : (root : SuiteRoot) (kind : ItemKind) (path : Parts) (asked : ItemKind) (one : Parts) (walk : Walk)
+    → IsDone walk asked one → IsDone (with_path root kind path walk) asked one
+done_keeps root kind path Other one walk done = tt
+done_keeps root Dir path Dir one walk (inl was) = inl was
+done_keeps root Dir path Dir one walk (inr had) =
+    inr (put_has (record { path = path; suite = root }) walk.pending one (inr had))
+done_keeps root Dir path File one walk had = had
+done_keeps root File path Dir one walk done = done
+done_keeps root File path File one walk had =
+    push_has (λ test. test.path) walk.found (test_in (record { path = text_of path; suite = root })) (text_of one) (inl had)
+done_keeps root Other path Dir one walk done = done
+done_keeps root Other path File one walk had = had
 
-module _ {A B : Type 0} (test : A → Bool) (step : A → B → B) where
-  -- what each step keeps
-  each_holds : (I : B → Type 0) (items : List A) (from : B)
-      → ((item : A) (now : B) → Contains items item → test item ≡ true → I now → I (step item now)) → I from
-      → I (with_each test step items from)
-  each_holds I [] from keeps i = i
-  each_holds I (item ∷ items) from keeps i =
-      each_holds I items (cond (test item) (step item from) from)
-      (λ one now within. keeps one now (later_in item one items within)) (by_test (test item) refl)
-    where
-      by_test : (b : Bool) → test item ≡ b → I (cond b (step item from) from)
-      by_test true is = keeps item from (first_in item items) is i
-      by_test false is = i
+pub done_now : (root : SuiteRoot) (kind : ItemKind) (path : Parts) (walk : Walk)
+    → IsDone (with_path root kind path walk) kind path
+done_now root Dir path walk = inr (put_has (record { path = path; suite = root }) walk.pending path (inl refl))
+done_now root File path walk =
+    push_has (λ test. test.path) walk.found (test_in (record { path = text_of path; suite = root })) (text_of path)
+    (inr refl)
+done_now root Other path walk = tt
 
-  -- what the step of one item brings, and each keeps
-  each_has : (I : B → Type 0) (items : List A) (from : B) (item : A) → Contains items item → test item ≡ true
-      → ((now : B) → I (step item now)) → ((other : A) (now : B) → I now → I (step other now))
-      → I (with_each test step items from)
-  each_has I [] from item within passes brings keeps = absurd (none_in item within)
-  each_has I (one ∷ items) from item within passes brings keeps = elim (cons_cases one item items within) [
-    | inl same ↦ each_holds I items (cond (test one) (step one from) from) (λ other now among is. keeps other now)
-        (subst (λ b. I (cond b (step one from) from)) (sym (ap test (sym same) ∙ passes))
-        (subst (λ x. I (step x from)) same (brings from)))
-    | inr later ↦ each_has I items (cond (test one) (step one from) from) item later passes brings keeps
-  ]
+-- what holds of the place of a directory, and of the test of a file
+abbrev pub Fits : (Place → Type 0) → (Test → Type 0) → SuiteRoot → ItemKind → Parts → Type 0
+Fits P Q root Dir path = P (record { path = path; suite = root })
+Fits P Q root File path = Q (test_in (record { path = text_of path; suite = root }))
+Fits P Q root Other path = ⊤
+
+abbrev pub AllFit : (Place → Type 0) → (Test → Type 0) → Walk → Type 0
+AllFit P Q walk = All P walk.pending × All Q walk.found
+
+one_fits : (P : Place → Type 0) (Q : Test → Type 0) (root : SuiteRoot) (kind : ItemKind) (path : Parts) (walk : Walk)
+    → Fits P Q root kind path → AllFit P Q walk → AllFit P Q (with_path root kind path walk)
+one_fits P Q root Dir path walk fits all =
+    (all_put P (record { path = path; suite = root }) walk.pending fits all.0, all.1)
+one_fits P Q root File path walk fits all =
+    (all.0, All-push Q walk.found (test_in (record { path = text_of path; suite = root })) all.1 fits)
+one_fits P Q root Other path walk fits all = all
+
+path_length : (root : SuiteRoot) (kind : ItemKind) (path : Parts) (walk : Walk)
+    → length (with_path root kind path walk).pending ≤ length walk.pending + 1
+path_length root Dir path walk = put_length (record { path = path; suite = root }) walk.pending
+path_length root File path walk = omega arith
+path_length root Other path walk = omega arith
 
 -- ---- what a directory lists
 
 module _ (root : SuiteRoot) (dir : Parts) where
-  -- what holds of each place, and of each that an item makes
-  pub all_dirs : (P : Place → Type 0) (items : List Item) (places : List Place)
-      → ((item : Item) → Contains items item → is_entered root.suite item ≡ true → P (place_of root dir item))
-      → All P places → All P (with_dirs root dir items places)
-  all_dirs P items places each all =
-      each_holds (is_entered root.suite) (put_place root dir) (All P) items places
-      (λ item now within is. all_put P (place_of root dir item) now (each item within is)) all
+  -- what each item that is kept leaves
+  items_keep : (I : Walk → Type 0) (items : List Item) (walk : Walk)
+      → ((item : Item) (now : Walk) → Contains items item → is_kept root dir item ≡ true → I now
+      → I (with_path root item.kind (dir ++ item.name ∷ []) now)) → I walk → I (with_items root dir walk items)
+  items_keep I [] walk keeps i = i
+  items_keep I (item ∷ items) walk keeps i =
+      items_keep I items (with_item root dir walk item)
+      (λ one now within. keeps one now (later_in item one items within)) (by_test (is_kept root dir item) refl)
+    where
+      by_test : (b : Bool) → is_kept root dir item ≡ b
+          → I (cond b (with_path root item.kind (dir ++ item.name ∷ []) walk) walk)
+      by_test true is = keeps item walk (first_in item items) is i
+      by_test false is = i
 
-  pub all_files : (P : TestFile → Type 0) (items : List Item) (files : List TestFile)
-      → ((item : Item) → Contains items item → is_kept root.suite dir item ≡ true → P (file_of root dir item))
-      → All P files → All P (with_files root dir items files)
-  all_files P items files each all =
-      each_holds (is_kept root.suite dir) (put_file root dir) (All P) items files
-      (λ item now within is holds. All-push P now (file_of root dir item) holds (each item within is)) all
+  pub done_still : (items : List Item) (walk : Walk) (kind : ItemKind) (path : Parts) → IsDone walk kind path
+      → IsDone (with_items root dir walk items) kind path
+  done_still items walk kind path done =
+      items_keep (λ now. IsDone now kind path) items walk
+      (λ item now within kept was. done_keeps root item.kind (dir ++ item.name ∷ []) kind path now was) done
 
-  -- the paths that were there, and those of the items
-  pub dirs_have : (items : List Item) (places : List Place) (path : Parts)
-      → ((item : Item) × Contains items item × (is_entered root.suite item ≡ true) × (path ≡ dir ++ item.name ∷ []))
-      ⊎ HasPath places path → HasPath (with_dirs root dir items places) path
-  dirs_have items places path (inl (item, within, entered, is)) =
-      each_has (is_entered root.suite) (put_place root dir) (λ now. HasPath now path) items places item within entered
-      (λ now. put_has (place_of root dir item) now path (inl is))
-      (λ other now had. put_has (place_of root dir other) now path (inr had))
-  dirs_have items places path (inr had) =
-      each_holds (is_entered root.suite) (put_place root dir) (λ now. HasPath now path) items places
-      (λ item now within is had. put_has (place_of root dir item) now path (inr had)) had
+  -- what an item that is kept brings
+  pub done_items : (items : List Item) (walk : Walk) (item : Item) → Contains items item → is_kept root dir item ≡ true
+      → IsDone (with_items root dir walk items) item.kind (dir ++ item.name ∷ [])
+  done_items [] walk item within kept = absurd (none_in item within)
+  done_items (one ∷ items) walk item within kept = elim (cons_cases one item items within) [
+    | inl same ↦ done_still items (with_item root dir walk one) item.kind (dir ++ item.name ∷ [])
+        (subst (λ x. IsDone (with_item root dir walk x) item.kind (dir ++ item.name ∷ [])) same
+        (subst (λ b. IsDone (cond b (with_path root item.kind (dir ++ item.name ∷ []) walk) walk) item.kind
+        (dir ++ item.name ∷ [])) (sym kept) (done_now root item.kind (dir ++ item.name ∷ []) walk)))
+    | inr later ↦ done_items items (with_item root dir walk one) item later kept
+  ]
 
-  pub files_have : (items : List Item) (files : List TestFile) (path : Parts)
-      → ((item : Item) × Contains items item × (is_kept root.suite dir item ≡ true) × (path ≡ dir ++ item.name ∷ []))
-      ⊎ HasFile files path → HasFile (with_files root dir items files) path
-  files_have items files path (inl (item, within, kept, is)) =
-      each_has (is_kept root.suite dir) (put_file root dir) (λ now. HasFile now path) items files item within kept
-      (λ now. file_has (file_of root dir item) now path (inl (ap text_of is)))
-      (λ other now had. file_has (file_of root dir other) now path (inr had))
-  files_have items files path (inr had) =
-      each_holds (is_kept root.suite dir) (put_file root dir) (λ now. HasFile now path) items files
-      (λ item now within is had. file_has (file_of root dir item) now path (inr had)) had
+  pub all_fit : (P : Place → Type 0) (Q : Test → Type 0) (items : List Item) (walk : Walk)
+      → ((item : Item) → Contains items item → is_kept root dir item ≡ true
+      → Fits P Q root item.kind (dir ++ item.name ∷ [])) → AllFit P Q walk → AllFit P Q (with_items root dir walk items)
+  all_fit P Q items walk each all =
+      items_keep (AllFit P Q) items walk
+      (λ item now within kept. one_fits P Q root item.kind (dir ++ item.name ∷ []) now (each item within kept)) all
 
-  pub dirs_length : (items : List Item) (places : List Place)
-      → length (with_dirs root dir items places) ≤ length places + length items
-  dirs_length [] places = omega arith
-  dirs_length (item ∷ items) places =
-      let later = dirs_length items (with_dir root dir item places) in
-      let one = by_test (is_entered root.suite item) in
+  pub items_length : (items : List Item) (walk : Walk)
+      → length (with_items root dir walk items).pending ≤ length walk.pending + length items
+  items_length [] walk = omega arith
+  items_length (item ∷ items) walk =
+      let later = items_length items (with_item root dir walk item) in
+      let one = by_test (is_kept root dir item) in
       omega arith
     where
-      by_test : (b : Bool) → length (cond b (put_place root dir item places) places) ≤ length places + 1
-      by_test true = put_length (place_of root dir item) places
+      by_test : (b : Bool)
+          → length (cond b (with_path root item.kind (dir ++ item.name ∷ []) walk) walk).pending ≤ length walk.pending + 1
+      by_test true = path_length root item.kind (dir ++ item.name ∷ []) walk
       by_test false = omega arith

@@ -1,7 +1,7 @@
--- Files in byte order of their paths, each once.
+-- Tests in byte order of their paths, each path once.
 -- Idea: files that are sorted and of which equal neighbours are dropped ascend, and have the paths that there were.
 -- The hard one is `in_order`.
-use Rattle.std.proofs.Common.{◌≡◌, Bool, true, List, [], ◌∷◌, map, All, refl, sym}
+use Rattle.std.proofs.Common.{◌≡◌, Bool, true, List, [], ◌∷◌, map, refl, sym}
 use Rattle.std.specs.List.{Any, Contains, dedup}
 use Rattle.std.specs.List.Sorted.{IsPermutation, IsSortedBy, IsStrictlySortedBy}
 use Rattle.std.specs.List.{AllByRecursion}
@@ -15,10 +15,10 @@ use Rattle.std.proofs.lemmas.List.Filters.{All-dedup}
 use Rattle.std.proofs.lemmas.List.Kept.{Any-dedup, IsStrictlySortedBy-dedup}
 use Rattle.std.proofs.lemmas.List.Sorted.{All-permutation, Contains-permutation}
 use Rattle.std.proofs.lemmas.Map.Lookups.{exact_bytes}
-use Rattle.lit_find.specs.Files.{IsFiled, test_in}
+use Rattle.std.proofs.lemmas.Map.Views.{tells_apart}
+use Rattle.lit_find.specs.Files.{test_in}
 use Rattle.lit_find.specs.Found.{IsInOrder}
 use Rattle.lit_find.specs.declared.place.TestFile.{TestFile}
-use Rattle.lit_look.proofs.IndexLemmas.{is_equal}
 use Rattle.lit_look.proofs.ListLemmas.{any_one, contains_map, its_one}
 
 abbrev pub file_cmp : TestFile → TestFile → Ordering
@@ -38,29 +38,23 @@ unfolding IsStrictlySortedBy
 sorted_mapped f cmp [] sorted = tt
 sorted_mapped f cmp (x ∷ xs) (below, rest) = (below_mapped f cmp x xs below, sorted_mapped f cmp xs rest)
 
-pub all_filed : (files sorted : List TestFile) → IsPermutation files sorted → All IsFiled files
-    → All IsFiled (dedup same_path sorted)
-all_filed files sorted moved filed =
-    All-dedup same_path IsFiled sorted (All-permutation IsFiled files sorted moved filed)
-
 pub in_order : (files sorted : List TestFile) → IsPermutation files sorted
-    → IsSortedBy (λ one other. is_lt (file_cmp one other)) sorted → All IsFiled files
-    → IsInOrder files (map test_in (dedup same_path sorted))
-in_order files sorted moved up filed = record {
+    → IsSortedBy (λ one other. is_lt (file_cmp one other)) sorted
+    → IsInOrder (map test_in files) (map test_in (dedup same_path sorted))
+in_order files sorted moved up = record {
   ascending = sorted_mapped (λ test. test.path) (slice_cmp nat_cmp) (map test_in ordered)
       (sorted_mapped test_in (λ one other. slice_cmp nat_cmp one.path other.path) ordered
       (IsStrictlySortedBy-dedup {R = file_cmp} (on_texts (λ file. file.path)) (λ one other. refl) sorted up));
-  right = All-map (λ test. Any (λ file. IsFiled file × (test ≡ test_in file)) files) test_in ordered
-      (All-weaker (λ file. Contains files file × IsFiled file)
-      (λ one. Any (λ file. IsFiled file × (test_in one ≡ test_in file)) files)
-      (λ one is. any_one (λ file. IsFiled file × (test_in one ≡ test_in file)) files one is.0 (is.1, refl)) ordered
-      (All-dedup same_path (λ file. Contains files file × IsFiled file) sorted
-      (All-permutation (λ file. Contains files file × IsFiled file) files sorted moved
-      (λ k d within. (All-contains_itself files k d within, filed k d within)))));
-  whole = All-weaker (Contains files) (λ file. Any (λ test. test.path ≡ file.path) (map test_in ordered))
+  right = All-map (Contains (map test_in files)) test_in ordered
+      (All-dedup same_path (λ file. Contains (map test_in files) (test_in file)) sorted
+      (All-permutation (λ file. Contains (map test_in files) (test_in file)) files sorted moved
+      (All-weaker (Contains files) (λ file. Contains (map test_in files) (test_in file)) (contains_map test_in files) files
+      (All-contains_itself files))));
+  whole = All-map (λ one. Any (λ test. test.path ≡ one.path) (map test_in ordered)) test_in files
+      (All-weaker (Contains files) (λ file. Any (λ test. test.path ≡ file.path) (map test_in ordered))
       (λ file within. kept file (its_one (λ other. same_path file other ≡ true) ordered
       (Any-dedup (eq_by_cmp_equiv {R = file_cmp} (on_texts (λ one. one.path))) sorted file
-      (Contains-permutation files sorted file moved within)))) files (All-contains_itself files);
+      (Contains-permutation files sorted file moved within)))) files (All-contains_itself files));
 }
   where
     ordered : List TestFile
@@ -70,5 +64,4 @@ in_order files sorted moved up filed = record {
         → Any (λ test. test.path ≡ file.path) (map test_in ordered)
     kept file (other, within, same) =
         any_one (λ test. test.path ≡ file.path) (map test_in ordered) (test_in other)
-        (contains_map test_in ordered other within)
-        (sym (exact_bytes file.path other.path (is_equal (file_cmp file other) same)))
+        (contains_map test_in ordered other within) (sym (tells_apart exact_bytes file.path other.path same))

@@ -1,184 +1,288 @@
 -- What one directory of a walk gives, and what refuses it.
--- Idea: what was looked at in the walk stands before all that is to be walked through, so at a refusal just the directories
--- before it were. The hard one is `refused_here`.
-use Rattle.std.proofs.Common.{◌≡◌, ◌⊎◌, inl, inr, ℕ, Bool, true, false, List, [], ◌∷◌, ◌++◌, map, All, Some, Err, refl, sym, subst}
-use Rattle.std.specs.Prelude.{slice_get}
-use Rattle.std.specs.List.{Contains, list_all}
-use Rattle.std.proofs.lemmas.List.Elements.{All-contains, All-head, All-map, All-tail}
+-- Idea: of each directory that was walked through, those in it were begun, and its tests are found; both stay so. What was
+-- looked at in the walk stands before all that is to be walked through. The hard ones are `through_next` and `before_first`.
+use Rattle.std.proofs.Common.{◌≡◌, ℕ, Bool, true, false, ◌||◌, ◌⊎◌, inl, inr, List, [], ◌∷◌, ◌++◌, map, All, Result, Ok, Err, OnOk, refl, sym, ap, ◌∙◌, subst}
+use Rattle.std.proofs.lemmas.Bool.{both_ways, or_cases, or_left, or_right}
+use Rattle.std.proofs.lemmas.Cmp.{nat_list_cmp_total}
+use Rattle.std.proofs.lemmas.List.Elements.{All-contains, All-head, All-map, All-tail, All-weaker}
+use Rattle.std.proofs.lemmas.Map.Lookups.{exact_bytes}
+use Rattle.std.proofs.lemmas.Map.Views.{tells_apart}
+use Rattle.std.specs.BTreeSet.{BTreeSet}
+use Rattle.std.specs.Cmp.{eq_by_cmp_equiv}
+use Rattle.std.specs.List.{Contains}
+use Rattle.std.specs.Option.{unwrap_or}
+use Rattle.std.specs.Prelude.{Vec}
+use Rattle.std.specs.declared.alloc.Global.{Global}
+use Rattle.tt_outside.specs.declared.tree.Item.{Item}
+use Rattle.tt_outside.specs.declared.tree.ItemKind.{ItemKind}
+use Rattle.tt_outside.specs.declared.tree.ItemKind.TheVariants.{Dir, File, Other}
 use Rattle.tt_outside.specs.declared.tree.Node.{Node}
-use Rattle.tt_outside.specs.declared.tree.ItemKind.TheVariants.{Dir}
-use Rattle.tt_outside.specs.TreeMap.{is_part}
-use Rattle.lit_paths.specs.Paths.{Parts}
-use Rattle.lit_dirs.specs.Looks.{kind_of}
+use Rattle.lit_paths.specs.Paths.{Parts, text_of}
+use Rattle.lit_paths.proofs.LawLemmas.{texts_tell_paths}
 use Rattle.lit_dirs.specs.declared.fault.DiscoverFault.{DiscoverFault}
-use Rattle.lit_look.specs.Looks.{Extends, GivesLook, IsAbsent}
-use Rattle.lit_look.specs.Seen.{AreSeen, Has, Refuses}
+use Rattle.lit_look.specs.Looks.{GivesLook, IsAbsent}
+use Rattle.lit_look.specs.Seen.{AreSeen, Has, IsLook, RefusesNext}
+use Rattle.lit_look.specs.declared.root.SuiteRoot.{SuiteRoot}
 use Rattle.lit_look.specs.declared.seen.Looked.{Looked}
-use Rattle.lit_look.proofs.ListLemmas.{any_one, cons_cases}
-use Rattle.lit_look.proofs.SeenLemmas.{has_number, refused_behind, same_seen}
+use Rattle.lit_look.proofs.ListLemmas.{any_one, cons_cases, none_in}
+use Rattle.lit_look.proofs.SeenLemmas.{looks_of, same_seen}
 use Rattle.lit_look.proofs.TreeLemmas.{told}
-use Rattle.lit_find.specs.Discovery.{IsBelow, IsTest, IsTestIn, IsWalked}
+use Rattle.lit_find.specs.Discovery.{IsBelow, IsIn, IsWalked}
+use Rattle.lit_find.specs.Found.{IsRight}
 use Rattle.lit_find.specs.Places.{IsBefore}
 use Rattle.lit_find.specs.Refusals.{IsRefusedDown}
-use Rattle.lit_find.specs.Walk.{Enters, GivesWalk, HasPath, IsState, IsUnder, IsWalk, was_walked, with_first}
+use Rattle.lit_find.specs.Sorting.{with_items}
+use Rattle.lit_find.specs.Walk.{Enters, GivesWalk, HasPath, HasTest, IsAhead, IsDone, IsState, IsWalk, Walked, has_text, same_text, was_walked, with_first}
 use Rattle.lit_find.specs.declared.place.Place.{Place}
 use Rattle.lit_find.specs.declared.walk.Walk.{Walk}
+use Rattle.lit_find.proofs.InsideLemmas.{IsOf, ahead_in, is_of, item_in, its_item, right_in}
 use Rattle.lit_find.proofs.KeyLemmas.{before_before, before_below, none_before}
-use Rattle.lit_find.proofs.PathLemmas.{walked_below}
-use Rattle.lit_find.proofs.StateLemmas.{places_hold, reached_from, state_again, state_longer, state_through, through_of}
+use Rattle.lit_find.proofs.PathLemmas.{reached}
+use Rattle.lit_find.proofs.PlaceLemmas.{AllFit, Fits, all_fit, done_items, done_still}
 
--- ---- it is walked through
+-- ---- what is reached
 
-below_it : (one path : Parts) (part : List ℕ) → (one ≡ path) ⊎ IsBefore one path → IsBefore one (path ++ part ∷ [])
-below_it one path part (inl same) = subst (λ x. IsBefore x (path ++ part ∷ [])) (sym same) (before_below path part)
-below_it one path part (inr before) = before_before one path (path ++ part ∷ []) before (before_below path part)
+-- a directory that is walked through from a word was walked through, or one above it is still before the walk
+reached_from : {nodes : List Node} {words : List Parts} {walk : Walk} {word dir : Parts} → IsState nodes words walk
+    → Contains words word → IsWalked nodes word dir
+    → Walked walk dir ⊎ ((front below : Parts) × (dir ≡ front ++ below) × HasPath walk.pending front)
+reached_from {nodes = nodes} {walk = walk} {word = word} is within walked =
+    subst (λ path. Walked walk path ⊎ ((front below : Parts) × (path ≡ front ++ below) × HasPath walk.pending front))
+    (sym walked.behind)
+    (reached nodes (Walked walk) (HasPath walk.pending) (is.closed Dir) word walked.rest walked.way
+    (is.asked Dir word within walked.from_dir))
 
-test_below : (nodes : List Node) (words : List Parts) (word dir : Parts) (part : List ℕ) → Contains words word
-    → IsWalked nodes word dir → IsTestIn nodes dir part → IsTest nodes words (dir ++ part ∷ [])
-test_below nodes words word dir part one walked inside = (
-  inside.0.stands,
-  any_one (λ one. (dir ++ part ∷ [] ≡ one) ⊎ IsBelow nodes one (dir ++ part ∷ [])) words word one
-      (inr (record { dir = dir; part = part; is = refl; walked = walked; test = inside })),
-)
+pub all_reached : {nodes : List Node} {words : List Parts} {walk : Walk} {word dir : Parts} → IsState nodes words walk
+    → walk.pending ≡ [] → Contains words word → IsWalked nodes word dir → Walked walk dir
+all_reached is none within walked = elim (reached_from is within walked) [
+  | inl was ↦ was
+  | inr (front, below, same, has) ↦ absurd (none_in front (subst (λ places. HasPath places front) none has))
+]
 
-pub visited : (nodes : List Node) (words : List Parts) (word : Parts) (first old new : List Looked) (place : Place)
-    (number : ℕ) (looked : Looked) (before after : Walk) → IsWalk nodes words word first old (with_first place before)
-    → All (λ other. IsBefore place.path other.path) before.pending → Extends old new
-    → AreSeen nodes (λ one. Has old one ⊎ (one ≡ place.path)) new → slice_get new number ≡ Some looked
-    → looked.dir ≡ place.path → Enters looked number place.suite before after
-    → IsWalk nodes words word first new after
-visited nodes words word first old new place number looked before after is least longer looks at here enters =
-    by_test (was_walked before number) refl
-  where
-    rest : List Place
-    rest = before.pending
+-- ---- one directory of a walk
 
-    state : IsState nodes words new (with_first place before)
-    state = state_longer nodes words old new (with_first place before) is.state longer
-        (same_seen nodes (λ one. Has old one ⊎ (one ≡ place.path)) (Has new) new looks looks.whole looks.right)
+-- behind the first directory of a walk, which was walked through: what was done still is, and what it has in it; all that
+-- is ahead stands behind it
+record IsNext (nodes : List Node) (words : List Parts) (word : Parts) (place : Place) (old new : Walk) : Type 0 where
+  pub keeps : (kind : ItemKind) (path : Parts) → IsDone (with_first place old) kind path → IsDone new kind path
+  pub inside : (kind : ItemKind) (part : List ℕ) → IsIn nodes kind place.path part
+      → IsDone new kind (place.path ++ part ∷ [])
+  pub cases : (dir : Parts) → Walked new dir → Walked old dir ⊎ (dir ≡ place.path)
+  pub ahead : All (λ other. IsAhead nodes word other × IsBefore place.path other.path) new.pending
+  pub tests : All (IsRight nodes words) new.found
 
-    walked : IsWalked nodes word place.path
-    walked = All-head (λ other. IsWalked nodes word other.path) place before.pending is.right
+-- what was done still is, where the first directory was walked through
+first_done : (place : Place) (old new : Walk) → Walked new place.path
+    → ((path : Parts) → Walked old path → Walked new path)
+    → ((path : Parts) → HasPath old.pending path → HasPath new.pending path)
+    → ((path : Parts) → HasTest old.found path → HasTest new.found path) → (kind : ItemKind) (path : Parts)
+    → IsDone (with_first place old) kind path → IsDone new kind path
+first_done place old new here keeps waits finds Dir path (inl was) = inl (keeps path was)
+first_done place old new here keeps waits finds Dir path (inr had) =
+    elim (cons_cases place.path path (map (λ one. one.path) old.pending) had) [
+      | inl same ↦ inl (subst (Walked new) (sym same) here)
+      | inr later ↦ inr (waits path later)
+    ]
+first_done place old new here keeps waits finds File path had = finds path had
+first_done place old new here keeps waits finds Other path done = tt
 
-    -- what was looked at stands before the directory, or is it
-    looked_at : (dir : Parts) → Has new dir → Has first dir
-        ⊎ (IsWalked nodes word dir × ((dir ≡ place.path) ⊎ IsBefore dir place.path)
-        × All (λ other. IsBefore dir other.path) before.pending)
-    looked_at dir has = elim (looks.right dir has) [
+-- a directory that wasn't walked through yet is, by the text of its path
+pub entered : {A E : Type 0} {path : List ℕ} {all : Walk} (looked : Looked) (known : SuiteRoot) (old new : Walk)
+    (walked : BTreeSet (Vec ℕ Global)) (result : Result A E) → path ≡ text_of looked.dir → was_walked old path ≡ false
+    → ((text : List ℕ) → has_text walked text ≡ (same_text text path || was_walked old text)) → new.walked ≡ walked
+    → all ≡ with_items (unwrap_or looked.suite known) looked.dir
+    (record { found = old.found; walked = walked; pending = old.pending }) looked.items
+    → OnOk result (new ≡ all) → OnOk result (Enters looked known old new)
+entered looked known old new walked (Ok done) is fresh marks kept same sorted = record {
+  again = λ was. absurd (both_ways _ (ap (was_walked old) (sym is) ∙ fresh) was);
+  first = λ not_yet. record {
+    marked = λ text. ap (λ set. has_text set text) kept ∙ marks text
+        ∙ ap (λ one. same_text text one || was_walked old text) is;
+    sorted = sorted ∙ same ∙ ap (λ set. with_items (unwrap_or looked.suite known) looked.dir
+        (record { found = old.found; walked = set; pending = old.pending }) looked.items) (sym kept);
+  };
+}
+entered looked known old new walked (Err why) is fresh marks kept same sorted = tt
+
+module _ (nodes : List Node) (words : List Parts) (word : Parts) (first old : List Looked) (place : Place) (before : Walk)
+    (is : IsWalk nodes words word first old (with_first place before))
+    (least : All (λ other. IsBefore place.path other.path) before.pending) where
+  pub its_ahead : IsAhead nodes word place
+  its_ahead = All-head (IsAhead nodes word) place before.pending is.ahead
+
+  -- ---- it is walked through
+
+  abbrev Ahead : Place → Type 0
+  Ahead other = IsAhead nodes word other × IsBefore place.path other.path
+
+  rest : All Ahead before.pending
+  rest = λ k d within. (All-tail (IsAhead nodes word) place before.pending is.ahead k d within, least k d within)
+
+  again_next : Walked before place.path → IsNext nodes words word place before before
+  again_next done =
+      let keeps = first_done place before before done (λ path was. was) (λ path had. had) (λ path had. had) in
+      record {
+        keeps = keeps;
+        inside = λ kind part inside.
+            keeps kind (place.path ++ part ∷ []) (is.state.closed kind place.path part done inside);
+        cases = λ dir was. inl was;
+        ahead = rest;
+        tests = is.state.tests;
+      }
+
+  through_next : (items : List Item) (root : SuiteRoot) (new : Walk) → IsOf nodes place.path items root
+      → ((text : List ℕ) → was_walked new text ≡ (same_text text (text_of place.path) || was_walked before text))
+      → new ≡ with_items root place.path (record { found = before.found; walked = new.walked; pending = before.pending }) items
+      → IsNext nodes words word place before new
+  through_next items root new of marked sorted = record {
+    keeps = λ kind path done.
+        subst (λ walk. IsDone walk kind path) (sym sorted) (done_still root place.path items begun kind path
+        (first_done place before begun (
+          of.inside.parts,
+          marked (text_of place.path) ∙ or_left _ _ ((eq_by_cmp_equiv nat_list_cmp_total).refl (text_of place.path)),
+        )
+        (λ dir was. (was.0, marked (text_of dir) ∙ or_right (same_text (text_of dir) (text_of place.path)) _ was.1))
+        (λ dir had. had) (λ dir had. had) kind path done));
+    inside = λ kind part inside.
+        let (item, within, kept, named, its) = its_item nodes place.path items root of kind part inside in
+        subst (λ walk. IsDone walk kind (place.path ++ part ∷ [])) (sym sorted)
+        (subst (λ k. IsDone all k (place.path ++ part ∷ [])) its
+        (subst (λ name. IsDone all item.kind (place.path ++ name ∷ [])) named
+        (done_items root place.path items begun item within kept)));
+    cases = λ dir was. elim (or_cases (same_text (text_of dir) (text_of place.path)) (was_walked before (text_of dir))
+        (sym (marked (text_of dir)) ∙ was.1)) [
+          | inl same ↦ inr (texts_tell_paths dir place.path was.0 of.inside.parts
+              (tells_apart exact_bytes (text_of dir) (text_of place.path) same))
+          | inr had ↦ inl (was.0, had)
+        ];
+    ahead = fit.0;
+    tests = fit.1;
+  }
+    where
+      begun : Walk
+      begun = record { found = before.found; walked = new.walked; pending = before.pending }
+
+      all : Walk
+      all = with_items root place.path begun items
+
+      it_fits : (kind : ItemKind) (part : List ℕ) → IsIn nodes kind place.path part
+          → Fits Ahead (IsRight nodes words) root kind (place.path ++ part ∷ [])
+      it_fits Dir part inside =
+          (ahead_in nodes place.path items root of word part its_ahead.walked inside, before_below place.path part)
+      it_fits File part inside =
+          let path = place.path ++ part ∷ [] in
+          right_in nodes place.path items root of words part inside (
+            inside.stands,
+            any_one (λ one. (path ≡ one) ⊎ IsBelow nodes one path) words word is.one
+                (inr (record { dir = place.path; part = part; is = refl; walked = its_ahead.walked; test = inside })),
+          )
+      it_fits Other part inside = tt
+
+      fit : AllFit Ahead (IsRight nodes words) new
+      fit =
+          subst (AllFit Ahead (IsRight nodes words)) (sym sorted)
+          (all_fit root place.path Ahead (IsRight nodes words) items begun
+          (λ item within kept. it_fits item.kind item.name (item_in nodes place.path items root of item within kept))
+          (rest, is.state.tests))
+
+  next_walk : (new : List Looked) (after : Walk) → AreSeen nodes (λ one. Has old one ⊎ (one ≡ place.path)) new
+      → IsNext nodes words word place before after → IsWalk nodes words word first new after
+  next_walk new after looks next = record {
+    state = record {
+      tests = next.tests;
+      closed = λ kind dir part was inside. elim (next.cases dir was) [
+        | inl had ↦ next.keeps kind (dir ++ part ∷ []) (is.state.closed kind dir part had inside)
+        | inr same ↦ subst (λ one. IsDone after kind (one ++ part ∷ [])) (sym same)
+            (next.inside kind part (subst (λ one. IsIn nodes kind one part) same inside))
+      ];
+      asked = λ kind other within stands. next.keeps kind other (is.state.asked kind other within stands);
+    };
+    ahead = All-weaker Ahead (IsAhead nodes word) (λ other both. both.0) after.pending next.ahead;
+    looks = looks_of looks;
+    looked = λ dir was. elim (next.cases dir was) [
+      | inl had ↦ looks.whole dir (inl (is.looked dir had))
+      | inr same ↦ looks.whole dir (inr same)
+    ];
+    from = λ dir has. looks.whole dir (inl (is.from dir has));
+    new = λ dir has. elim (looks.right dir has) [
       | inl had ↦ elim (is.new dir had) [
         | inl early ↦ inl early
         | inr later ↦ inr (
           later.0,
-          inr (All-head (λ other. IsBefore dir other.path) place before.pending later.1),
-          All-tail (λ other. IsBefore dir other.path) place before.pending later.1,
+          all_before dir (λ other both.
+              before_before dir place.path other (All-head (λ one. IsBefore dir one.path) place before.pending later.1) both),
         )
       ]
       | inr same ↦ inr (
-        subst (IsWalked nodes word) (sym same) walked,
-        inl same,
-        subst (λ one. All (λ other. IsBefore one other.path) before.pending) (sym same) least,
+        subst (IsWalked nodes word) (sym same) its_ahead.walked,
+        all_before dir (λ other both. subst (λ one. IsBefore one other) (sym same) both),
       )
-    ]
+    ];
+    one = is.one;
+  }
+    where
+      all_before : (dir : Parts) → ((other : Parts) → IsBefore place.path other → IsBefore dir other)
+          → All (λ other. IsBefore dir other.path) after.pending
+      all_before dir each =
+          All-weaker Ahead (λ other. IsBefore dir other.path) (λ other both. each other.path both.1) after.pending next.ahead
 
-    by_test : (b : Bool) → was_walked before number ≡ b → IsWalk nodes words word first new after
-    by_test true was =
-        subst (IsWalk nodes words word first new) (sym (enters.again was)) (record {
-          state = state_again nodes words new place before state (number, (looked, at, here), was);
-          right = All-tail (λ other. IsWalked nodes word other.path) place before.pending is.right;
-          from = λ dir has. looks.whole dir (inl (is.from dir has));
-          new = λ dir has. elim (looked_at dir has) [
-            | inl early ↦ inl early
-            | inr later ↦ inr (later.0, later.2)
-          ];
-          one = is.one;
-          is_dir = is.is_dir;
-        })
-    by_test false was =
-        let t = through_of nodes words new number looked place before after state at here (enters.first was) in
-        let its = subst (IsWalked nodes word) (sym here) walked in
-        record {
-          state = state_through nodes new number looked place before after t words state
-              (λ part inside. test_below nodes words word looked.dir part is.one its inside);
-          right = places_hold nodes new number looked place before after t (λ other. IsWalked nodes word other.path)
-              (All-tail (λ other. IsWalked nodes word other.path) place before.pending is.right)
-              (λ part inside suite under. walked_below nodes word looked.dir part its inside);
-          from = λ dir has. looks.whole dir (inl (is.from dir has));
-          new = λ dir has. elim (looked_at dir has) [
-            | inl early ↦ inl early
-            | inr later ↦ inr (
-              later.0,
-              places_hold nodes new number looked place before after t (λ other. IsBefore dir other.path) later.2
-                  (λ part inside suite under. subst (λ x. IsBefore dir (x ++ part ∷ [])) (sym here)
-                  (below_it dir place.path part later.1)),
-            )
-          ];
-          one = is.one;
-          is_dir = is.is_dir;
-        }
+  pub visited : (new : List Looked) (looked : Looked) (after : Walk)
+      → AreSeen nodes (λ one. Has old one ⊎ (one ≡ place.path)) new → IsLook nodes looked → looked.dir ≡ place.path
+      → Enters looked place.suite before after → IsWalk nodes words word first new after
+  visited new looked after looks look here enters =
+      next_walk new after looks (by_test (was_walked before (text_of place.path)) refl)
+    where
+      at : Parts → Looked
+      at dir = record { dir = dir; items = looked.items; suite = looked.suite }
 
--- ---- it is refused
+      its : Enters (at place.path) place.suite before after
+      its = subst (λ dir. Enters (at dir) place.suite before after) here enters
 
-pub its_parts : (nodes : List Node) (words : List Parts) (word : Parts) (first old : List Looked) (place : Place)
-    (before : Walk) → IsWalk nodes words word first old (with_first place before) → list_all is_part place.path ≡ true
-its_parts nodes words word first old place before is =
-    (All-head (IsUnder nodes) place before.pending is.state.under).parts
+      by_test : (b : Bool) → was_walked before (text_of place.path) ≡ b → IsNext nodes words word place before after
+      by_test true was =
+          subst (IsNext nodes words word place before) (sym (its.again was)) (again_next (its_ahead.inside.parts, was))
+      by_test false was =
+          let through = its.first was in
+          through_next looked.items (unwrap_or looked.suite place.suite) after
+          (is_of nodes word place looked.items looked.suite its_ahead (subst (λ dir. IsLook nodes (at dir)) here look))
+          through.marked through.sorted
 
-pub is_dir : (nodes : List Node) (words : List Parts) (word : Parts) (first old : List Looked) (place : Place)
-    (before : Walk) → IsWalk nodes words word first old (with_first place before)
-    → kind_of nodes place.path ≡ Some Dir
-is_dir nodes words word first old place before is =
-    (All-head (IsUnder nodes) place before.pending is.state.under).is_dir
+  -- ---- it is refused
 
--- what stands before the first directory was looked at
-before_first : (nodes : List Node) (words : List Parts) (word : Parts) (first seen : List Looked) (place : Place)
-    (walk : Walk) → IsWalk nodes words word first seen (with_first place walk)
-    → All (λ other. IsBefore place.path other.path) walk.pending
-    → (dir : Parts) → IsWalked nodes word dir → IsBefore dir place.path → Has seen dir
-before_first nodes words word first seen place walk is least dir walked before =
-    elim (reached_from nodes words seen (with_first place walk) word dir is.state is.one walked) [
-      | inl done ↦ let (number, its, was) = done in has_number seen dir number its
-      | inr waits ↦ absurd (none_open waits)
-    ]
-  where
-    none_open : (front below : Parts) × (dir ≡ front ++ below) × HasPath (place ∷ walk.pending) front → ⊥
-    none_open (front, below, same, has) =
-        let early : IsBefore (front ++ below) place.path = subst (λ path. IsBefore path place.path) same before in
-        elim (cons_cases place.path front (map (λ other. other.path) walk.pending) has) [
-          | inl here ↦ none_before front below (subst (λ path. IsBefore (front ++ below) path) (sym here) early)
-          | inr later ↦ none_before front below (before_before (front ++ below) place.path front early
-              (All-contains (λ path. IsBefore place.path path) (map (λ other. other.path) walk.pending) front
-              (All-map (λ path. IsBefore place.path path) (λ other. other.path) walk.pending least) later))
-        ]
+  -- what is walked through from the word before the first directory was looked at
+  before_first : (dir : Parts) → IsWalked nodes word dir → IsBefore dir place.path → Has old dir
+  before_first dir walked early = elim (reached_from is.state is.one walked) [
+    | inl was ↦ is.looked dir was
+    | inr open_above ↦ absurd (none_open open_above)
+  ]
+    where
+      none_open : (front below : Parts) × (dir ≡ front ++ below) × HasPath (place ∷ before.pending) front → ⊥
+      none_open (front, below, same, has) =
+          let above : IsBefore (front ++ below) place.path = subst (λ path. IsBefore path place.path) same early in
+          elim (cons_cases place.path front (map (λ other. other.path) before.pending) has) [
+            | inl here ↦ none_before front below (subst (λ path. IsBefore (front ++ below) path) (sym here) above)
+            | inr later ↦ none_before front below (before_before (front ++ below) place.path front above
+                (All-contains (λ path. IsBefore place.path path) (map (λ other. other.path) before.pending) front
+                (All-map (λ path. IsBefore place.path path) (λ other. other.path) before.pending least) later))
+          ]
 
-refused_here : (nodes : List Node) (words : List Parts) (word : Parts) (first seen : List Looked) (place : Place)
-    (walk : Walk) (fault : DiscoverFault) → IsWalk nodes words word first seen (with_first place walk)
-    → All (λ other. IsBefore place.path other.path) walk.pending → Refuses nodes (Has seen) place.path fault
-    → IsRefusedDown nodes (Has first) word fault
-refused_here nodes words word first seen place walk fault is least refuses = (
-  place.path,
-  All-head (λ other. IsWalked nodes word other.path) place walk.pending is.right,
-  refused_behind nodes (Has seen) (λ one. Has first one ⊎ (IsWalked nodes word one × IsBefore one place.path))
-      place.path fault refuses
-      (λ one has. elim (is.new one has) [
-        | inl early ↦ inl early
-        | inr later ↦ inr (later.0, All-head (λ other. IsBefore one other.path) place walk.pending later.1)
-      ])
+  -- a fault of a look is one of the walk
+  pub visit_refused : (new : List Looked) (after : Walk) (fault : DiscoverFault)
+      → GivesLook nodes place.path old new (Err fault)
+      → GivesWalk {A = Unit {0}} nodes words word first new after (Err fault)
+  visit_refused new after fault gives =
+      told (λ one. IsAbsent nodes place.path one ⊎ RefusesNext nodes old place.path one)
+      (IsRefusedDown nodes (Has first) word) fault
       (λ one h. elim h [
-        | inl early ↦ is.from one early
-        | inr later ↦ before_first nodes words word first seen place walk is least one later.0 later.1
-      ]),
-)
-
--- a fault of a look is one of the walk
-pub visit_refused : (nodes : List Node) (words : List Parts) (word : Parts) (first old new : List Looked)
-    (place : Place) (before after : Walk) (fault : DiscoverFault)
-    → IsWalk nodes words word first old (with_first place before)
-    → All (λ other. IsBefore place.path other.path) before.pending → GivesLook nodes place.path old new (Err fault)
-    → GivesWalk {A = Unit {0}} nodes words word first new after (Err fault)
-visit_refused nodes words word first old new place before after fault is least gives =
-    told (λ one. IsAbsent nodes place.path one ⊎ Refuses nodes (Has old) place.path one)
-    (IsRefusedDown nodes (Has first) word) fault
-    (λ one h. elim h [
-      | inl absent ↦ absurd (absent.1 (is_dir nodes words word first old place before is))
-      | inr refuses ↦ refused_here nodes words word first old place before one is least refuses
-    ]) gives
+        | inl absent ↦ absurd (absent.1 its_ahead.is_dir)
+        | inr refuses ↦ (place.path, its_ahead.walked, (old, seen_before, refuses))
+      ]) gives
+    where
+      seen_before : AreSeen nodes (λ one. Has first one ⊎ (IsWalked nodes word one × IsBefore one place.path)) old
+      seen_before =
+          same_seen (Has old) (λ one. Has first one ⊎ (IsWalked nodes word one × IsBefore one place.path)) is.looks
+          (λ one has. elim (is.new one has) [
+            | inl early ↦ inl early
+            | inr later ↦ inr (later.0, All-head (λ other. IsBefore one other.path) place before.pending later.1)
+          ])
+          (λ one h. elim h [ inl early ↦ is.from one early | inr later ↦ before_first one later.0 later.1 ])

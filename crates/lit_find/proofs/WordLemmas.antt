@@ -1,80 +1,116 @@
 -- One more word: the directories up to its suite, a word that is a file, and the walk of one that is a directory.
 -- Idea: what was looked at for earlier words doesn't count again; where nothing is before the walk, each directory that is
--- walked through from the word was, since it was begun. The hard ones are `refuses_word` and `walk_ends`.
-use Rattle.std.proofs.Common.{◌≡◌, ◌≢◌, ℕ, ◌==◌, true, ◌⊎◌, inl, inr, List, [], ◌∷◌, ◌++◌, All, Option, Some, None, Result, Ok, Err, OnOk, refl, sym, ap, ◌∙◌, subst, append-nil, arith}
-use Rattle.std.specs.BTreeMap.{is_at}
-use Rattle.std.specs.List.{Contains, list_all}
-use Rattle.std.specs.Ordering.{nat_cmp}
-use Rattle.std.proofs.lemmas.Bool.Decides.{nat_tests}
-use Rattle.std.proofs.lemmas.List.Elements.{All-cons, All-nil, All-push, Contains-push}
+-- walked through from the word was, since it was begun. The hard one is `walk_ends`.
+use Rattle.std.proofs.Common.{◌≡◌, ◌≢◌, ℕ, true, ◌⊎◌, inl, inr, List, [], ◌∷◌, ◌++◌, length, All, Option, Some, None, Result, Ok, Err, OnOk, refl, sym, ap, ◌∙◌, subst, append-nil}
+use Rattle.std.specs.List.{Any, Contains, list_all}
+use Rattle.std.proofs.lemmas.List.Quantifiers.{Any-push}
+use Rattle.std.proofs.lemmas.List.Elements.{All-cons, All-nil, All-push, All-weaker, Contains-append_left, Contains-push, Contains-push_cases}
 use Rattle.tt_outside.specs.declared.tree.Node.{Node}
+use Rattle.tt_outside.specs.declared.test_data.Test.{Test}
+use Rattle.tt_outside.specs.declared.tree.ItemKind.{ItemKind}
 use Rattle.tt_outside.specs.declared.tree.ItemKind.TheVariants.{Dir, File}
 use Rattle.tt_outside.specs.TreeMap.{are_nested, is_part}
-use Rattle.lit_paths.specs.Paths.{Parts, dir_of, path_in, text_of}
+use Rattle.lit_paths.specs.Paths.{Parts, dir_of, text_of}
 use Rattle.lit_suite.specs.declared.suite_file.Suite.{Suite}
 use Rattle.lit_suite.specs.declared.suite_file.SuiteFault.{SuiteFault}
 use Rattle.lit_dirs.specs.Looks.{kind_of}
 use Rattle.lit_dirs.specs.Suites.{suite_at}
 use Rattle.lit_dirs.specs.declared.fault.DiscoverFault.{DiscoverFault}
 use Rattle.lit_dirs.specs.declared.fault.DiscoverFault.TheVariants.{Missing}
-use Rattle.lit_look.specs.Looks.{AreSeenUp, Extends, GivesNearest, HasNoSuite, IsAbsent, IsRefusedFrom, IsRefusedUp}
+use Rattle.lit_look.specs.Looks.{AreSeenUp, GivesNearest, IsAbsent, RefusesUp}
 use Rattle.lit_look.specs.Seen.{AreSeen, Has}
 use Rattle.lit_look.specs.Suites.{LiesIn, Rooted, looked_up, nearest, or_else, rooted, rooted_at}
 use Rattle.lit_look.specs.declared.root.SuiteRoot.{SuiteRoot}
 use Rattle.lit_look.specs.declared.seen.Looked.{Looked}
-use Rattle.lit_look.proofs.ListLemmas.{first_in, none_in}
+use Rattle.lit_look.proofs.ClimbLemmas.{no_parts}
 use Rattle.lit_look.proofs.DirLemmas.{above_is_dir}
-use Rattle.lit_look.proofs.SeenLemmas.{further, has_number, refused_behind, same_seen}
+use Rattle.lit_look.proofs.SeenLemmas.{further, looks_of, same_seen}
+use Rattle.lit_look.proofs.ListLemmas.{any_one, its_one}
 use Rattle.lit_look.proofs.SuiteLemmas.{nearest_here}
 use Rattle.lit_look.proofs.TreeLemmas.{told}
-use Rattle.lit_find.specs.Discovery.{IsBelow, IsLookedAt, IsWalked, LooksAt, start_at, start_of}
-use Rattle.lit_find.specs.Files.{IsFiled}
-use Rattle.lit_find.specs.Places.{IsBefore}
+use Rattle.lit_find.specs.Discovery.{IsBelow, IsLookedAt, IsTest, IsWalked, LooksAt, start_at, start_of}
+use Rattle.lit_find.specs.Files.{test_in}
+use Rattle.lit_find.specs.Found.{IsRight}
+use Rattle.lit_find.specs.Places.{IsBefore, path_order, put}
 use Rattle.lit_find.specs.Refusals.{HasPlace, IsDue, IsRefusedDown, RefusesWord, Stands}
-use Rattle.lit_find.specs.Walk.{GivesWalk, GivesWord, HasFile, HasPath, IsCovered, IsTestFile, IsUnder, IsWalk}
+use Rattle.lit_find.specs.Sorting.{with_path}
+use Rattle.lit_find.specs.Walk.{GivesWalk, GivesWord, IsAhead, IsCovered, IsDone, IsState, IsWalk, Walked}
 use Rattle.lit_find.specs.declared.walk.Walk.{Walk}
-use Rattle.lit_find.proofs.FileLemmas.{filed}
-use Rattle.lit_find.proofs.PathLemmas.{dir_of_push, last_part, parts_left, path_in_word}
-use Rattle.lit_find.proofs.PlaceLemmas.{file_has}
-use Rattle.lit_find.proofs.StateLemmas.{all_reached, any_cases, any_last, any_longer, state_longer, state_word, tests_longer}
+use Rattle.lit_find.proofs.FileLemmas.{right_test}
+use Rattle.lit_find.proofs.PathLemmas.{dir_of_push, last_part, name_behind}
+use Rattle.lit_find.proofs.PlaceLemmas.{done_keeps, done_now}
+use Rattle.lit_find.proofs.VisitLemmas.{all_reached}
 
-pub same_number : (k q : ℕ) → is_at (nat_cmp k) q ≡ (q == k)
-same_number k q = grind (arith, nat_tests)
+-- ---- one more word
+
+any_longer : (P : Parts → Type 0) (words : List Parts) (word : Parts) → Any P words → Any P (words ++ word ∷ [])
+any_longer P words word any =
+    let (one, within, p) = its_one P words any in
+    any_one P (words ++ word ∷ []) one (Contains-append_left words (word ∷ []) one within) p
+
+any_cases : (P : Parts → Type 0) (words : List Parts) (word : Parts) → Any P (words ++ word ∷ [])
+    → Any P words ⊎ P word
+any_cases P words word any =
+    let (one, within, p) = its_one P (words ++ word ∷ []) any in
+    elim (Contains-push_cases words word one within) [
+      | inl early ↦ inl (any_one P words one early p)
+      | inr last ↦ inr (subst P (sym last) p)
+    ]
+
+-- the tests of some words are tests of these and one more
+tests_longer : (nodes : List Node) (words : List Parts) (word : Parts) (found : List Test)
+    → All (IsRight nodes words) found → All (IsRight nodes (words ++ word ∷ [])) found
+tests_longer nodes words word found all =
+    All-weaker (IsRight nodes words) (IsRight nodes (words ++ word ∷ []))
+    (λ test is.
+    let path = is.rooted.root ++ is.below in
+    record {
+      rooted = is.rooted;
+      below = is.below;
+      parts = is.parts;
+      suite = is.suite;
+      passes = (is.passes.0, any_longer (λ one. (path ≡ one) ⊎ IsBelow nodes one path) words word is.passes.1);
+      made = is.made;
+    }) found all
+
+-- what was found and begun is what one more word asks for, too
+state_word : (nodes : List Node) (words : List Parts) (word : Parts) (root : SuiteRoot) (kind : ItemKind) (walk : Walk)
+    → IsState nodes words walk → kind_of nodes word ≡ Some kind
+    → ((dir : Parts) → Walked (with_path root kind word walk) dir → Walked walk dir)
+    → All (IsRight nodes (words ++ word ∷ [])) (with_path root kind word walk).found
+    → IsState nodes (words ++ word ∷ []) (with_path root kind word walk)
+state_word nodes words word root kind walk is stands before tests = record {
+  tests = tests;
+  closed = λ asked dir part was inside.
+      done_keeps root kind word asked (dir ++ part ∷ []) walk (is.closed asked dir part (before dir was) inside);
+  asked = λ asked other within its. elim (Contains-push_cases words word other within) [
+    | inl early ↦ done_keeps root kind word asked other walk (is.asked asked other early its)
+    | inr last ↦
+        let both : Some kind ≡ Some asked = sym stands ∙ ap (kind_of nodes) last ∙ its in
+        let same : kind ≡ asked = cc in
+        subst (IsDone (with_path root kind word walk) asked) last
+        (subst (λ one. IsDone (with_path root kind word walk) one word) same (done_now root kind word walk))
+  ];
+}
 
 -- ---- the directories up to its suite
 
-pub seen_from : (nodes : List Node) (words : List Parts) (start : Parts) (old new : List Looked)
-    → AreSeen nodes (IsLookedAt nodes words) old → AreSeenUp nodes start old new
-    → AreSeen nodes (IsDue nodes words start) new
-seen_from nodes words start old new all seen =
-    further nodes (IsLookedAt nodes words) (Contains (looked_up nodes start)) (IsDue nodes words start) old new all seen
-    (λ one h. inl h) (λ one h. inr h) (λ one h. h)
+up_behind : (nodes : List Node) (B : Parts → Type 0) (old : List Looked) (dir word : Parts) (fault : DiscoverFault)
+    → AreSeen nodes B old → RefusesUp nodes (Has old) dir word fault → RefusesUp nodes B dir word fault
+up_behind nodes B old dir word fault all (inl ((seen, up), none, same)) =
+    inl ((seen, further B (Contains (looked_up nodes dir)) all up), none, same)
+up_behind nodes B old dir word fault all (inr (early, one, later, is, (seen, before, refuses))) =
+    inr (early, one, later, is, (seen, further B (Contains early) all before, refuses))
 
-refuses_word : (nodes : List Node) (words : List Parts) (word start : Parts) (old new : List Looked)
-    (fault : DiscoverFault) → Stands nodes word → start_of nodes word ≡ start → AreSeen nodes (IsLookedAt nodes words) old
-    → HasNoSuite nodes (Has old) start word new fault ⊎ IsRefusedUp nodes (Has old) start fault
-    → RefusesWord nodes words word fault
-refuses_word nodes words word start old new fault stands is all (inl (seen, none, same)) = inr (
-  stands,
-  inl (
-    new,
-    subst (λ (x : Parts). HasNoSuite nodes (IsLookedAt nodes words) x word new fault) (sym is)
-        (seen_from nodes words start old new all seen, none, same),
-  ),
-)
-refuses_word nodes words word start old new fault stands is all (inr (early, one, later, up, refuses)) = inr (
-  stands,
-  inr (inl (subst (λ (x : Parts). IsRefusedUp nodes (IsLookedAt nodes words) x fault) (sym is) (
-    early,
-    one,
-    later,
-    up,
-    refused_behind nodes (λ other. Has old other ⊎ Contains early other)
-        (λ other. IsLookedAt nodes words other ⊎ Contains early other) one fault refuses
-        (λ other h. elim h [ inl has ↦ inl (all.right other has) | inr before ↦ inr before ])
-        (λ other h. elim h [ inl looked ↦ inl (all.whole other looked) | inr before ↦ inr before ]),
-  ))),
-)
+refuses_word : (nodes : List Node) (words : List Parts) (word start : Parts) (old : List Looked) (fault : DiscoverFault)
+    → Stands nodes word → start_of nodes word ≡ start → AreSeen nodes (IsLookedAt nodes words) old
+    → RefusesUp nodes (Has old) start word fault → RefusesWord nodes words word fault
+refuses_word nodes words word start old fault stands is all up =
+    inr (
+      stands,
+      inl (subst (λ (one : Parts). RefusesUp nodes (IsLookedAt nodes words) one word fault) (sym is)
+          (up_behind nodes (IsLookedAt nodes words) old start word fault all up)),
+    )
 
 -- nothing is there, or there is no suite for a directory
 pub word_refused : (nodes : List Node) (words : List Parts) (word : Parts) (old new next : List Looked)
@@ -82,90 +118,58 @@ pub word_refused : (nodes : List Node) (words : List Parts) (word : Parts) (old 
     → GivesNearest nodes word word old new (Err fault)
     → GivesWord {A = Unit {0}} nodes words word next after (Err fault)
 word_refused nodes words word old new next walk after fault is gives =
-    told (λ one. IsAbsent nodes word one ⊎ IsRefusedFrom nodes word word old new one) (RefusesWord nodes words word) fault
+    told (λ one. IsAbsent nodes word one ⊎ ((kind_of nodes word ≡ Some Dir) × RefusesUp nodes (Has old) word word one))
+    (RefusesWord nodes words word) fault
     (λ one h. elim h [
       | inl absent ↦ inl (absent.1, inl absent.2, absent.0)
-      | inr from ↦ refuses_word nodes words word word old new one (inl from.0) (ap (start_at word) from.0) is.all from.1
+      | inr up ↦ refuses_word nodes words word word old one (inl up.0) (ap (start_at word) up.0) is.all up.1
     ]) gives
 
 -- ---- a word that is a file
 
-cut_last : (one : List ℕ) (rest : Parts) → (front : Parts) × (part : List ℕ) × (one ∷ rest ≡ front ++ part ∷ [])
-cut_last one [] = ([], one, refl)
-cut_last one (next ∷ rest) =
-    let (front, part, is) = cut_last next rest in
-    (one ∷ front, part, ap (λ path. one ∷ path) is)
-
--- a path is its directory and a part behind it
-dir_and_part : (word : Parts) → word ≢ [] → (part : List ℕ) × (word ≡ dir_of word ++ part ∷ [])
-dir_and_part [] some = absurd (some refl)
-dir_and_part (one ∷ rest) some =
-    let (front, part, is) = cut_last one rest in
-    (part, is ∙ ap (λ path. path ++ part ∷ []) (sym (ap dir_of is ∙ dir_of_push front part)))
-
-pub parts_dir : (word : Parts) → list_all is_part word ≡ true → list_all is_part (dir_of word) ≡ true
-parts_dir [] parts = refl
-parts_dir (one ∷ rest) parts =
-    let (part, is) = dir_and_part (one ∷ rest) (λ e. absurd (cc)) in
-    parts_left (dir_of (one ∷ rest)) (part ∷ []) (subst (λ path. list_all is_part path ≡ true) is parts)
-
-pub filed_word : (root : SuiteRoot) (word : Parts) (text : List ℕ) → LiesIn root.dir (dir_of word)
-    → list_all is_part word ≡ true → word ≢ [] → text ≡ text_of word → IsFiled (record { path = text; suite = root })
-filed_word root word text lies parts some is =
-    let (part, split) = dir_and_part word some in
-    filed root (dir_of word) part text lies
-    (last_part (dir_of word) part (subst (λ path. list_all is_part path ≡ true) split parts)) (is ∙ ap text_of split)
-
-pub dir_is_dir : (nodes : List Node) (word : Parts) → are_nested nodes ≡ true → list_all is_part word ≡ true → word ≢ []
-    → kind_of nodes word ≡ Some File → kind_of nodes (dir_of word) ≡ Some Dir
-dir_is_dir nodes word nested parts some file =
-    let (part, is) = dir_and_part word some in
-    above_is_dir nodes (dir_of word) part nested (subst (λ path. list_all is_part path ≡ true) is parts)
-    (subst (λ path. kind_of nodes path ≢ None) is (λ none. absurd (cc)))
+pub dir_is_dir : (nodes : List Node) (word dir : Parts) (part : List ℕ) → word ≡ dir ++ part ∷ []
+    → are_nested nodes ≡ true → list_all is_part word ≡ true → kind_of nodes word ≡ Some File
+    → kind_of nodes dir ≡ Some Dir
+dir_is_dir nodes word dir part split nested parts file =
+    above_is_dir nodes dir part nested (ap (list_all is_part) (sym split) ∙ parts)
+    (λ none. let e : Some File ≡ None = sym file ∙ ap (kind_of nodes) split ∙ none in cc)
 
 pub apart : (nodes : List Node) (word : Parts) → kind_of nodes word ≡ Some File → kind_of nodes word ≡ Some Dir → ⊥
 apart nodes word file dir = let e : Some File ≡ Some Dir = sym file ∙ dir in absurd (cc)
 
-pub file_added : (nodes : List Node) (words : List Parts) (word : Parts) (old new : List Looked) (root : SuiteRoot)
-    (text : List ℕ) (walk after : Walk) → list_all is_part word ≡ true → kind_of nodes word ≡ Some File → word ≢ []
-    → IsCovered nodes words old walk → Extends old new → AreSeenUp nodes (dir_of word) old new
-    → nearest nodes (dir_of word) ≡ Some (rooted_at root) → text ≡ text_of word
-    → after.found ≡ walk.found ++ record { path = text; suite = root } ∷ [] → after.walked ≡ walk.walked
-    → after.pending ≡ walk.pending → IsCovered nodes (words ++ word ∷ []) new after
-file_added nodes words word old new root text walk after parts kind some is longer seen near named found marks waits =
-    let start : start_of nodes word ≡ dir_of word = ap (start_at word) kind in
-    let same : path_in text ≡ word = ap path_in named ∙ path_in_word word parts some in
+-- the directory of a file is the one whose suite is that of the word
+start_in : (nodes : List Node) (word dir : Parts) (part : List ℕ) → word ≡ dir ++ part ∷ [] → kind_of nodes word ≡ Some File
+    → start_of nodes word ≡ dir
+start_in nodes word dir part split kind = ap (start_at word) kind ∙ ap dir_of split ∙ dir_of_push dir part
+
+pub file_added : (nodes : List Node) (words : List Parts) (word dir : Parts) (part : List ℕ) (old new : List Looked)
+    (root : SuiteRoot) (walk : Walk) → word ≡ dir ++ part ∷ [] → list_all is_part word ≡ true
+    → kind_of nodes word ≡ Some File → IsCovered nodes words old walk → LiesIn root.dir dir
+    → AreSeenUp nodes (Has old) dir new → nearest nodes dir ≡ Some (rooted_at root)
+    → IsCovered nodes (words ++ word ∷ []) new (with_path root File word walk)
+file_added nodes words word dir part old new root walk split parts kind is lies seen near =
+    let start = start_in nodes word dir part split kind in
+    let named = last_part dir part (ap (list_all is_part) (sym split) ∙ parts) in
+    let test : IsTest nodes (words ++ word ∷ []) word =
+    (kind, Any-push (λ one. (word ≡ one) ⊎ IsBelow nodes one word) words word (inl refl)) in
     record {
-      state = state_word nodes words word new walk after
-          (state_longer nodes words old new walk is.state longer
-          (same_seen nodes (λ one. Has old one ⊎ Contains (looked_up nodes (dir_of word)) one) (Has new) new seen seen.whole
-          seen.right))
-          marks (subst (All (IsUnder nodes)) (sym waits) is.state.under)
-          (λ dir had. subst (λ places. HasPath places dir) (sym waits) had)
-          (subst (All (IsTestFile nodes (words ++ word ∷ []))) (sym found)
-          (All-push (IsTestFile nodes (words ++ word ∷ [])) walk.found (record { path = text; suite = root })
-          (tests_longer nodes words word walk.found is.state.tests) (record {
-            suite = ap (λ path. nearest nodes (dir_of path)) same ∙ near;
-            test = (
-              ap (kind_of nodes) same ∙ kind,
-              any_last (λ one. (path_in text ≡ one) ⊎ IsBelow nodes one (path_in text)) words word (inl same),
-            );
-          })))
-          (λ path had. subst (λ files. HasFile files path) (sym found)
-          (file_has (record { path = text; suite = root }) walk.found path (inr had)))
-          (λ dir. absurd (apart nodes word kind dir))
-          (λ file. subst (λ files. HasFile files word) (sym found)
-          (file_has (record { path = text; suite = root }) walk.found word (inl (sym named))));
-      done = waits ∙ is.done;
+      state = state_word nodes words word root File walk is.state kind (λ one was. was)
+          (All-push (IsRight nodes (words ++ word ∷ [])) walk.found
+          (test_in (record { path = text_of word; suite = root }))
+          (tests_longer nodes words word walk.found is.state.tests)
+          (right_test root dir part (text_of word) lies named (ap text_of split) nodes (words ++ word ∷ []) near
+          (subst (IsTest nodes (words ++ word ∷ [])) split test)));
+      done = is.done;
+      looked = λ one was. seen.whole one (inl (is.looked one was));
       places = All-push (HasPlace nodes) words word is.places (record {
-        stands = inr (kind, some);
-        suite = subst (λ one. nearest nodes one ≢ None) (sym start) (λ none. let e = sym near ∙ none in cc);
+        stands = inr (kind, λ none. name_behind dir part (sym split ∙ none));
+        suite = λ none. let e = sym near ∙ ap (nearest nodes) (sym start) ∙ none in cc;
       });
-      all = same_seen nodes (IsDue nodes words (dir_of word)) (IsLookedAt nodes (words ++ word ∷ [])) new
-          (seen_from nodes words (dir_of word) old new is.all seen)
+      all = same_seen (IsDue nodes words dir) (IsLookedAt nodes (words ++ word ∷ []))
+          (further (IsLookedAt nodes words) (Contains (looked_up nodes dir)) is.all seen)
           (λ one b. elim b [
             | inl early ↦ any_longer (LooksAt nodes one) words word early
-            | inr up ↦ any_last (LooksAt nodes one) words word
+            | inr up ↦ Any-push (LooksAt nodes one) words word
                 (inl (subst (λ x. Contains (looked_up nodes x) one) (sym start) up))
           ])
           (λ one c. elim (any_cases (LooksAt nodes one) words word c) [
@@ -175,24 +179,24 @@ file_added nodes words word old new root text walk after parts kind some is long
           ]);
     }
 
-pub file_refused : (nodes : List Node) (words : List Parts) (word : Parts) (old new next : List Looked)
-    (walk after : Walk) (fault : DiscoverFault) → kind_of nodes word ≡ Some File → word ≢ []
-    → kind_of nodes (dir_of word) ≡ Some Dir → IsCovered nodes words old walk
-    → GivesNearest nodes (dir_of word) word old new (Err fault)
-    → GivesWord {A = Unit {0}} nodes words word next after (Err fault)
-file_refused nodes words word old new next walk after fault kind some up is gives =
-    told (λ one. IsAbsent nodes (dir_of word) one ⊎ IsRefusedFrom nodes (dir_of word) word old new one)
+pub file_refused : (nodes : List Node) (words : List Parts) (word dir : Parts) (part : List ℕ)
+    (old new next : List Looked) (walk after : Walk) (fault : DiscoverFault) → word ≡ dir ++ part ∷ []
+    → kind_of nodes word ≡ Some File → kind_of nodes dir ≡ Some Dir → IsCovered nodes words old walk
+    → GivesNearest nodes dir word old new (Err fault) → GivesWord {A = Unit {0}} nodes words word next after (Err fault)
+file_refused nodes words word dir part old new next walk after fault split kind is_dir is gives =
+    told (λ one. IsAbsent nodes dir one ⊎ ((kind_of nodes dir ≡ Some Dir) × RefusesUp nodes (Has old) dir word one))
     (RefusesWord nodes words word) fault
     (λ one h. elim h [
-      | inl absent ↦ absurd (absent.1 up)
-      | inr from ↦ refuses_word nodes words word (dir_of word) old new one (inr (kind, some)) (ap (start_at word) kind)
-          is.all from.1
+      | inl absent ↦ absurd (absent.1 is_dir)
+      | inr up ↦ refuses_word nodes words word dir old one
+          (inr (kind, λ none. name_behind dir part (sym split ∙ none))) (start_in nodes word dir part split kind) is.all up.1
     ]) gives
 
--- a file at `/`
-pub root_file : (nodes : List Node) (words : List Parts) (word : Parts) (path : List ℕ) → word ≡ []
+-- `/` is no file in a directory
+pub root_file : (nodes : List Node) (words : List Parts) (word : Parts) (path : List ℕ) → length word ≡ 0
     → kind_of nodes word ≡ Some File → path ≡ text_of word → RefusesWord nodes words word (Missing path)
-root_file nodes words word path none kind is = inl (apart nodes word kind, inr none, ap (λ text. Missing text) is)
+root_file nodes words word path none kind is =
+    inl (apart nodes word kind, inr (no_parts word none), ap (λ text. Missing text) is)
 
 -- ---- a word that is a directory
 
@@ -207,61 +211,52 @@ near_itself nodes word root near = by_suite (suite_at nodes word) refl
     by_suite (Some (Err fault)) is = near
 
 pub walk_begins : (nodes : List Node) (words : List Parts) (word : Parts) (old new : List Looked) (root : SuiteRoot)
-    (walk after : Walk) → list_all is_part word ≡ true → kind_of nodes word ≡ Some Dir → IsCovered nodes words old walk
-    → Extends old new → AreSeenUp nodes word old new → nearest nodes word ≡ Some (rooted_at root)
-    → after.found ≡ walk.found → after.walked ≡ walk.walked
-    → after.pending ≡ record { path = word; suite = root } ∷ []
-    → IsWalk nodes (words ++ word ∷ []) word new new after
-walk_begins nodes words word old new root walk after parts kind is longer seen near found marks pending = record {
-  state = state_word nodes words word new walk after
-      (state_longer nodes words old new walk is.state longer
-      (same_seen nodes (λ one. Has old one ⊎ Contains (looked_up nodes word) one) (Has new) new seen seen.whole seen.right))
-      marks
-      (subst (All (IsUnder nodes)) (sym pending)
-      (All-cons (IsUnder nodes) (record { path = word; suite = root }) []
-      (record { parts = parts; is_dir = kind; suite = near_itself nodes word _ near }) (All-nil (IsUnder nodes))))
-      (λ dir had. absurd (none_in dir (subst (λ places. HasPath places dir) is.done had)))
-      (subst (All (IsTestFile nodes (words ++ word ∷ []))) (sym found) (tests_longer nodes words word walk.found is.state.tests))
-      (λ path had. subst (λ files. HasFile files path) (sym found) had)
-      (λ dir. subst (λ places. HasPath places word) (sym pending) (first_in word []))
-      (λ file. absurd (apart nodes word file kind));
-  right = subst (All (λ place. IsWalked nodes word place.path)) (sym pending)
-      (All-cons (λ place. IsWalked nodes word place.path) (record { path = word; suite = root }) []
-      (record { rest = []; behind = sym (append-nil word); from_dir = kind; way = tt })
-      (All-nil (λ place. IsWalked nodes word place.path)));
+    (walk : Walk) → kind_of nodes word ≡ Some Dir → IsCovered nodes words old walk → LiesIn root.dir word
+    → AreSeenUp nodes (Has old) word new → nearest nodes word ≡ Some (rooted_at root) → walk.pending ≡ []
+    → IsWalk nodes (words ++ word ∷ []) word new new (with_path root Dir word walk)
+walk_begins nodes words word old new root walk kind is lies seen near none = record {
+  state = state_word nodes words word root Dir walk is.state kind (λ dir was. was)
+      (tests_longer nodes words word walk.found is.state.tests);
+  ahead = subst (λ places. All (IsAhead nodes word) (put path_order (record { path = word; suite = root }) places)) (sym none)
+      (All-cons (IsAhead nodes word) (record { path = word; suite = root }) [] (record {
+        inside = lies;
+        walked = record { rest = []; behind = sym (append-nil word); from_dir = kind; way = tt };
+        is_dir = kind;
+        suite = near_itself nodes word _ near;
+      }) (All-nil (IsAhead nodes word)));
+  looks = looks_of seen;
+  looked = λ dir was. seen.whole dir (inl (is.looked dir was));
   from = λ dir has. has;
   new = λ dir has. inl has;
   one = Contains-push words word;
-  is_dir = kind;
 }
 
 walk_ends : (nodes : List Node) (words : List Parts) (word : Parts) (first new : List Looked) (walk : Walk)
-    → IsWalk nodes (words ++ word ∷ []) word first new walk → walk.pending ≡ []
+    → kind_of nodes word ≡ Some Dir → IsWalk nodes (words ++ word ∷ []) word first new walk → walk.pending ≡ []
     → AreSeen nodes (IsDue nodes words word) first → nearest nodes word ≢ None → All (HasPlace nodes) words
     → IsCovered nodes (words ++ word ∷ []) new walk
-walk_ends nodes words word first new walk is none seen suite places =
-    let start : start_of nodes word ≡ word = ap (start_at word) is.is_dir in
+walk_ends nodes words word first new walk kind is none seen suite places =
+    let start : start_of nodes word ≡ word = ap (start_at word) kind in
     record {
       state = is.state;
       done = none;
+      looked = is.looked;
       places = All-push (HasPlace nodes) words word places
-          (record { stands = inl is.is_dir; suite = subst (λ one. nearest nodes one ≢ None) (sym start) suite });
-      all = same_seen nodes (Has new) (IsLookedAt nodes (words ++ word ∷ [])) new is.state.looks
+          (record { stands = inl kind; suite = subst (λ one. nearest nodes one ≢ None) (sym start) suite });
+      all = same_seen (Has new) (IsLookedAt nodes (words ++ word ∷ [])) is.looks
           (λ dir has. elim (is.new dir has) [
             | inl early ↦ elim (seen.right dir early) [
               | inl looked ↦ any_longer (LooksAt nodes dir) words word looked
-              | inr up ↦ any_last (LooksAt nodes dir) words word
+              | inr up ↦ Any-push (LooksAt nodes dir) words word
                   (inl (subst (λ one. Contains (looked_up nodes one) dir) (sym start) up))
             ]
-            | inr later ↦ any_last (LooksAt nodes dir) words word (inr later.0)
+            | inr later ↦ Any-push (LooksAt nodes dir) words word (inr later.0)
           ])
           (λ dir any. elim (any_cases (LooksAt nodes dir) words word any) [
             | inl early ↦ is.from dir (seen.whole dir (inl early))
             | inr (inl up) ↦ is.from dir (seen.whole dir
                 (inr (subst (λ one. Contains (looked_up nodes one) dir) start up)))
-            | inr (inr below) ↦
-                let (number, its, was) = all_reached nodes (words ++ word ∷ []) new walk word dir is.state none is.one below in
-                has_number new dir number its
+            | inr (inr below) ↦ is.looked dir (all_reached is.state none is.one below)
           ]);
     }
 
@@ -272,20 +267,10 @@ pub word_walked : (nodes : List Node) (words : List Parts) (word : Parts) (first
     → OnOk result (walk.pending ≡ []) → GivesWalk nodes (words ++ word ∷ []) word first new walk result
     → GivesWord nodes words word new walk result
 word_walked nodes words word first new walk (Ok done) kind suite seen places none gives =
-    walk_ends nodes words word first new walk gives none seen suite places
+    walk_ends nodes words word first new walk kind gives none seen suite places
 word_walked nodes words word first new walk (Err fault) kind suite seen places none gives =
     told (IsRefusedDown nodes (Has first) word) (RefusesWord nodes words word) fault
-    (λ one h. let (dir, walked, refuses) = h in inr (
-      inl kind,
-      inr (inr (
-        suite,
-        (
-          dir,
-          walked,
-          refused_behind nodes (λ other. Has first other ⊎ (IsWalked nodes word other × IsBefore other dir))
-              (λ other. IsDue nodes words word other ⊎ (IsWalked nodes word other × IsBefore other dir)) dir one refuses
-              (λ other h. elim h [ inl has ↦ inl (seen.right other has) | inr before ↦ inr before ])
-              (λ other h. elim h [ inl due ↦ inl (seen.whole other due) | inr before ↦ inr before ]),
-        ),
-      )),
-    )) gives
+    (λ one h.
+    let (dir, walked, (looks, before, refuses)) = h in
+    let due = further (IsDue nodes words word) (λ other. IsWalked nodes word other × IsBefore other dir) seen before in
+    inr (inl kind, inr (suite, (dir, walked, (looks, due, refuses))))) gives

@@ -1,7 +1,7 @@
 -- Which files are tests: those that words name, and those in directories that are walked through from one.
 -- After LLVM Command Guide, lit, 'TEST DISCOVERY'. Own rule: a part is passed over by the suite of the directory in which it
 -- stands.
-use Rattle.std.specs.Prelude.{◌≡◌, ℕ, Bool, true, false, List, [], ◌∷◌, ◌++◌, Option, None, Some, ◌⊎◌, ⊤}
+use Rattle.std.specs.Prelude.{◌≡◌, ℕ, Bool, true, false, not, ◌&&◌, List, [], ◌∷◌, ◌++◌, Option, None, Some, ◌⊎◌, ⊤}
 use Rattle.std.specs.List.{Any, Contains}
 use Rattle.tt_outside.specs.declared.tree.Node.{Node}
 use Rattle.tt_outside.specs.declared.tree.ItemKind.{ItemKind}
@@ -9,41 +9,36 @@ use Rattle.tt_outside.specs.declared.tree.ItemKind.TheVariants.{File, Dir, Other
 use Rattle.tt_outside.specs.TreeMap.{is_part}
 use Rattle.lit_paths.specs.Paths.{Parts, dir_of, text_of}
 use Rattle.lit_dirs.specs.Looks.{kind_of}
-use Rattle.lit_dirs.specs.Passing as suite
+use Rattle.lit_dirs.specs.Passing.{has_suffix, is_passed}
 use Rattle.lit_look.specs.Suites.{Rooted, looked_up, nearest}
-
--- a name is passed over in a directory with this suite
-abbrev pub is_passed : Option Rooted → List ℕ → Bool
-is_passed None name = true
-is_passed (Some rooted) name = suite.is_passed rooted.suite name
-
--- a path ends in a suffix of this suite
-abbrev pub has_suffix : Option Rooted → List ℕ → Bool
-has_suffix None path = false
-has_suffix (Some rooted) path = suite.has_suffix rooted.suite path
+use Rattle.lit_suite.specs.declared.suite_file.Suite.{Suite}
 
 -- ---- what stands in a directory
 
--- what is of a kind stands there under a name, which isn't passed over
+-- of what isn't passed over, a directory is walked through, and a file whose path ends in a suffix of the suite is a test
+abbrev pub takes_kind : Suite → ItemKind → List ℕ → Bool
+takes_kind suite Dir path = true
+takes_kind suite File path = has_suffix suite path
+takes_kind suite Other path = false
+
+-- the suite of a directory takes what is of a kind there under a name
+abbrev pub takes : Option Rooted → ItemKind → Parts → List ℕ → Bool
+takes None kind dir part = false
+takes (Some rooted) kind dir part =
+    not (is_passed rooted.suite part) && takes_kind rooted.suite kind (text_of (dir ++ part ∷ []))
+
+-- what is of a kind stands there under a name, and is taken
 pub record IsIn (nodes : List Node) (kind : ItemKind) (dir : Parts) (part : List ℕ) : Type 0 where
   pub named : is_part part ≡ true
   pub stands : kind_of nodes (dir ++ part ∷ []) ≡ Some kind
-  pub kept : is_passed (nearest nodes dir) part ≡ false
-
--- a directory is walked through, and a file is a test
-abbrev pub IsDirIn : List Node → Parts → List ℕ → Type 0
-IsDirIn nodes dir part = IsIn nodes Dir dir part
-
-abbrev pub IsTestIn : List Node → Parts → List ℕ → Type 0
-IsTestIn nodes dir part =
-    IsIn nodes File dir part × (has_suffix (nearest nodes dir) (text_of (dir ++ part ∷ [])) ≡ true)
+  pub taken : takes (nearest nodes dir) kind dir part ≡ true
 
 -- ---- directories
 
 -- each part of the rest is a directory that is walked through, from the one before it
 abbrev pub IsWay : List Node → Parts → Parts → Type 0
 IsWay nodes dir [] = ⊤
-IsWay nodes dir (part ∷ rest) = IsDirIn nodes dir part × IsWay nodes (dir ++ part ∷ []) rest
+IsWay nodes dir (part ∷ rest) = IsIn nodes Dir dir part × IsWay nodes (dir ++ part ∷ []) rest
 
 -- a directory is walked through from another, or is the same
 pub record IsWalked (nodes : List Node) (word dir : Parts) : Type 0 where
@@ -78,7 +73,7 @@ pub record IsBelow (nodes : List Node) (word path : Parts) : Type 0 where
   pub part : List ℕ
   pub is : path ≡ dir ++ part ∷ []
   pub walked : IsWalked nodes word dir
-  pub test : IsTestIn nodes dir part
+  pub test : IsIn nodes File dir part
 
 -- the words make a path a test: it is that of a file, and one of them or below one
 abbrev pub IsTest : List Node → List Parts → Parts → Type 0

@@ -3,7 +3,7 @@
 use Rattle.std.specs.Prelude.{◌≡◌, ℕ, ◌<◌, ◌≤◌, true, List, [], ◌++◌, map, length, All, Option, None, Some, Result, Ok, Err, ⊤}
 use Rattle.std.specs.Cmp.Lexicographic.{slice_cmp}
 use Rattle.std.specs.Ordering.{nat_cmp}
-use Rattle.std.specs.List.{Any, list_all}
+use Rattle.std.specs.List.{Any, Contains, list_all}
 use Rattle.std.specs.List.Sorted.{IsStrictlySortedBy}
 use Rattle.tt_outside.specs.declared.test_data.Test.{Test}
 use Rattle.tt_outside.specs.declared.tree.Node.{Node}
@@ -11,8 +11,6 @@ use Rattle.tt_outside.specs.TreeMap.{is_part}
 use Rattle.lit_dirs.specs.declared.fault.DiscoverFault.{DiscoverFault}
 use Rattle.lit_dirs.specs.declared.fault.DiscoverFault.TheVariants.{TooMany, NoTests}
 use Rattle.lit_find.specs.Discovery.{IsTest}
-use Rattle.lit_find.specs.Files.{IsFiled, test_in}
-use Rattle.lit_find.specs.declared.place.TestFile.{TestFile}
 use Rattle.lit_paths.specs.Paths.{Parts, dir_of, joined, parts_of, text_of}
 use Rattle.lit_find.specs.Refusals.{IsClear, IsRefused}
 use Rattle.lit_look.specs.Suites.{Rooted, nearest}
@@ -28,11 +26,11 @@ pub record IsRight (nodes : List Node) (words : List Parts) (test : Test) : Type
   pub passes : IsTest nodes words (rooted.root ++ below)
   pub made : IsTestOf rooted.root rooted.suite below test
 
--- these are the tests of files, each once, in byte order of their paths
-pub record IsInOrder (files : List TestFile) (tests : List Test) : Type 0 where
+-- these are the tests that were found, each path once, in byte order
+pub record IsInOrder (found tests : List Test) : Type 0 where
   pub ascending : IsStrictlySortedBy (slice_cmp nat_cmp) (map (λ test. test.path) tests)
-  pub right : All (λ test. Any (λ file. IsFiled file × (test ≡ test_in file)) files) tests
-  pub whole : All (λ file. Any (λ test. test.path ≡ file.path) tests) files
+  pub right : All (Contains found) tests
+  pub whole : All (λ one. Any (λ test. test.path ≡ one.path) tests) found
 
 -- the tests are those of the paths that the words make tests, each once, in byte order
 pub record AreTests (nodes : List Node) (words : List Parts) (tests : List Test) : Type 0 where

@@ -1,12 +1,13 @@
 -- Directories that are to be walked through, in order.
 -- Own rule: they stand in the order of their lists of parts, so one stands before those below it and siblings stand in
 -- byte order.
-use Rattle.std.specs.Prelude.{◌≡◌, ℕ, List, [], ◌∷◌, ◌++◌, map, Vec}
+use Rattle.std.specs.Prelude.{◌≡◌, ℕ, List, [], ◌∷◌, All, map, Vec}
 use Rattle.std.specs.declared.alloc.Global.{Global}
 use Rattle.std.specs.Cmp.Lexicographic.{slice_cmp}
 use Rattle.std.specs.Ordering.{match_ordering, nat_cmp}
 use Rattle.std.specs.declared.cmp.Ordering.{Ordering}
 use Rattle.std.specs.declared.cmp.Ordering.TheVariants.{Less}
+use Rattle.lit_look.specs.Suites.{LiesIn}
 use Rattle.lit_look.specs.declared.root.SuiteRoot.{SuiteRoot}
 use Rattle.lit_paths.specs.Paths.{Parts}
 use Rattle.lit_find.specs.declared.place.Place.{Place}
@@ -29,7 +30,13 @@ put order place (one ∷ places) =
 
 -- the directory is that of its suite, or lies below it
 abbrev pub IsInside : Place → Type 0
-IsInside place = (rest : Parts) × (place.path ≡ place.suite.dir ++ rest)
+IsInside place = LiesIn place.suite.dir place.path
+
+-- the first of some places, the others after it
+pub record IsFirst (old new : List Place) (place : Place) : Type 0 where
+  pub first : old ≡ place ∷ new
+  pub least : All (λ other. IsBefore place.path other.path) new
+  pub inside : IsInside place
 
 -- ---- keys
 

@@ -12,7 +12,7 @@ use Rattle.lit_dirs.specs.declared.fault.DiscoverFault.{DiscoverFault}
 use Rattle.lit_dirs.specs.declared.fault.DiscoverFault.TheVariants.{Missing}
 use Rattle.lit_look.specs.declared.seen.Looked.{Looked}
 use Rattle.lit_look.specs.Seen.{AreSeen, Refuses}
-use Rattle.lit_look.specs.Looks.{HasNoSuite, IsRefusedUp}
+use Rattle.lit_look.specs.Looks.{RefusesUp}
 use Rattle.lit_look.specs.Suites.{looked_up, nearest}
 use Rattle.lit_find.specs.Discovery.{IsLookedAt, IsWalked, start_of}
 use Rattle.lit_find.specs.Places.{IsBefore}
@@ -57,8 +57,7 @@ abbrev pub RefusesWord : List Node → List Parts → Parts → DiscoverFault �
 RefusesWord nodes earlier word fault =
     IsMissing nodes word fault
     ⊎ (Stands nodes word
-    × (((seen : List Looked) × HasNoSuite nodes (IsLookedAt nodes earlier) (start_of nodes word) word seen fault)
-    ⊎ IsRefusedUp nodes (IsLookedAt nodes earlier) (start_of nodes word) fault
+    × (RefusesUp nodes (IsLookedAt nodes earlier) (start_of nodes word) word fault
     ⊎ ((nearest nodes word ≢ None) × IsRefusedDown nodes (IsDue nodes earlier word) word fault)))
 
 -- the first of the words that is refused, and its refusal

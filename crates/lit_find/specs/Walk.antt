@@ -1,28 +1,31 @@
--- What a walk through directories keeps: those that were walked through, those before it, and the files found.
+-- What a walk through directories keeps: those that were walked through, those before it, and the tests found.
 -- Own rule: a directory is walked through once in a discovery, whatever words name it.
-use Rattle.std.specs.Prelude.{◌≡◌, ℕ, ◌+◌, ◌-◌, ◌<◌, ◌==◌, Bool, true, false, if◌then◌else◌, List, [], ◌∷◌, ◌++◌, length, map, All, Option, None, Some, Result, Ok, Err, ◌⊎◌, ⊤}
-use Rattle.std.specs.List.{Contains, list_all}
-use Rattle.std.specs.BTreeSet.{contains}
+use Rattle.std.specs.Prelude.{◌≡◌, ℕ, ◌+◌, ◌-◌, Bool, true, false, ◌||◌, if◌then◌else◌, List, [], ◌∷◌, ◌++◌, length, map, All, Vec, Option, None, Some, Result, Ok, Err, ◌⊎◌, ⊤}
+use Rattle.std.specs.List.{Contains, list_all, list_any, sum_by}
+use Rattle.std.specs.BTreeSet.{BTreeSet}
+use Rattle.std.specs.declared.alloc.Global.{Global}
+use Rattle.std.specs.Cmp.Lexicographic.{slice_cmp}
 use Rattle.std.specs.Option.{unwrap_or}
-use Rattle.std.specs.Ordering.{nat_cmp}
+use Rattle.std.specs.Ordering.{is_eq, nat_cmp}
+use Rattle.tt_outside.specs.declared.test_data.Test.{Test}
 use Rattle.tt_outside.specs.declared.tree.Node.{Node}
-use Rattle.tt_outside.specs.declared.tree.ItemKind.TheVariants.{File, Dir}
+use Rattle.tt_outside.specs.declared.tree.ItemKind.{ItemKind}
+use Rattle.tt_outside.specs.declared.tree.ItemKind.TheVariants.{File, Dir, Other}
 use Rattle.tt_outside.specs.TreeMap.{are_nested, is_part}
-use Rattle.lit_paths.specs.Paths.{Parts, dir_of, joined, parts_of, path_in, text_of}
+use Rattle.lit_paths.specs.Paths.{Parts, joined, parts_of, text_of}
 use Rattle.lit_dirs.specs.Looks.{kind_of}
 use Rattle.lit_dirs.specs.Suites.{suite_at}
 use Rattle.lit_dirs.specs.declared.fault.DiscoverFault.{DiscoverFault}
-use Rattle.lit_look.specs.Looks.{IsNumberOf}
 use Rattle.lit_look.specs.Seen.{AreLooks, AreSeen, Has}
-use Rattle.lit_look.specs.Suites.{nearest, or_else, rooted, rooted_at}
+use Rattle.lit_look.specs.Suites.{LiesIn, nearest, or_else, rooted, rooted_at}
 use Rattle.lit_look.specs.Trees.{Gives, Told}
 use Rattle.lit_look.specs.declared.root.SuiteRoot.{SuiteRoot}
 use Rattle.lit_look.specs.declared.seen.Looked.{Looked}
-use Rattle.lit_find.specs.Discovery.{IsDirIn, IsLookedAt, IsTest, IsTestIn, IsWalked}
+use Rattle.lit_find.specs.Discovery.{IsIn, IsLookedAt, IsWalked}
+use Rattle.lit_find.specs.Found.{IsRight}
 use Rattle.lit_find.specs.Places.{IsBefore}
 use Rattle.lit_find.specs.Refusals.{HasPlace, IsRefused, IsRefusedDown, RefusesWord}
-use Rattle.lit_find.specs.Sorting.{with_dirs, with_files}
-use Rattle.lit_find.specs.declared.place.TestFile.{TestFile}
+use Rattle.lit_find.specs.Sorting.{with_items}
 use Rattle.lit_find.specs.declared.place.Place.{Place}
 use Rattle.lit_find.specs.declared.walk.Walk.{Walk}
 
@@ -31,84 +34,84 @@ use Rattle.lit_find.specs.declared.walk.Walk.{Walk}
 abbrev pub HasPath : List Place → Parts → Type 0
 HasPath places path = Contains (map (λ place. place.path) places) path
 
-abbrev pub HasFile : List TestFile → Parts → Type 0
-HasFile files path = Contains (map (λ file. file.path) files) (text_of path)
+abbrev pub HasTest : List Test → Parts → Type 0
+HasTest tests path = Contains (map (λ test. test.path) tests) (text_of path)
 
--- the directory of this number was walked through
-abbrev pub was_walked : Walk → ℕ → Bool
-was_walked walk number = contains nat_cmp walk.walked number
+-- a text is this one, and a set of texts has it
+abbrev pub same_text : List ℕ → List ℕ → Bool
+same_text one other = is_eq (slice_cmp nat_cmp one other)
+
+abbrev pub has_text : BTreeSet (Vec ℕ Global) → List ℕ → Bool
+has_text texts text = list_any (λ key. same_text text key.items) texts.keys
+
+-- the directory of this text was walked through
+abbrev pub was_walked : Walk → List ℕ → Bool
+was_walked walk text = has_text walk.walked text
 
 -- a directory was walked through
-abbrev pub Walked : List Looked → Walk → Parts → Type 0
-Walked seen walk dir = (number : ℕ) × IsNumberOf seen dir number × (was_walked walk number ≡ true)
+abbrev pub Walked : Walk → Parts → Type 0
+Walked walk dir = (list_all is_part dir ≡ true) × (was_walked walk (text_of dir) ≡ true)
 
--- that was done, or is to be
-abbrev pub IsBegun : List Looked → Walk → Parts → Type 0
-IsBegun seen walk dir = Walked seen walk dir ⊎ HasPath walk.pending dir
+-- that of a directory was done, or is to be; a file's test is found
+abbrev pub IsDone : Walk → ItemKind → Parts → Type 0
+IsDone walk Dir path = Walked walk path ⊎ HasPath walk.pending path
+IsDone walk File path = HasTest walk.found path
+IsDone walk Other path = ⊤
 
 -- ---- one directory
 
 -- a directory is walked through: what it lists is sorted by its suite
-pub record IsThrough (looked : Looked) (number : ℕ) (known : SuiteRoot) (old new : Walk) : Type 0 where
-  pub marked : (other : ℕ) → was_walked new other ≡ (if other == number then true else was_walked old other)
-  pub dirs : new.pending ≡ with_dirs (unwrap_or looked.suite known) looked.dir looked.items old.pending
-  pub files : new.found ≡ with_files (unwrap_or looked.suite known) looked.dir looked.items old.found
+pub record IsThrough (looked : Looked) (known : SuiteRoot) (old new : Walk) : Type 0 where
+  pub marked : (text : List ℕ) → was_walked new text ≡ (same_text text (text_of looked.dir) || was_walked old text)
+  pub sorted : new ≡ with_items (unwrap_or looked.suite known) looked.dir
+      (record { found = old.found; walked = new.walked; pending = old.pending }) looked.items
 
 -- that is done once
-pub record Enters (looked : Looked) (number : ℕ) (known : SuiteRoot) (old new : Walk) : Type 0 where
-  pub again : was_walked old number ≡ true → new ≡ old
-  pub first : was_walked old number ≡ false → IsThrough looked number known old new
+pub record Enters (looked : Looked) (known : SuiteRoot) (old new : Walk) : Type 0 where
+  pub again : was_walked old (text_of looked.dir) ≡ true → new ≡ old
+  pub first : was_walked old (text_of looked.dir) ≡ false → IsThrough looked known old new
 
 -- ---- how long a walk may take
 
--- how many items the directories list that were walked through, from this number on
-abbrev pub spent : (ℕ → Bool) → ℕ → List Looked → ℕ
-spent was number [] = 0
-spent was number (looked ∷ seen) = (if was number then length looked.items else 0) + spent was (number + 1) seen
+-- how many items the directories list that were walked through
+abbrev pub spent : List Looked → Walk → ℕ
+spent seen walk = sum_by (λ looked. if was_walked walk (text_of looked.dir) then length looked.items else 0) seen
 
 -- how many further directories are walked through at most
 abbrev pub room : List Looked → Walk → ℕ
-room seen walk = length walk.pending + (1000000 - spent (was_walked walk) 0 seen)
+room seen walk = length walk.pending + (1000000 - spent seen walk)
 
 -- ---- what holds between two directories
 
--- a directory that is to be walked through, with the suite of the one that it stands in
-pub record IsUnder (nodes : List Node) (place : Place) : Type 0 where
-  pub parts : list_all is_part place.path ≡ true
+-- a directory that is to be walked through from a word, with the suite of the one that it stands in
+pub record IsAhead (nodes : List Node) (word : Parts) (place : Place) : Type 0 where
+  pub inside : LiesIn place.suite.dir place.path
+  pub walked : IsWalked nodes word place.path
   pub is_dir : kind_of nodes place.path ≡ Some Dir
   pub suite : nearest nodes place.path
       ≡ or_else (rooted place.path (suite_at nodes place.path)) (Some (rooted_at place.suite))
 
--- a file that the words make a test, with its suite
-pub record IsTestFile (nodes : List Node) (words : List Parts) (file : TestFile) : Type 0 where
-  pub suite : nearest nodes (dir_of (path_in file.path)) ≡ Some (rooted_at file.suite)
-  pub test : IsTest nodes words (path_in file.path)
-
 -- Some words are walked: of each directory that was walked through, those in it were too, or are to be, and its tests
 -- are found.
-pub record IsState (nodes : List Node) (words : List Parts) (seen : List Looked) (walk : Walk) : Type 0 where
-  pub looks : AreLooks nodes seen
-  pub below : (number : ℕ) → was_walked walk number ≡ true → number < length seen
-  pub under : All (IsUnder nodes) walk.pending
-  pub tests : All (IsTestFile nodes words) walk.found
-  pub closed : (dir : Parts) (part : List ℕ) → Walked seen walk dir → IsDirIn nodes dir part
-      → IsBegun seen walk (dir ++ part ∷ [])
-  pub kept : (dir : Parts) (part : List ℕ) → Walked seen walk dir → IsTestIn nodes dir part
-      → HasFile walk.found (dir ++ part ∷ [])
-  pub dirs : (word : Parts) → Contains words word → kind_of nodes word ≡ Some Dir → IsBegun seen walk word
-  pub files : (word : Parts) → Contains words word → kind_of nodes word ≡ Some File → HasFile walk.found word
+pub record IsState (nodes : List Node) (words : List Parts) (walk : Walk) : Type 0 where
+  pub tests : All (IsRight nodes words) walk.found
+  pub closed : (kind : ItemKind) (dir : Parts) (part : List ℕ) → Walked walk dir → IsIn nodes kind dir part
+      → IsDone walk kind (dir ++ part ∷ [])
+  pub asked : (kind : ItemKind) (word : Parts) → Contains words word → kind_of nodes word ≡ Some kind
+      → IsDone walk kind word
 
 -- The walk of a word, one of some: what it looked at behind the first looks stands before all that is to be walked
 -- through. The other words are done.
 pub record IsWalk (nodes : List Node) (words : List Parts) (word : Parts) (first seen : List Looked) (walk : Walk)
     : Type 0 where
-  pub state : IsState nodes words seen walk
-  pub right : All (λ place. IsWalked nodes word place.path) walk.pending
+  pub state : IsState nodes words walk
+  pub ahead : All (IsAhead nodes word) walk.pending
+  pub looks : AreLooks nodes seen
+  pub looked : (dir : Parts) → Walked walk dir → Has seen dir
   pub from : (dir : Parts) → Has first dir → Has seen dir
   pub new : (dir : Parts) → Has seen dir
       → Has first dir ⊎ (IsWalked nodes word dir × All (λ place. IsBefore dir place.path) walk.pending)
   pub one : Contains words word
-  pub is_dir : kind_of nodes word ≡ Some Dir
 
 -- the walk with a directory before it
 abbrev pub with_first : Place → Walk → Walk
@@ -138,8 +141,9 @@ GoesThrough told place old new before after result =
 
 -- all that some words make was found, and no directory is before the walk
 pub record IsCovered (nodes : List Node) (words : List Parts) (seen : List Looked) (walk : Walk) : Type 0 where
-  pub state : IsState nodes words seen walk
+  pub state : IsState nodes words walk
   pub done : walk.pending ≡ []
+  pub looked : (dir : Parts) → Walked walk dir → Has seen dir
   pub places : All (HasPlace nodes) words
   pub all : AreSeen nodes (IsLookedAt nodes words) seen
 
@@ -173,7 +177,7 @@ AddsFile told word old new before after result =
     → IsCovered nodes words old before → kind_of nodes word ≡ Some File → GivesWord nodes words word new after result
 
 -- what all words of a discovery give, where the tree tells what stands in it
-abbrev pub Walks : Option (List Node) → List ℕ → List (List ℕ) → Result (List TestFile) DiscoverFault → Type 0
+abbrev pub Walks : Option (List Node) → List ℕ → List (List ℕ) → Result (List Test) DiscoverFault → Type 0
 Walks None base texts result = ⊤
 Walks (Some nodes) base texts (Ok found) =
     (seen : List Looked) × (walk : Walk) × IsCovered nodes (map (joined (parts_of base)) texts) seen walk

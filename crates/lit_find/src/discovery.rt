@@ -1,6 +1,7 @@
 //! What a discovery has found.
-ghost use Rattle.std.specs.Prelude.{◌≡◌, ◌↔◌, All, IfOk, IsTrue, [], length, map};
+ghost use Rattle.std.specs.Prelude.{◌≡◌, ◌↔◌, ◌∷◌, ◌++◌, All, IfOk, IsTrue, OnOk, [], length, map};
 ghost use Rattle.lit_find.specs.Files.{IsFiled, test_in};
+ghost use Rattle.lit_find.specs.Found.{IsInOrder};
 
 use crate::place::TestFile;
 use lit_dirs::{name_of, test_of};
@@ -9,7 +10,8 @@ use std::marker::Model;
 use tt_base::{Bytes, Items, NoMemory};
 use tt_outside::Test;
 
-/// The tests that words make, each once, in byte order of their paths. A test is made, or named, when it is asked for.
+/// The tests of files. A discovery answers those that words make, each once, in byte order of their paths. A test is
+/// made, or named, when it is asked for.
 #[derive(Drop, Debug)]
 pub struct Discovery {
     files: Vec<TestFile>,
@@ -78,11 +80,34 @@ fn tests_in(alloc: Global, files: Vec<TestFile>) -> Result<Items<Test>, NoMemory
 }
 
 impl Discovery {
-    /// The tests of files.
-    pub(crate) fn of(files: Vec<TestFile>) -> Discovery
-        requires { All IsFiled files.items }
-        ensures { result ≡ map test_in files.items }
+    /// No tests. It takes no memory.
+    pub(crate) fn new(alloc: Global) -> Discovery
+        ensures { result ≡ [] }
     {
+        Discovery {
+            files: Vec::new(alloc),
+        }
+    }
+
+    /// Adds the test of a file.
+    #[tactic(auto, using(std::proofs::lemmas::List::map_push))]
+    pub(crate) fn put(&mut self, file: TestFile) -> Result<(), NoMemory>
+        requires { IsFiled file }
+        ensures { OnOk result (self.new ≡ self.old ++ test_in file ∷ []) }
+    {
+        match self.files.push(file) {
+            Ok(_) => Ok(()),
+            Err(_) => Err(NoMemory),
+        }
+    }
+
+    /// These tests, each path once, in byte order.
+    pub(crate) fn in_order(self) -> Discovery
+        ensures { IsInOrder self result }
+    {
+        let mut files = self.files;
+        files.sort_unstable_by(|one, other| one.path.as_slice().cmp(other.path.as_slice()));
+        files.dedup_by(|one, other| one.path.as_slice().cmp(other.path.as_slice()).is_eq());
         Discovery { files }
     }
 

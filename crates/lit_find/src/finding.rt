@@ -8,7 +8,6 @@ ghost use Rattle.lit_paths.specs.Paths.{joined};
 ghost use Rattle.tt_outside.specs.TreeMap.{is_part};
 
 use crate::discovery::Discovery;
-use crate::found::Found;
 use crate::pending::Pending;
 use crate::walk::Walk;
 use crate::words::add_word;
@@ -48,14 +47,18 @@ fn add_words<T: Tree>(
 }
 
 /// What the walk of words found; or the first refusal.
-fn walk_words<T: Tree>(alloc: Global, tree: &mut T, paths: &[Bytes]) -> Result<Found, DiscoverFault>
+fn walk_words<T: Tree>(
+    alloc: Global,
+    tree: &mut T,
+    paths: &[Bytes],
+) -> Result<Discovery, DiscoverFault>
     ensures walk { Walks (T.nodes tree.old) (T.root tree.old) paths.now result }
     ensures tree { Leaves T.nodes T.root T.faults T.steady tree.old tree.new (fault_of result) }
 {
     let base = read_path(alloc, tree.base())?;
     let mut seen = Seen::new(alloc);
     let mut walk = Walk {
-        found: Found::new(alloc),
+        found: Discovery::new(alloc),
         walked: BTreeSet::new(alloc),
         pending: Pending::new(alloc),
     };

@@ -4,7 +4,6 @@
 
 mod discovery;
 mod finding;
-mod found;
 mod laws;
 mod pending;
 mod place;

@@ -1,6 +1,6 @@
 //! The directories that a walk has before it.
-ghost use Rattle.std.specs.Prelude.{◌≡◌, ◌∷◌, ◌++◌, All, IfNone, IfOk, IfSome, OnOk, [], map};
-ghost use Rattle.lit_find.specs.Places.{IsBefore, IsInside, parts_of, path_order, put};
+ghost use Rattle.std.specs.Prelude.{◌≡◌, ◌∷◌, ◌++◌, IfOk, MatchOption, OnOk, []};
+ghost use Rattle.lit_find.specs.Places.{IsFirst, IsInside, parts_of, path_order, put};
 
 use crate::place::Place;
 use lit_look::SharedRoot;
@@ -91,12 +91,7 @@ impl Pending {
 
     /// Takes the first directory.
     pub(crate) fn pop(&mut self, alloc: Global) -> Result<Option<Place>, NoMemory>
-        ensures first { IfOk result (λ found. IfSome found (λ place. self.old ≡ place ∷ self.new)) }
-        ensures least { IfOk result (λ found. IfSome found (λ place.
-            All (λ other. IsBefore place.path other.path) self.new)) }
-        ensures inside { IfOk result (λ found. IfSome found IsInside) }
-        ensures none { IfOk result (λ found. IfNone found (self.old ≡ [])) }
-        ensures left { IfOk result (λ found. IfNone found (self.new ≡ [])) }
+        ensures { IfOk result (λ found. MatchOption found ((self.old ≡ []) × (self.new ≡ [])) (IsFirst self.old self.new)) }
     {
         let Some((key, suite)) = self.held.pop_first() else {
             return Ok(None);

@@ -1,8 +1,8 @@
 //! What a directory lists, for a walk.
 ghost use Rattle.std.specs.Prelude.{◌≡◌, ◌++◌, ◌∷◌, [], IfOk, OnOk};
 ghost use Rattle.lit_look.specs.Suites.{LiesIn};
-ghost use Rattle.lit_paths.specs.Paths.{Parts, slashed};
-ghost use Rattle.lit_find.specs.Sorting.{text_in, with_dir, with_dirs, with_file, with_files};
+ghost use Rattle.lit_paths.specs.Paths.{Parts, slashed, text_of};
+ghost use Rattle.lit_find.specs.Sorting.{with_item, with_items};
 ghost use Rattle.tt_outside.specs.TreeMap.{is_part};
 
 use crate::pending::key_in;
@@ -16,7 +16,7 @@ use tt_base::{Bytes, NoMemory};
 use tt_outside::{Item, ItemKind};
 
 /// Whether a name is one part of a path.
-pub(crate) fn is_part(name: &[u8]) -> bool
+fn is_part(name: &[u8]) -> bool
     ensures { result ≡ is_part name.now }
 {
     !name.is_empty() && !name.contains(&b'/')
@@ -25,7 +25,8 @@ pub(crate) fn is_part(name: &[u8]) -> bool
 /// The text of an item's path. `front` stands before the names in its directory.
 #[tactic(auto, using(crate::proofs::PathLemmas::name_text))]
 fn text_in(alloc: Global, front: &[u8], item: &Item) -> Result<Bytes, NoMemory>
-    ensures { (dir : Parts) → front.now ≡ slashed dir ++ 47 ∷ [] → IfOk result (λ text. text ≡ text_in dir item.now) }
+    ensures { (dir : Parts) → front.now ≡ slashed dir ++ 47 ∷ []
+        → IfOk result (λ text. text ≡ text_of (dir ++ item.now.name ∷ [])) }
 {
     chained(alloc, &[front, item.name.as_slice()])
 }
@@ -42,19 +43,21 @@ fn sort_item(
 ) -> Result<(), NoMemory>
     requires front { front.now ≡ slashed dir.now ++ 47 ∷ [] }
     requires inside { LiesIn root.now.dir dir.now }
-    ensures dirs { OnOk result (walk.new.pending ≡ with_dir root.now dir.now item.now walk.old.pending) }
-    ensures files { OnOk result (walk.new.found ≡ with_file root.now dir.now item.now walk.old.found) }
+    ensures sorted { OnOk result (walk.new ≡ with_item root.now dir.now walk.old item.now) }
     ensures walked { walk.new.walked ≡ walk.old.walked }
 {
     let suite = &root.get().suite;
+    // Nothing stands under a name that is no part of a path, whatever the tree lists.
+    if !is_part(item.name.as_slice()) {
+        return Ok(());
+    }
     if is_passed(suite, item.name.as_slice()) {
         return Ok(());
     }
     match item.kind {
         ItemKind::File => {
             let path = text_in(alloc, front, item)?;
-            // No file has a name that is no part of a path, whatever the tree lists.
-            if has_suffix(suite, path.as_slice()) && is_part(item.name.as_slice()) {
+            if has_suffix(suite, path.as_slice()) {
                 let suite = root.share()?;
                 walk.found.put(TestFile { path, suite })?;
             }
@@ -77,8 +80,7 @@ pub(crate) fn sort_items(
     walk: &mut Walk,
 ) -> Result<(), NoMemory>
     requires { LiesIn root.now.dir dir.now }
-    ensures dirs { OnOk result (walk.new.pending ≡ with_dirs root.now dir.now items.now walk.old.pending) }
-    ensures files { OnOk result (walk.new.found ≡ with_files root.now dir.now items.now walk.old.found) }
+    ensures sorted { OnOk result (walk.new ≡ with_items root.now dir.now walk.old items.now) }
     ensures walked { walk.new.walked ≡ walk.old.walked }
 {
     let front = front_of(alloc, dir)?;

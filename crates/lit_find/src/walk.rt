@@ -1,13 +1,13 @@
 //! What a discovery has found so far.
 
-use crate::found::Found;
+use crate::discovery::Discovery;
 use crate::pending::Pending;
 use std::collections::BTreeSet;
 
-/// What a discovery has found, the numbers of the directories that it has walked through, and those before it.
+/// The tests found, the paths of the directories that were walked through, and the directories that are to be.
 #[derive(Drop, Debug)]
 pub(crate) struct Walk {
-    pub found: Found,
-    pub walked: BTreeSet<usize>,
+    pub found: Discovery,
+    pub walked: BTreeSet<Vec<u8>>,
     pub pending: Pending,
 }

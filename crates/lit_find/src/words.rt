@@ -11,7 +11,7 @@ use crate::visit::walk_all;
 use crate::walk::Walk;
 use lit_dirs::DiscoverFault;
 use lit_look::{Seen, nearest};
-use lit_paths::{dir_of, text_of};
+use lit_paths::text_of;
 use std::alloc::Global;
 use tt_base::Bytes;
 use tt_outside::Tree;
@@ -29,15 +29,15 @@ fn add_file<T: Tree>(
     ensures tree { Leaves T.nodes T.root T.faults T.steady tree.old tree.new (fault_of result) }
 {
     let path = text_of(alloc, word)?;
-    // A file at `/` stands in no directory.
-    if word.is_empty() {
-        return Err(DiscoverFault::Missing(path));
-    }
-    match nearest(alloc, tree, seen, dir_of(word), word) {
-        Ok(Some(suite)) => Ok(walk.found.put(TestFile { path, suite })?),
-        // A file has taken the directory's place.
-        Ok(None) => Err(DiscoverFault::Missing(text_of(alloc, dir_of(word))?)),
-        Err(fault) => Err(fault),
+    match word.split_last() {
+        Some((_, dir)) => match nearest(alloc, tree, seen, dir, word) {
+            Ok(Some(suite)) => Ok(walk.found.put(TestFile { path, suite })?),
+            // A file has taken the directory's place.
+            Ok(None) => Err(DiscoverFault::Missing(text_of(alloc, dir)?)),
+            Err(fault) => Err(fault),
+        },
+        // A file at `/` stands in no directory.
+        None => Err(DiscoverFault::Missing(path)),
     }
 }
 

@@ -5,7 +5,7 @@ use Rattle.std.proofs.Common.{◌≡◌, ℕ, true, List, [], ◌∷◌, ◌++�
 use Rattle.std.specs.List.{Contains, list_all}
 use Rattle.std.specs.Option.{option_map}
 use Rattle.std.specs.Prelude.{slice_get}
-use Rattle.std.proofs.lemmas.List.Elements.{Contains-append_left, Contains-push, Contains-push_cases}
+use Rattle.std.proofs.lemmas.List.Elements.{All-contains, Contains-append_left, Contains-push, Contains-push_cases}
 use Rattle.std.proofs.lemmas.List.Folds.{list_all-append}
 use Rattle.lit_paths.proofs.PartLemmas.{and_left}
 use Rattle.lit_dirs.specs.Looks.{kind_of}
@@ -14,17 +14,17 @@ use Rattle.lit_dirs.specs.declared.fault.DiscoverFault.{DiscoverFault}
 use Rattle.lit_dirs.specs.declared.fault.DiscoverFault.TheVariants.{NoSuite}
 use Rattle.lit_paths.specs.Paths.{Parts, text_of}
 use Rattle.lit_look.proofs.DirLemmas.{above_is_dir}
-use Rattle.lit_look.proofs.ListLemmas.{all_at, none_in}
-use Rattle.lit_look.proofs.SeenLemmas.{further, refused_behind, same_seen}
+use Rattle.lit_look.proofs.ListLemmas.{has_at, none_in}
+use Rattle.lit_look.proofs.SeenLemmas.{further, looks_of, same_seen}
 use Rattle.lit_look.proofs.SuiteLemmas.{nearest_above, nearest_here, nearest_nowhere, up_above, up_at_root, up_ends, up_starts}
 use Rattle.lit_look.proofs.TreeLemmas.{told}
-use Rattle.lit_look.specs.Looks.{AreSeenUp, Extends, GivesLook, GivesNearest, IsAbsent, IsNumberOf, IsRefusedFrom, IsRefusedUp, suite_of}
-use Rattle.lit_look.specs.Seen.{AreLooks, AreSeen, Has, IsLook, Refuses}
+use Rattle.lit_look.specs.Looks.{AreSeenUp, Extends, GivesLook, GivesNearest, IsAbsent, IsNumberOf, RefusesUp, suite_of}
+use Rattle.lit_look.specs.Seen.{AreLooks, AreSeen, Has, IsLook, RefusesNext}
 use Rattle.lit_look.specs.Suites.{looked_up, nearest}
 use Rattle.lit_look.specs.declared.root.SuiteRoot.{SuiteRoot}
 use Rattle.lit_look.specs.declared.seen.Looked.{Looked}
 use Rattle.tt_outside.specs.TreeMap.{are_nested, is_part}
-use Rattle.tt_outside.specs.declared.tree.ItemKind.TheVariants.{Dir, File}
+use Rattle.tt_outside.specs.declared.tree.ItemKind.TheVariants.{Dir}
 use Rattle.tt_outside.specs.declared.tree.Node.{Node}
 
 -- The directories that are due before this one were looked at. It is the first, or it and the first are directories.
@@ -35,16 +35,12 @@ pub record Climbs (nodes : List Node) (dir at : Parts) (old now : List Looked) :
   pub same : nearest nodes dir ≡ nearest nodes at
   pub here : ((at ≡ dir) × (now ≡ old)) ⊎ ((kind_of nodes at ≡ Some Dir) × (kind_of nodes dir ≡ Some Dir))
 
-pub looks_of : (nodes : List Node) (B : Parts → Type 0) (seen : List Looked) → AreSeen nodes B seen
-    → AreLooks nodes seen
-looks_of nodes B seen are = same_seen nodes B (Has seen) seen are are.whole are.right
-
 pub climbs_start : (nodes : List Node) (dir : Parts) (old : List Looked) → AreLooks nodes old
     → Climbs nodes dir dir old old
 climbs_start nodes dir old looks = record {
   early = [];
   up = refl;
-  seen = same_seen nodes (Has old) (λ one. Has old one ⊎ Contains [] one) old looks (λ one has. inl has)
+  seen = same_seen (Has old) (λ one. Has old one ⊎ Contains [] one) looks (λ one has. inl has)
       (λ one h. elim h [ inl has ↦ has | inr none ↦ absurd (none_in one none) ]);
   same = refl;
   here = inl (refl, refl);
@@ -56,50 +52,62 @@ climbs_start nodes dir old looks = record {
 pub record Step (nodes : List Node) (dir at : Parts) (old now new : List Looked) (number : ℕ) : Type 0 where
   pub climbs : Climbs nodes dir at old now
   pub seen : AreSeen nodes (λ one. Has now one ⊎ (one ≡ at)) new
-  pub numbered : IsNumberOf new at number
+  pub looked : Looked
+  pub is : slice_get new number ≡ Some looked
+  pub here : looked.dir ≡ at
 
-pub step_of : (nodes : List Node) (dir at : Parts) (old now new : List Looked) (found : Option ℕ) (number : ℕ)
-    → found ≡ Some number → Climbs nodes dir at old now → GivesLook nodes at now new (Ok found)
-    → IfSome found (IsNumberOf new at) → Step nodes dir at old now new number
-step_of nodes dir at old now new found number is climbs gives numbered = record {
-  climbs = climbs;
-  seen = subst (λ o. GivesLook nodes at now new (Ok o)) is gives;
-  numbered = subst (λ o. IfSome o (IsNumberOf new at)) is numbered;
-}
+pub step_of : {nodes : List Node} {dir at : Parts} {old now : List Looked} (new : List Looked) (found : Option ℕ)
+    (number : ℕ) → found ≡ Some number → Climbs nodes dir at old now
+    → (AreLooks nodes now → GivesLook nodes at now new (Ok found)) → IfSome found (IsNumberOf new at)
+    → Step nodes dir at old now new number
+step_of {nodes = nodes} {at = at} {now = now} new found number is climbs gives numbered =
+    let (looked, there, here) = subst (λ o. IfSome o (IsNumberOf new at)) is numbered in
+    record {
+      climbs = climbs;
+      seen = subst (λ o. GivesLook nodes at now new (Ok o)) is (gives (looks_of climbs.seen));
+      looked = looked;
+      is = there;
+      here = here;
+    }
 
-module _ (nodes : List Node) (dir at : Parts) (old now new : List Looked) (number : ℕ)
+module _ {nodes : List Node} {dir at : Parts} {old now new : List Looked} {number : ℕ}
     (step : Step nodes dir at old now new number) where
+  its_look : IsLook nodes step.looked
+  its_look = All-contains (IsLook nodes) new step.looked step.seen.looks (has_at new number step.looked step.is)
+
   its_suite : (suite : Option SuiteRoot) → suite_of (slice_get new number) ≡ suite
       → (suite_at nodes at ≡ option_map Ok (option_map (λ root. root.suite) suite)) × IfSome suite (λ root. root.dir ≡ at)
   its_suite suite has =
-      let (looked, is, same) = step.numbered in
-      let look = all_at (IsLook nodes) new number looked step.seen.looks is in
-      let its : looked.suite ≡ suite = ap suite_of (sym is) ∙ has in (
-        ap (suite_at nodes) (sym same) ∙ look.suite ∙ ap (λ one. option_map Ok (option_map (λ root. root.suite) one)) its,
-        subst (λ (one : Parts). IfSome suite (λ root. root.dir ≡ one)) same
-            (subst (λ (one : Option SuiteRoot). IfSome one (λ root. root.dir ≡ looked.dir)) its look.root),
+      let its : step.looked.suite ≡ suite = ap suite_of (sym step.is) ∙ has in (
+        ap (suite_at nodes) (sym step.here) ∙ its_look.suite
+            ∙ ap (λ one. option_map Ok (option_map (λ root. root.suite) one)) its,
+        subst (λ (one : Parts). IfSome suite (λ root. root.dir ≡ one)) step.here
+            (subst (λ (one : Option SuiteRoot). IfSome one (λ root. root.dir ≡ step.looked.dir)) its its_look.root),
       )
 
   are_dirs : (kind_of nodes at ≡ Some Dir) × (kind_of nodes dir ≡ Some Dir)
   are_dirs =
-      let (looked, is, same) = step.numbered in
-      let its = ap (kind_of nodes) (sym same) ∙ (all_at (IsLook nodes) new number looked step.seen.looks is).lists.here in
-      elim step.climbs.here [ inl here ↦ (its, ap (kind_of nodes) (sym here.0) ∙ its) | inr both ↦ both ]
+      let its = ap (kind_of nodes) (sym step.here) ∙ its_look.lists.here in
+      elim step.climbs.here [ inl first ↦ (its, ap (kind_of nodes) (sym first.0) ∙ its) | inr both ↦ both ]
 
   seen_more : AreSeen nodes (λ one. Has old one ⊎ Contains (step.climbs.early ++ at ∷ []) one) new
   seen_more =
       let early = step.climbs.early in
-      further nodes (λ one. Has old one ⊎ Contains early one) (λ one. one ≡ at)
-      (λ one. Has old one ⊎ Contains (early ++ at ∷ []) one) now new step.climbs.seen step.seen
-      (λ one h. elim h [ inl has ↦ inl has | inr within ↦ inr (Contains-append_left early (at ∷ []) one within) ])
-      (λ one is. inr (subst (Contains (early ++ at ∷ [])) (sym is) (Contains-push early at)))
+      same_seen (λ one. (Has old one ⊎ Contains early one) ⊎ (one ≡ at))
+      (λ one. Has old one ⊎ Contains (early ++ at ∷ []) one)
+      (further (λ one. Has old one ⊎ Contains early one) (λ one. one ≡ at) step.climbs.seen step.seen)
+      (λ one h. elim h [
+        | inl (inl has) ↦ inl has
+        | inl (inr within) ↦ inr (Contains-append_left early (at ∷ []) one within)
+        | inr is ↦ inr (subst (Contains (early ++ at ∷ [])) (sym is) (Contains-push early at))
+      ])
       (λ one h. elim h [
         | inl has ↦ inl (inl has)
         | inr within ↦ elim (Contains-push_cases early at one within) [ inl before ↦ inl (inr before) | inr is ↦ inr (sym is) ]
       ])
 
   -- where it is the last one
-  seen_all : looked_up nodes at ≡ at ∷ [] → AreSeenUp nodes dir old new
+  seen_all : looked_up nodes at ≡ at ∷ [] → AreSeenUp nodes (Has old) dir new
   seen_all last =
       subst (λ dirs. AreSeen nodes (λ one. Has old one ⊎ Contains dirs one) new)
       (sym (step.climbs.up ∙ ap (λ dirs. step.climbs.early ++ dirs) last)) seen_more
@@ -118,10 +126,11 @@ module _ (nodes : List Node) (dir at : Parts) (old now new : List Looked) (numbe
       → path ≡ text_of word → GivesNearest nodes dir word old new (Err (NoSuite path))
   climbs_to_root word path none empty same =
       let here = ap (suite_at nodes) (sym empty) ∙ (its_suite None none).0 in
+      let last = subst (λ (one : Parts). looked_up nodes one ≡ one ∷ []) (sym empty) (up_at_root nodes here) in
       inr (
         are_dirs.1,
         inl (
-          seen_all (subst (λ (one : Parts). looked_up nodes one ≡ one ∷ []) (sym empty) (up_at_root nodes here)),
+          (new, seen_all last),
           step.climbs.same ∙ ap (nearest nodes) empty ∙ nearest_nowhere nodes here,
           ap (λ text. NoSuite text) same,
         ),
@@ -149,47 +158,28 @@ module _ (nodes : List Node) (dir at : Parts) (old now new : List Looked) (numbe
 
 -- ---- a refusal
 
-refused_at : (nodes : List Node) (dir at : Parts) (old now : List Looked) (fault : DiscoverFault)
-    → Climbs nodes dir at old now → Refuses nodes (Has now) at fault → IsRefusedUp nodes (Has old) dir fault
-refused_at nodes dir at old now fault climbs refuses =
-    let (later, is) = up_starts nodes at in (
-      climbs.early,
-      at,
-      later,
-      climbs.up ∙ ap (λ dirs. climbs.early ++ dirs) is,
-      refused_behind nodes (Has now) (λ one. Has old one ⊎ Contains climbs.early one) at fault refuses climbs.seen.right
-          climbs.seen.whole,
-    )
-
-pub climbs_refused : (nodes : List Node) (dir word at : Parts) (old now next new : List Looked) (fault : DiscoverFault)
-    → Climbs nodes dir at old now → GivesLook nodes at now next (Err fault)
-    → GivesNearest nodes dir word old new (Err fault)
-climbs_refused nodes dir word at old now next new fault climbs gives =
-    told (λ one. IsAbsent nodes at one ⊎ Refuses nodes (Has now) at one)
-    (λ one. IsAbsent nodes dir one ⊎ IsRefusedFrom nodes dir word old new one) fault
+pub climbs_refused : {nodes : List Node} {dir at : Parts} {old now : List Looked} (word : Parts)
+    (next new : List Looked) (fault : DiscoverFault) → Climbs nodes dir at old now
+    → (AreLooks nodes now → GivesLook nodes at now next (Err fault)) → GivesNearest nodes dir word old new (Err fault)
+climbs_refused {nodes = nodes} {dir = dir} {at = at} {old = old} {now = now} word next new fault climbs gives =
+    told (λ one. IsAbsent nodes at one ⊎ RefusesNext nodes now at one)
+    (λ one. IsAbsent nodes dir one ⊎ ((kind_of nodes dir ≡ Some Dir) × RefusesUp nodes (Has old) dir word one)) fault
     (λ one h. elim h [
       | inl absent ↦ elim climbs.here [
         | inl first ↦ inl (subst (λ (path : Parts). IsAbsent nodes path one) first.0 absent)
         | inr both ↦ absurd (absent.1 both.0)
       ]
-      | inr refuses ↦ inr (
-        elim climbs.here [
-          | inl first ↦ ap (kind_of nodes) (sym first.0) ∙ refuses.lists.here
-          | inr both ↦ both.1
-        ],
-        inr (refused_at nodes dir at old now one climbs refuses),
-      )
-    ]) gives
-
--- ---- a file
-
-pub climbs_no_further : (nodes : List Node) (dir word at : Parts) (old now new : List Looked) → Climbs nodes dir at old now
-    → kind_of nodes at ≡ Some File → new ≡ now
-    → (at ≡ dir) × GivesNearest nodes dir word old new (Ok None)
-climbs_no_further nodes dir word at old now new climbs file same = elim climbs.here [
-  | inl first ↦ (first.0, (ap (kind_of nodes) (sym first.0) ∙ file, same ∙ first.1))
-  | inr both ↦ let e : Some Dir ≡ Some File = sym both.0 ∙ file in absurd (cc)
-]
+      | inr refuses ↦
+          let (later, is) = up_starts nodes at in
+          let front = climbs.up ∙ ap (λ dirs. climbs.early ++ dirs) is in
+          inr (
+            elim climbs.here [
+              | inl first ↦ ap (kind_of nodes) (sym first.0) ∙ refuses.lists.here
+              | inr both ↦ both.1
+            ],
+            inr (climbs.early, at, later, front, (now, climbs.seen, refuses)),
+          )
+    ]) (gives (looks_of climbs.seen))
 
 -- ---- whatever the tree tells
 

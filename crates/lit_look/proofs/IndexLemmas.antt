@@ -1,7 +1,7 @@
 -- The numbers of directories, under their paths.
 -- Shown: a number is found exactly where its directory was looked at, also behind one more directory.
 -- Idea: a text tells its path, and a number its place. The hard one is `numbers_more`.
-use Rattle.std.proofs.Common.{◌≡◌, ℕ, ◌+◌, ◌≤◌, Bool, true, false, true≢false, cond, List, [], ◌∷◌, ◌++◌, length, map, Option, Some, None, MatchOption, inl, inr, refl, sym, ap, ◌∙◌, subst, arith}
+use Rattle.std.proofs.Common.{◌≡◌, ℕ, ◌+◌, ◌≤◌, Bool, true, false, cond, List, [], ◌∷◌, ◌++◌, length, map, Option, Some, None, MatchOption, inl, inr, refl, sym, ap, ◌∙◌, subst, arith}
 use Rattle.std.specs.Prelude.{All, Vec, slice_get}
 use Rattle.std.specs.BTreeMap.{insert_entry}
 use Rattle.std.specs.Cmp.{eq_by_cmp_equiv}
@@ -11,19 +11,18 @@ use Rattle.std.specs.List.{list_all}
 use Rattle.std.specs.Option.{option_map}
 use Rattle.std.specs.Ordering.{is_eq, nat_cmp}
 use Rattle.std.specs.declared.alloc.Global.{Global}
-use Rattle.std.specs.declared.cmp.Ordering.{Ordering}
-use Rattle.std.specs.declared.cmp.Ordering.TheVariants.{Less, Equal, Greater}
 use Rattle.std.proofs.lemmas.Cmp.{nat_list_cmp_total}
 use Rattle.std.proofs.lemmas.List.{length-map, map_push}
-use Rattle.std.proofs.lemmas.List.Elements.{All-push}
+use Rattle.std.proofs.lemmas.List.Elements.{All-contains, All-push}
 use Rattle.std.proofs.lemmas.List.Sums.{sum_by_push}
 use Rattle.std.proofs.lemmas.Map.Lookups.{exact_bytes}
+use Rattle.std.proofs.lemmas.Map.Views.{tells_apart}
 use Rattle.std.proofs.lemmas.Option.{slice_get-get_or, slice_get-map}
 use Rattle.num_base.specs.Names.{by_names, name_cmp}
 use Rattle.num_base.proofs.NamesLemmas.{put_under, value_under}
 use Rattle.lit_paths.specs.Paths.{Parts, text_of}
 use Rattle.lit_paths.proofs.LawLemmas.{texts_tell_paths}
-use Rattle.lit_look.proofs.ListLemmas.{all_at, get_before, get_cases, get_last, mapped}
+use Rattle.lit_look.proofs.ListLemmas.{get_before, get_cases, get_last, has_at, mapped}
 use Rattle.lit_look.proofs.SeenLemmas.{has_number}
 use Rattle.lit_look.specs.Index.{AreNumbers, IsIndexed, number_at}
 use Rattle.lit_look.specs.Looks.{IsNumberOf}
@@ -46,7 +45,7 @@ its_number seen dir number all parts is =
         → IsNumberOf seen dir number
     by_item None here is = absurd (cc)
     by_item (Some looked) here is =
-        (looked, here, texts_tell_paths looked.dir dir (all_at HasParts seen number looked all here) parts (cc))
+        (looked, here, texts_tell_paths looked.dir dir (All-contains HasParts seen looked all (has_at seen number looked here)) parts (cc))
 
 -- what the numbers have under a path
 pub number_found : (seen : List Looked) (numbers : List (Vec ℕ Global × ℕ)) (items : ℕ) (dir : Parts) (found : Option ℕ)
@@ -73,11 +72,6 @@ put_number numbers key number path =
     ∙ get-insert nat_list_cmp_total (by_names numbers) key.items number path
     ∙ ap (cond (is_eq (name_cmp path key.items)) (Some number)) (value_under numbers path)
 
-pub is_equal : (o : Ordering) → is_eq o ≡ true → o ≡ Equal
-is_equal Less h = absurd (true≢false (sym h))
-is_equal Equal h = refl
-is_equal Greater h = absurd (true≢false (sym h))
-
 numbers_more : (texts : List (List ℕ)) (numbers : List (Vec ℕ Global × ℕ)) (key : Vec ℕ Global) (number : ℕ)
     → AreNumbers texts numbers → number ≡ length texts → ((k : ℕ) → slice_get texts k ≡ Some key.items → ⊥)
     → AreNumbers (texts ++ key.items ∷ []) (insert_entry (λ x y. slice_cmp nat_cmp x.items y.items) numbers key number)
@@ -99,13 +93,13 @@ numbers_more texts numbers key number are last new = record {
     right path other true e is =
         let same : number ≡ other = cc in
         ap (slice_get (texts ++ key.items ∷ [])) (sym same ∙ last) ∙ get_last texts key.items
-        ∙ ap (λ text. Some text) (sym (exact_bytes path key.items (is_equal _ e)))
+        ∙ ap (λ text. Some text) (sym (tells_apart exact_bytes path key.items e))
     right path other false e is = get_before texts (key.items ∷ []) other path (are.right path other is)
 
     earlier : (path : List ℕ) (other : ℕ) (b : Bool) → is_eq (name_cmp path key.items) ≡ b
         → slice_get texts other ≡ Some path → cond b (Some number) (number_at numbers path) ≡ Some other
     earlier path other true e at =
-        absurd (new other (at ∙ ap (λ text. Some text) (exact_bytes path key.items (is_equal _ e))))
+        absurd (new other (at ∙ ap (λ text. Some text) (tells_apart exact_bytes path key.items e)))
     earlier path other false e at = are.whole path other at
 
 pub one_more : (seen : List Looked) (numbers : List (Vec ℕ Global × ℕ)) (items now : ℕ) (one : Looked)

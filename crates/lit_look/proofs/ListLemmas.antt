@@ -1,11 +1,14 @@
 -- What lists contain, and what stands where in them.
 -- Shown: by what a list contains, what one with an item more or a mapped one does. Idea: by cases on the first place or the last.
 -- None is hard.
-use Rattle.std.proofs.Common.{◌≡◌, ℕ, zero, suc, ◌⊎◌, inl, inr, List, [], ◌∷◌, ◌++◌, length, map, All, Some, refl, sym, ap, subst, arith}
-use Rattle.std.specs.List.{Any, Contains}
+use Rattle.std.proofs.Common.{◌≡◌, ℕ, zero, suc, Bool, true, ◌⊎◌, inl, inr, List, [], ◌∷◌, ◌++◌, length, map, Some, refl, sym, ap, ◌∙◌, subst, arith}
+use Rattle.std.specs.List.{Any, Contains, find, position_or_len}
 use Rattle.std.specs.Prelude.{slice_get}
 use Rattle.std.proofs.lemmas.Option.{get_or_from_slice_get, slice_get_within}
-use Rattle.std.proofs.lemmas.List.Elements.{Contains-append_cases, Contains-append_left, Contains-append_right, Contains-push}
+use Rattle.std.proofs.lemmas.List.{get_or-map, length-map, map_push}
+use Rattle.std.proofs.lemmas.List.Elements.{Contains-append_left, Contains-append_right, Contains-push, Contains-push_cases}
+use Rattle.std.proofs.lemmas.List.Folds.{find_at}
+use Rattle.std.proofs.lemmas.List.Sums.{passes_at_first}
 
 pub first_in : {A : Type 0} (x : A) (xs : List A) → Contains (x ∷ xs) x
 first_in x xs = Contains-append_left (x ∷ []) xs x (Contains-push [] x)
@@ -13,15 +16,9 @@ first_in x xs = Contains-append_left (x ∷ []) xs x (Contains-push [] x)
 pub later_in : {A : Type 0} (x y : A) (xs : List A) → Contains xs y → Contains (x ∷ xs) y
 later_in x y xs h = Contains-append_right (x ∷ []) xs y h
 
-only : {A : Type 0} (x y : A) → Contains (x ∷ []) y → y ≡ x
-only x y (zero, within, is) = sym is
-only x y (suc k, within, is) = absurd (omega arith)
-
 pub cons_cases : {A : Type 0} (x y : A) (xs : List A) → Contains (x ∷ xs) y → (y ≡ x) ⊎ Contains xs y
-cons_cases x y xs h = elim (Contains-append_cases (x ∷ []) xs y h) [
-  | inl one ↦ inl (only x y one)
-  | inr later ↦ inr later
-]
+cons_cases x y xs (zero, within, is) = inl (sym is)
+cons_cases x y xs (suc k, within, is) = inr (k, omega arith, is)
 
 pub none_in : {A : Type 0} (x : A) → Contains [] x → ⊥
 none_in x (k, within, is) = absurd (omega arith)
@@ -43,16 +40,35 @@ mapped f (x ∷ xs) y h = elim (cons_cases (f x) y (map f xs) h) [
 ]
 
 pub contains_map : {A B : Type 0} (f : A → B) (xs : List A) (y : A) → Contains xs y → Contains (map f xs) (f y)
-contains_map f [] y h = absurd (none_in y h)
-contains_map f (x ∷ xs) y h = elim (cons_cases x y xs h) [
-  | inl same ↦ subst (Contains (f x ∷ map f xs)) (ap f (sym same)) (first_in (f x) (map f xs))
-  | inr later ↦ later_in (f x) (f y) (map f xs) (contains_map f xs y later)
-]
+contains_map f xs y (k, within, is) = (k, omega (arith, length-map xs f), get_or-map f xs k y (f y) within ∙ ap f is)
+
+-- what a mapped list contains behind one more
+pub push_has : {A B : Type 0} (f : A → B) (xs : List A) (x : A) (y : B) → Contains (map f xs) y ⊎ (y ≡ f x)
+    → Contains (map f (xs ++ x ∷ [])) y
+push_has f xs x y h = subst (λ ys. Contains ys y) (sym (map_push f xs x)) (elim h [
+  | inl had ↦ Contains-append_left (map f xs) (f x ∷ []) y had
+  | inr is ↦ subst (Contains (map f xs ++ f x ∷ [])) (sym is) (Contains-push (map f xs) (f x))
+])
+
+pub push_cases : {A B : Type 0} (f : A → B) (xs : List A) (x : A) (y : B) → Contains (map f (xs ++ x ∷ [])) y
+    → Contains (map f xs) y ⊎ (y ≡ f x)
+push_cases f xs x y h =
+    elim (Contains-push_cases (map f xs) (f x) y (subst (λ ys. Contains ys y) (map_push f xs x) h)) [
+      | inl had ↦ inl had
+      | inr is ↦ inr (sym is)
+    ]
 
 -- ---- places
 
-pub all_at : {A : Type 0} (P : A → Type 0) (xs : List A) (n : ℕ) (x : A) → All P xs → slice_get xs n ≡ Some x → P x
-all_at P xs n x all is = subst P (get_or_from_slice_get xs n x x is) (all n x (slice_get_within xs n x is))
+abbrev pub has_at : {A : Type 0} (xs : List A) (n : ℕ) (x : A) → slice_get xs n ≡ Some x → Contains xs x
+has_at xs n x is = (n, slice_get_within xs n x is, get_or_from_slice_get xs n x x is)
+
+-- what is found is in the list, and passes
+pub found_in : {A : Type 0} (p : A → Bool) (xs : List A) (x : A) → find p xs ≡ Some x → Contains xs x × (p x ≡ true)
+found_in p xs x is =
+    let here : slice_get xs (position_or_len p xs) ≡ Some x = sym (find_at p xs) ∙ is in
+    let (n, within, same) = has_at xs (position_or_len p xs) x here in
+    ((n, within, same), ap p (sym same) ∙ passes_at_first p xs x within)
 
 pub get_before : {A : Type 0} (xs more : List A) (n : ℕ) (x : A) → slice_get xs n ≡ Some x
     → slice_get (xs ++ more) n ≡ Some x

@@ -45,8 +45,3 @@ module _ {T : Type 0} {told : T → Option (List Node)} {base : T → List ℕ} 
         calm = λ differs. last.calm differs ∙ calm;
         steady = λ still. last.steady (first.steady still).1;
       }
-
-  -- behind calls without a fault one is told that isn't of the tree
-  pub leaves_as : {old new : T} {fault : Option DiscoverFault} → Leaves told base count steady old new None
-      → is_counted fault ≡ false → Leaves told base count steady old new fault
-  leaves_as first other = leaves_on first (leaves_still other)

@@ -10,7 +10,7 @@ use Rattle.lit_dirs.specs.declared.fault.DiscoverFault.{DiscoverFault}
 use Rattle.lit_dirs.specs.declared.fault.DiscoverFault.TheVariants.{Missing, NoSuite}
 use Rattle.lit_look.specs.declared.root.SuiteRoot.{SuiteRoot}
 use Rattle.lit_look.specs.declared.seen.Looked.{Looked}
-use Rattle.lit_look.specs.Seen.{AreSeen, Has, Refuses}
+use Rattle.lit_look.specs.Seen.{AreSeen, Has, Refuses, RefusesNext}
 use Rattle.lit_look.specs.Suites.{looked_up, nearest, rooted_at}
 use Rattle.lit_look.specs.Trees.{Gives}
 
@@ -41,18 +41,18 @@ WasLookedAt nodes dir old new None = (kind_of nodes dir ≡ Some File) × (new �
 
 abbrev pub GivesLook : List Node → Parts → List Looked → List Looked → Result (Option ℕ) DiscoverFault → Type 0
 GivesLook nodes dir old new =
-    Gives (WasLookedAt nodes dir old new) (λ fault. IsAbsent nodes dir fault ⊎ Refuses nodes (Has old) dir fault)
+    Gives (WasLookedAt nodes dir old new) (λ fault. IsAbsent nodes dir fault ⊎ RefusesNext nodes old dir fault)
 
 -- a directory was looked at; or it is refused
 abbrev pub GivesDirLook : List Node → Parts → List Looked → List Looked → Result ℕ DiscoverFault → Type 0
 GivesDirLook nodes dir old new =
-    Gives (λ number. AreSeen nodes (λ one. Has old one ⊎ (one ≡ dir)) new) (Refuses nodes (Has old) dir)
+    Gives (λ number. AreSeen nodes (λ one. Has old one ⊎ (one ≡ dir)) new) (RefusesNext nodes old dir)
 
 -- ---- the directories up to a suite
 
--- all of them were looked at
-abbrev pub AreSeenUp : List Node → Parts → List Looked → List Looked → Type 0
-AreSeenUp nodes dir old new = AreSeen nodes (λ one. Has old one ⊎ Contains (looked_up nodes dir) one) new
+-- those of which Before holds and all of these were looked at
+abbrev pub AreSeenUp : List Node → (Parts → Type 0) → Parts → List Looked → Type 0
+AreSeenUp nodes Before dir seen = AreSeen nodes (λ one. Before one ⊎ Contains (looked_up nodes dir) one) seen
 
 -- one of them is refused, behind those before it
 abbrev pub IsRefusedUp : List Node → (Parts → Type 0) → Parts → DiscoverFault → Type 0
@@ -61,24 +61,22 @@ IsRefusedUp nodes Before dir fault =
     × Refuses nodes (λ other. Before other ⊎ Contains early other) one fault
 
 -- nothing refuses one, and none has a suite, which is told of a word
-abbrev pub HasNoSuite : List Node → (Parts → Type 0) → Parts → Parts → List Looked → DiscoverFault → Type 0
-HasNoSuite nodes Before dir word seen fault =
-    AreSeen nodes (λ one. Before one ⊎ Contains (looked_up nodes dir) one) seen × (nearest nodes dir ≡ None)
-    × (fault ≡ NoSuite (text_of word))
+abbrev pub HasNoSuite : List Node → (Parts → Type 0) → Parts → Parts → DiscoverFault → Type 0
+HasNoSuite nodes Before dir word fault =
+    ((seen : List Looked) × AreSeenUp nodes Before dir seen) × (nearest nodes dir ≡ None) × (fault ≡ NoSuite (text_of word))
+
+-- none up to a suite has one, or one of them is refused
+abbrev pub RefusesUp : List Node → (Parts → Type 0) → Parts → Parts → DiscoverFault → Type 0
+RefusesUp nodes Before dir word fault = HasNoSuite nodes Before dir word fault ⊎ IsRefusedUp nodes Before dir fault
 
 -- the directories up to the nearest suite were looked at; or a file has the path
 abbrev pub IsNearest : List Node → Parts → List Looked → List Looked → Option SuiteRoot → Type 0
 IsNearest nodes dir old new (Some root) =
-    (kind_of nodes dir ≡ Some Dir) × AreSeenUp nodes dir old new × (nearest nodes dir ≡ Some (rooted_at root))
+    (kind_of nodes dir ≡ Some Dir) × AreSeenUp nodes (Has old) dir new × (nearest nodes dir ≡ Some (rooted_at root))
 IsNearest nodes dir old new None = (kind_of nodes dir ≡ Some File) × (new ≡ old)
-
--- it is a directory, and none up to a suite has one, or one of them is refused
-abbrev pub IsRefusedFrom : List Node → Parts → Parts → List Looked → List Looked → DiscoverFault → Type 0
-IsRefusedFrom nodes dir word old new fault =
-    (kind_of nodes dir ≡ Some Dir)
-    × (HasNoSuite nodes (Has old) dir word new fault ⊎ IsRefusedUp nodes (Has old) dir fault)
 
 abbrev pub GivesNearest : List Node → Parts → Parts → List Looked → List Looked → Result (Option SuiteRoot) DiscoverFault
     → Type 0
 GivesNearest nodes dir word old new =
-    Gives (IsNearest nodes dir old new) (λ fault. IsAbsent nodes dir fault ⊎ IsRefusedFrom nodes dir word old new fault)
+    Gives (IsNearest nodes dir old new)
+    (λ fault. IsAbsent nodes dir fault ⊎ ((kind_of nodes dir ≡ Some Dir) × RefusesUp nodes (Has old) dir word fault))

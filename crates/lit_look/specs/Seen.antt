@@ -54,13 +54,14 @@ pub record AreSeen (nodes : List Node) (Before : Parts → Type 0) (seen : List 
 abbrev pub AreLooks : List Node → List Looked → Type 0
 AreLooks nodes seen = AreSeen nodes (Has seen) seen
 
--- Behind looks at each directory of which Before holds, a further one is refused: with its items there are too many, or
--- else it has a fault.
-pub record Refuses (nodes : List Node) (Before : Parts → Type 0) (dir : Parts) (fault : DiscoverFault) : Type 0 where
-  pub seen : List Looked
-  pub before : AreSeen nodes Before seen
-  pub new : ¬ (Before dir)
+-- Behind looks a further directory is refused: with its items there are too many, or else it has a fault.
+pub record RefusesNext (nodes : List Node) (seen : List Looked) (dir : Parts) (fault : DiscoverFault) : Type 0 where
+  pub new : ¬ (Has seen dir)
   pub items : List Item
   pub lists : Lists nodes (text_of dir) items
   pub told : (if nat_lt 1000000 (count_items seen + length items) then Some TooManyItems else fault_in nodes dir)
       ≡ Some fault
+
+-- behind looks at each directory of which Before holds, a further one is refused
+abbrev pub Refuses : List Node → (Parts → Type 0) → Parts → DiscoverFault → Type 0
+Refuses nodes Before dir fault = (seen : List Looked) × AreSeen nodes Before seen × RefusesNext nodes seen dir fault

@@ -1,8 +1,9 @@
 use Rattle.std.proofs.Common.{◌∷◌, ◌++◌, ◌+◌, ◌<◌, [], length, map, take, drop, sym, ap, subst, ◌∙◌, arith}
+use Rattle.std.proofs.lemmas.List.{map_more}
 use Rattle.lit_paths.specs.Paths.{joined}
 use Rattle.lit_look.proofs.TreeLemmas.{leaves_on}
 use Rattle.lit_find.specs.Walk.{IsCovered}
-use Rattle.lit_find.proofs.AnswerLemmas.{words_cut, words_more, words_refused}
+use Rattle.lit_find.proofs.AnswerLemmas.{words_cut, words_refused}
 use Rattle.lit_find.proofs.finding.add_words.Goals as goal
 
 pub returns-in-Err-clause-gives : goal.returns-in-Err-clause-gives
@@ -28,8 +29,8 @@ loop-text-preserved g c =
     let early = map (joined base) (take i texts) in
     let word = c.as_slice-in-loop-text.ensures ∙ c.in_ok-word.ensures.path ∙ ap (joined base) c.as_slice.ensures in
     let within : i < length texts = omega arith in
-    let words = words_more (joined base) texts i c.text-item.result within c.text-item.is
-    ∙ ap (λ one. early ++ one ∷ []) (sym word) in
+    let words = map_more (joined base) texts i c.text-item.result within
+    ∙ ap (λ one. early ++ one ∷ []) (ap (joined base) (sym c.text-item.is) ∙ sym word) in
     record {
       tree = leaves_on c.loop-text.invariant.tree c.in-Ok.ensures.tree;
       covered = λ nodes told nested is.

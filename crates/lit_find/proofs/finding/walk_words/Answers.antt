@@ -1,12 +1,9 @@
-use Rattle.std.proofs.Common.{[], Ok, Err, map, refl, sym, ap, subst, ◌∙◌}
+use Rattle.std.proofs.Common.{Ok, Err, map, refl, ap, subst, ◌∙◌}
 use Rattle.std.specs.List.{list_any}
-use Rattle.std.specs.Ordering.{nat_cmp}
-use Rattle.std.specs.BTreeMap.{is_at}
 use Rattle.lit_look.specs.Trees.{Told}
 use Rattle.lit_paths.specs.Paths.{joined}
 use Rattle.lit_find.specs.Refusals.{IsRefused}
-use Rattle.lit_find.specs.Walk.{IsCovered}
-use Rattle.lit_find.specs.declared.walk.Walk.{Walk}
+use Rattle.lit_find.specs.Walk.{IsCovered, same_text}
 use Rattle.lit_find.proofs.AnswerLemmas.{nothing_yet, walks_where_told}
 use Rattle.lit_find.proofs.finding.walk_words.Goals as goal
 
@@ -15,15 +12,13 @@ returns-in-Ok-clause-walk g c =
     walks_where_told (g.T.Tree.nodes c.args.tree.now) (g.T.Tree.root c.args.tree.now) c.base.result.now c.args.paths.now
     (Ok c.add_words.new.walk.found) c.base.ensures.root c.base.ensures.nested
     (λ nodes told nested.
-    let walk : Walk = record { found = c.new.result; walked = c.new-2.result; pending = c.new-3.result } in
-    let begun = nothing_yet nodes walk (λ number. ap (list_any (is_at (nat_cmp number))) c.new-2.ensures.empty)
-    c.new-3.ensures c.new.ensures in (
+    let begun = nothing_yet nodes c.new-seen.result
+    (record { found = c.new.result; walked = c.new-2.result; pending = c.new-3.result }) c.new-seen.ensures
+    (λ text. ap (list_any (λ key. same_text text key.items)) c.new-2.ensures.empty) c.new-3.ensures c.new.ensures in (
       c.add_words.new.seen,
       c.add_words.new.walk,
       subst (λ base. IsCovered nodes (map (joined base) c.args.paths.now) c.add_words.new.seen c.add_words.new.walk)
-          (c.as_slice.ensures ∙ c.in_ok-base.ensures.path)
-          (c.in-Ok.ensures.gives nodes told nested
-          (subst (λ seen. IsCovered nodes [] seen walk) (sym c.new-seen.ensures) begun)),
+          (c.as_slice.ensures ∙ c.in_ok-base.ensures.path) (c.in-Ok.ensures.gives nodes told nested begun),
       refl,
     ))
 
@@ -32,10 +27,8 @@ returns-clause-walk g c =
     walks_where_told (g.T.Tree.nodes c.args.tree.now) (g.T.Tree.root c.args.tree.now) c.base.result.now c.args.paths.now
     (Err c.in-Err.fault) c.base.ensures.root c.base.ensures.nested
     (λ nodes told nested.
-    let walk : Walk = record { found = c.new.result; walked = c.new-2.result; pending = c.new-3.result } in
-    let begun = nothing_yet nodes walk (λ number. ap (list_any (is_at (nat_cmp number))) c.new-2.ensures.empty)
-    c.new-3.ensures c.new.ensures in
+    let begun = nothing_yet nodes c.new-seen.result
+    (record { found = c.new.result; walked = c.new-2.result; pending = c.new-3.result }) c.new-seen.ensures
+    (λ text. ap (list_any (λ key. same_text text key.items)) c.new-2.ensures.empty) c.new-3.ensures c.new.ensures in
     subst (λ base. Told (IsRefused nodes (map (joined base) c.args.paths.now)) c.in-Err.fault)
-    (c.as_slice.ensures ∙ c.in_ok-base.ensures.path)
-    (c.in-Err.ensures.gives nodes told nested
-    (subst (λ seen. IsCovered nodes [] seen walk) (sym c.new-seen.ensures) begun)))
+    (c.as_slice.ensures ∙ c.in_ok-base.ensures.path) (c.in-Err.ensures.gives nodes told nested begun))

@@ -10,5 +10,5 @@ put-requires c =
     subst (λ (root : SuiteRoot). IsFiled (record { path = c.in_ok-path-in-File.path; suite = root }))
     (sym c.in_ok-suite-in-File.ensures)
     (filed c.args.root.now c.args.dir.now c.args.item.now.name c.in_ok-path-in-File.path c.requires.inside
-    (ap is_part (sym c.as_slice-then-has_suffix.ensures) ∙ sym c.is_part.ensures ∙ c.if-is_part.true)
+    (ap is_part (sym c.as_slice.ensures) ∙ sym c.is_part.ensures ∙ c.if-not-is_part.false)
     (c.in_ok-path-in-File.ensures c.args.dir.now c.requires.front))

@@ -1,12 +1,9 @@
-use Rattle.std.proofs.Common.{◌≡◌, drop}
-use Rattle.lit_find.specs.Sorting.{with_dirs, with_files}
+use Rattle.std.proofs.Common.{◌≡◌, take}
+use Rattle.lit_find.specs.Sorting.{with_items}
 use Rattle.lit_find.proofs.sorting.sort_items.Given as goal
 
 abbrev pub invariant-loop-item : goal.invariant-loop-item
 invariant-loop-item l = record {
-  dirs : with_dirs l.root l.dir (drop l.item-index l.items) l.walk.pending
-      ≡ with_dirs l.root l.dir l.items l.fn.walk.pending;
-  files : with_files l.root l.dir (drop l.item-index l.items) l.walk.found
-      ≡ with_files l.root l.dir l.items l.fn.walk.found;
+  sorted : l.walk ≡ with_items l.root l.dir l.fn.walk (take l.item-index l.items);
   walked : l.walk.walked ≡ l.fn.walk.walked;
 }

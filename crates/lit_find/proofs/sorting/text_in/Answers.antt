@@ -1,6 +1,6 @@
-use Rattle.std.proofs.Common.{◌≡◌, ◌++◌, [], ap, ◌∙◌, append-nil}
+use Rattle.std.proofs.Common.{◌≡◌, ◌++◌, ◌∷◌, [], ap, ◌∙◌, append-nil}
 use Rattle.std.proofs.lemmas.Result.{IfOk-weaker}
-use Rattle.lit_find.specs.Sorting.{text_in}
+use Rattle.lit_paths.specs.Paths.{text_of}
 use Rattle.lit_find.proofs.PathLemmas.{name_text}
 use Rattle.lit_find.proofs.sorting.text_in.Goals as goal
 
@@ -8,6 +8,7 @@ pub returns : goal.returns
 returns c = λ dir is.
     let front = c.args.front.now in
     let name = c.as_slice.result.now in
-    IfOk-weaker c.chained.result (λ text. text ≡ front ++ (name ++ [])) (λ text. text ≡ text_in dir c.args.item.now)
+    IfOk-weaker c.chained.result (λ text. text ≡ front ++ (name ++ []))
+    (λ text. text ≡ text_of (dir ++ c.args.item.now.name ∷ []))
     (λ text same. same ∙ ap (λ xs. front ++ xs) (append-nil name ∙ c.as_slice.ensures)
     ∙ name_text dir front c.args.item.now.name is) c.chained.ensures

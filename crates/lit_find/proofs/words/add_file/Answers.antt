@@ -1,56 +1,70 @@
-use Rattle.std.proofs.Common.{◌≡◌, ◌≢◌, ◌==◌, Bool, [], length, false, true≢false, refl, sym, ap, subst, ◌∙◌, Ok, Err, IfSome}
+use Rattle.std.proofs.Common.{[], ◌∷◌, ◌++◌, sym, ap, subst, ◌∙◌, Ok, IfSome}
 use Rattle.std.specs.List.{list_all}
 use Rattle.tt_outside.specs.TreeMap.{is_part}
-use Rattle.lit_paths.specs.Paths.{Parts, dir_of}
+use Rattle.lit_paths.specs.Paths.{text_of}
 use Rattle.lit_look.specs.Looks.{GivesNearest}
 use Rattle.lit_look.specs.Suites.{LiesIn}
-use Rattle.lit_find.proofs.WordLemmas.{apart, dir_is_dir, file_added, file_refused, filed_word, parts_dir}
+use Rattle.lit_look.proofs.SeenLemmas.{looks_of}
+use Rattle.lit_find.specs.Files.{test_in}
+use Rattle.lit_find.specs.Walk.{IsCovered}
+use Rattle.lit_find.proofs.FileLemmas.{filed}
+use Rattle.lit_find.proofs.PathLemmas.{last_part, parts_left}
+use Rattle.lit_find.proofs.WordLemmas.{apart, dir_is_dir, file_added, file_refused, root_file}
 use Rattle.lit_find.proofs.words.add_file.Goals as goal
 
-not_empty : (word : Parts) (b : Bool) → b ≡ (length word == 0) → b ≡ false → word ≢ []
-not_empty word b is some none = true≢false (sym (ap (λ one. length one == 0) none) ∙ sym is ∙ some)
-
 pub nearest-requires : goal.nearest-requires
-nearest-requires g c = record {
-  parts = ap (list_all is_part) c.dir_of.ensures ∙ parts_dir c.args.word.now c.requires.parts;
-}
+nearest-requires g c =
+    let split = c.in-Some.ensures.cases.0 in
+    record {
+      parts = parts_left c.in-Some.dir.now (c.in-Some.field-0-0.now ∷ [])
+          (ap (list_all is_part) (sym split) ∙ c.requires.parts);
+    }
 
 pub put-requires : goal.put-requires
 put-requires g c =
-    filed_word c.in-Ok-Some.suite c.args.word.now c.in_ok-path.path
-    (subst (LiesIn c.in-Ok-Some.suite.dir) c.dir_of.ensures
-    (subst (λ found. IfSome found (λ root. LiesIn root.dir c.dir_of.result.now)) c.in-Ok-Some.field-0-is
-    c.in-Ok-Some.ensures.above)) c.requires.parts
-    (not_empty c.args.word.now c.is_empty.result c.is_empty.ensures c.if-is_empty.false) c.in_ok-path.ensures
+    let split = c.in-Some.ensures.cases.0 in
+    let dir = c.in-Some.dir.now in
+    let part = c.in-Some.field-0-0.now in
+    filed c.in-Ok-Some.suite dir part c.in_ok-path.path
+    (subst (λ found. IfSome found (λ root. LiesIn root.dir dir)) c.in-Ok-Some.field-0-is c.in-Ok-Some.ensures.above)
+    (last_part dir part (ap (list_all is_part) (sym split) ∙ c.requires.parts)) (c.in_ok-path.ensures ∙ ap text_of split)
 
 pub returns-in_ok-put-in-Ok-Some-clause-gives : goal.returns-in_ok-put-in-Ok-Some-clause-gives
 returns-in_ok-put-in-Ok-Some-clause-gives g c = λ nodes words told nested is kind.
     let word = c.args.word.now in
-    let some = not_empty word c.is_empty.result c.is_empty.ensures c.if-is_empty.false in
-    let (up, seen, near) = subst (λ found. GivesNearest nodes (dir_of word) word c.args.seen.now c.nearest.new.seen (Ok found))
-    c.in-Ok-Some.field-0-is
-    (subst (λ dir. GivesNearest nodes dir word c.args.seen.now c.nearest.new.seen (Ok c.in-Ok-Some.field-0)) c.dir_of.ensures
-    (c.in-Ok-Some.ensures.gives nodes told is.state.looks nested)) in
-    file_added nodes words word c.args.seen.now c.nearest.new.seen c.in-Ok-Some.suite c.in_ok-path.path c.args.walk.now
-    (record { found = c.put.new.self; walked = c.args.walk.now.walked; pending = c.args.walk.now.pending })
-    c.requires.parts kind some is c.in-Ok-Some.ensures.extends seen near c.in_ok-path.ensures
-    c.in_ok-put-in-Ok-Some.ensures refl refl
+    let walk = c.args.walk.now in
+    let root = c.in-Ok-Some.suite in
+    let dir = c.in-Some.dir.now in
+    let (up, seen, near) = subst (λ found. GivesNearest nodes dir word c.args.seen.now c.nearest.new.seen (Ok found))
+    c.in-Ok-Some.field-0-is (c.in-Ok-Some.ensures.gives nodes told (looks_of is.all) nested) in
+    let lies = subst (λ found. IfSome found (λ root. LiesIn root.dir dir)) c.in-Ok-Some.field-0-is
+    c.in-Ok-Some.ensures.above in
+    let found = c.in_ok-put-in-Ok-Some.ensures
+    ∙ ap (λ text. walk.found ++ test_in (record { path = text; suite = root }) ∷ []) c.in_ok-path.ensures in
+    subst (λ tests. IsCovered nodes (words ++ word ∷ []) c.nearest.new.seen
+    (record { found = tests; walked = walk.walked; pending = walk.pending })) (sym found)
+    (file_added nodes words word dir c.in-Some.field-0-0.now c.args.seen.now c.nearest.new.seen root walk
+    c.in-Some.ensures.cases.0 c.requires.parts kind is lies seen near)
 
 pub returns-in_ok-text_of-in-Ok-None-clause-gives : goal.returns-in_ok-text_of-in-Ok-None-clause-gives
 returns-in_ok-text_of-in-Ok-None-clause-gives g c = λ nodes words told nested is kind.
     let word = c.args.word.now in
-    let some = not_empty word c.is_empty.result c.is_empty.ensures c.if-is_empty.false in
-    let (file, same) = subst (λ found. GivesNearest nodes (dir_of word) word c.args.seen.now c.nearest.new.seen (Ok found))
-    c.in-Ok-None.field-0-is
-    (subst (λ dir. GivesNearest nodes dir word c.args.seen.now c.nearest.new.seen (Ok c.in-Ok-None.field-0)) c.dir_of.ensures
-    (c.in-Ok-None.ensures.gives nodes told is.state.looks nested)) in
-    absurd (apart nodes (dir_of word) file (dir_is_dir nodes word nested c.requires.parts some kind))
+    let dir = c.in-Some.dir.now in
+    let file = subst (λ found. GivesNearest nodes dir word c.args.seen.now c.nearest.new.seen (Ok found))
+    c.in-Ok-None.field-0-is (c.in-Ok-None.ensures.gives nodes told (looks_of is.all) nested) in
+    absurd (apart nodes dir file.0 (dir_is_dir nodes word dir c.in-Some.field-0-0.now
+    c.in-Some.ensures.cases.0 nested c.requires.parts kind))
 
 pub returns-in-Err-clause-gives : goal.returns-in-Err-clause-gives
 returns-in-Err-clause-gives g c = λ nodes words told nested is kind.
     let word = c.args.word.now in
-    let some = not_empty word c.is_empty.result c.is_empty.ensures c.if-is_empty.false in
-    file_refused nodes words word c.args.seen.now c.nearest.new.seen c.nearest.new.seen c.args.walk.now c.args.walk.now
-    c.in-Err.fault kind some (dir_is_dir nodes word nested c.requires.parts some kind) is
-    (subst (λ dir. GivesNearest nodes dir word c.args.seen.now c.nearest.new.seen (Err c.in-Err.fault)) c.dir_of.ensures
-    (c.in-Err.ensures.gives nodes told is.state.looks nested))
+    let dir = c.in-Some.dir.now in
+    let part = c.in-Some.field-0-0.now in
+    let split = c.in-Some.ensures.cases.0 in
+    file_refused nodes words word dir part c.args.seen.now c.nearest.new.seen c.nearest.new.seen c.args.walk.now
+    c.args.walk.now c.in-Err.fault split kind (dir_is_dir nodes word dir part split nested c.requires.parts kind) is
+    (c.in-Err.ensures.gives nodes told (looks_of is.all) nested)
+
+pub returns-in-None-clause-gives : goal.returns-in-None-clause-gives
+returns-in-None-clause-gives g c = λ nodes words told nested is kind.
+    root_file nodes words c.args.word.now c.in_ok-path.path c.in-None.ensures.cases kind c.in_ok-path.ensures

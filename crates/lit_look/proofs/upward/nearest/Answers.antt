@@ -3,7 +3,7 @@
 -- The long goal is `loop-number-preserved`.
 use Rattle.std.proofs.Common.{◌≡◌, [], ◌++◌, ◌∷◌, sym, ap, ◌∙◌, append-nil, refl, subst, IfSome}
 use Rattle.std.proofs.lemmas.Option.{slice_get_within}
-use Rattle.lit_look.proofs.ClimbLemmas.{climbs_next, climbs_refused, climbs_start, climbs_to_root, climbs_to_suite, extends_more, lies_above, looks_of, no_parts, parts_above, step_of}
+use Rattle.lit_look.proofs.ClimbLemmas.{climbs_next, climbs_refused, climbs_start, climbs_to_root, climbs_to_suite, extends_more, lies_above, no_parts, parts_above, step_of}
 use Rattle.lit_look.proofs.TreeLemmas.{leaves_on, leaves_still}
 use Rattle.lit_look.specs.Looks.{IsNumberOf}
 use Rattle.lit_look.proofs.upward.nearest.Goals as goal
@@ -19,26 +19,22 @@ loop-number-init g c = record {
 
 pub suite_of-requires : goal.suite_of-requires
 suite_of-requires g c =
-    let (looked, is, same) = subst (λ found. IfSome found (IsNumberOf c.look.new.seen c.loop-number.at.now)) c.in-Ok-Some.field-0-is
-    c.in-Ok-Some.ensures.number in
+    let (looked, is, same) = subst (λ found. IfSome found (IsNumberOf c.look.new.seen c.loop-number.at.now))
+    c.in-Ok-Some.field-0-is c.in-Ok-Some.ensures.number in
     slice_get_within c.look.new.seen c.in-Ok-Some.number looked is
 
 pub returns-in-Err-clause-gives : goal.returns-in-Err-clause-gives
 returns-in-Err-clause-gives g c = λ nodes is looks nested.
-    let climbs = c.loop-number.invariant.climbs nodes is looks nested in
-    climbs_refused nodes c.args.dir.now c.args.word.now c.loop-number.at.now c.args.seen.now c.loop-number.seen
-    c.look.new.seen c.look.new.seen c.in-Err.fault climbs
-    (c.in-Err.ensures.gives nodes (c.loop-number.invariant.tree.nodes ∙ is)
-    (looks_of nodes _ c.loop-number.seen climbs.seen))
+    climbs_refused c.args.word.now c.look.new.seen c.look.new.seen c.in-Err.fault
+    (c.loop-number.invariant.climbs nodes is looks nested)
+    (c.in-Err.ensures.gives nodes (c.loop-number.invariant.tree.nodes ∙ is))
 
 pub returns-in-Some-clause-gives : goal.returns-in-Some-clause-gives
 returns-in-Some-clause-gives g c = λ nodes is looks nested.
-    let climbs = c.loop-number.invariant.climbs nodes is looks nested in
-    climbs_to_suite nodes c.args.dir.now c.loop-number.at.now c.args.seen.now c.loop-number.seen c.look.new.seen
-    c.in-Ok-Some.number (step_of nodes c.args.dir.now c.loop-number.at.now c.args.seen.now c.loop-number.seen c.look.new.seen
-    _ c.in-Ok-Some.number c.in-Ok-Some.field-0-is climbs
-    (c.in-Ok-Some.ensures.gives nodes (c.loop-number.invariant.tree.nodes ∙ is)
-    (looks_of nodes _ c.loop-number.seen climbs.seen)) c.in-Ok-Some.ensures.number) c.args.word.now c.in-Some.root (sym c.in_ok-root.ensures.suite ∙ c.in-Some.is)
+    climbs_to_suite (step_of c.look.new.seen c.in-Ok-Some.field-0 c.in-Ok-Some.number c.in-Ok-Some.field-0-is
+    (c.loop-number.invariant.climbs nodes is looks nested)
+    (c.in-Ok-Some.ensures.gives nodes (c.loop-number.invariant.tree.nodes ∙ is)) c.in-Ok-Some.ensures.number)
+    c.args.word.now c.in-Some.root (sym c.in_ok-root.ensures.suite ∙ c.in-Some.is)
 
 pub returns-in-Some-clause-above : goal.returns-in-Some-clause-above
 returns-in-Some-clause-above g c =
@@ -51,20 +47,18 @@ returns-in-Some-clause-above g c =
 
 pub loop-number-preserved : goal.loop-number-preserved
 loop-number-preserved g c =
-    let at = c.loop-number.at.now in
     let above = c.in-Some-split_last.above.now in
     let part = c.in-Some-split_last.field-0-0.now in
+    let split = c.in-Some-split_last.ensures.cases.0 in
     let (rest, inside) = c.loop-number.invariant.inside in
     record {
-      parts = parts_above at above part c.in-Some-split_last.ensures.cases.0 c.loop-number.invariant.parts;
-      inside = (part ∷ rest, lies_above c.args.dir.now at above rest part inside c.in-Some-split_last.ensures.cases.0);
+      parts = parts_above c.loop-number.at.now above part split c.loop-number.invariant.parts;
+      inside = (part ∷ rest, lies_above c.args.dir.now c.loop-number.at.now above rest part inside split);
       climbs = λ nodes is looks nested.
-          let climbs = c.loop-number.invariant.climbs nodes is looks nested in
-          climbs_next nodes c.args.dir.now at c.args.seen.now c.loop-number.seen c.look.new.seen c.in-Ok-Some.number (step_of nodes c.args.dir.now at c.args.seen.now c.loop-number.seen c.look.new.seen _ c.in-Ok-Some.number
-          c.in-Ok-Some.field-0-is climbs
-          (c.in-Ok-Some.ensures.gives nodes (c.loop-number.invariant.tree.nodes ∙ is)
-          (looks_of nodes _ c.loop-number.seen climbs.seen)) c.in-Ok-Some.ensures.number) above part (sym c.in_ok-root.ensures.suite ∙ c.in_default.is) c.in-Some-split_last.ensures.cases.0 nested
-          c.loop-number.invariant.parts;
+          climbs_next (step_of c.look.new.seen c.in-Ok-Some.field-0 c.in-Ok-Some.number c.in-Ok-Some.field-0-is
+          (c.loop-number.invariant.climbs nodes is looks nested)
+          (c.in-Ok-Some.ensures.gives nodes (c.loop-number.invariant.tree.nodes ∙ is)) c.in-Ok-Some.ensures.number)
+          above part (sym c.in_ok-root.ensures.suite ∙ c.in_default.is) split nested c.loop-number.invariant.parts;
       extends = extends_more c.args.seen.now c.loop-number.seen c.look.new.seen c.loop-number.invariant.extends
           c.in-Ok-Some.ensures.extends;
       tree = leaves_on c.loop-number.invariant.tree c.in-Ok-Some.ensures.tree;
@@ -72,10 +66,8 @@ loop-number-preserved g c =
 
 pub returns-in-None-clause-gives : goal.returns-in-None-clause-gives
 returns-in-None-clause-gives g c = λ nodes is looks nested.
-    let climbs = c.loop-number.invariant.climbs nodes is looks nested in
-    climbs_to_root nodes c.args.dir.now c.loop-number.at.now c.args.seen.now c.loop-number.seen c.look.new.seen
-    c.in-Ok-Some.number (step_of nodes c.args.dir.now c.loop-number.at.now c.args.seen.now c.loop-number.seen c.look.new.seen
-    _ c.in-Ok-Some.number c.in-Ok-Some.field-0-is climbs
-    (c.in-Ok-Some.ensures.gives nodes (c.loop-number.invariant.tree.nodes ∙ is)
-    (looks_of nodes _ c.loop-number.seen climbs.seen)) c.in-Ok-Some.ensures.number) c.args.word.now c.in_ok-text_of-in-None.field-0 (sym c.in_ok-root.ensures.suite ∙ c.in_default.is)
+    climbs_to_root (step_of c.look.new.seen c.in-Ok-Some.field-0 c.in-Ok-Some.number c.in-Ok-Some.field-0-is
+    (c.loop-number.invariant.climbs nodes is looks nested)
+    (c.in-Ok-Some.ensures.gives nodes (c.loop-number.invariant.tree.nodes ∙ is)) c.in-Ok-Some.ensures.number)
+    c.args.word.now c.in_ok-text_of-in-None.field-0 (sym c.in_ok-root.ensures.suite ∙ c.in_default.is)
     (no_parts c.loop-number.at.now c.in-None.ensures.cases) c.in_ok-text_of-in-None.ensures

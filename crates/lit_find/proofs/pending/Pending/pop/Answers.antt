@@ -1,29 +1,31 @@
-use Rattle.std.proofs.Common.{All, map, sym, subst}
+use Rattle.std.proofs.Common.{List, map, ap, sym, subst}
+use Rattle.std.proofs.lemmas.List.Elements.{All-rest, All-same}
 use Rattle.lit_paths.specs.Paths.{Parts}
-use Rattle.lit_find.specs.Places.{IsBefore, IsInside, place_of_entry}
-use Rattle.lit_find.proofs.KeyLemmas.{first_inside, least}
+use Rattle.lit_find.specs.Places.{IsFirst, IsInside, place_of_entry}
+use Rattle.lit_find.specs.declared.place.Place.{Place}
+use Rattle.lit_find.proofs.KeyLemmas.{first_of}
 use Rattle.lit_find.proofs.pending.Pending.pop.Goals as goal
 
 pub invariant_of-self : goal.invariant_of-self
-invariant_of-self c = subst (λ es. All IsInside (map place_of_entry es)) (sym c.in_default.ensures.unchanged) c.self.invariant
+invariant_of-self c =
+    All-same IsInside (map place_of_entry c.pop_first.new.self.entries) (map place_of_entry c.self.inside.held.entries)
+    (ap (map place_of_entry) c.in_default.ensures.unchanged) c.self.invariant
 
 pub invariant_of-self-in_err-path : goal.invariant_of-self-in_err-path
 invariant_of-self-in_err-path c =
-    (first_inside c.self.inside.held.entries c.pop_first.new.self.entries c.in-Some.key c.in-Some.suite
-    c.in-Some.ensures.removal c.self.invariant).1
+    All-rest IsInside (place_of_entry (c.in-Some.key, c.in-Some.suite)) (map place_of_entry c.pop_first.new.self.entries)
+    (map place_of_entry c.self.inside.held.entries) (ap (map place_of_entry) c.in-Some.ensures.removal) c.self.invariant
 
 pub invariant_of-self-2 : goal.invariant_of-self-2
 invariant_of-self-2 c =
-    (first_inside c.self.inside.held.entries c.pop_first.new.self.entries c.in-Some.key c.in-Some.suite
-    c.in-Some.ensures.removal c.self.invariant).1
+    All-rest IsInside (place_of_entry (c.in-Some.key, c.in-Some.suite)) (map place_of_entry c.pop_first.new.self.entries)
+    (map place_of_entry c.self.inside.held.entries) (ap (map place_of_entry) c.in-Some.ensures.removal) c.self.invariant
 
-pub returns-clause-least : goal.returns-clause-least
-returns-clause-least c =
-    subst (λ path. All (λ other. IsBefore path other.path) (map place_of_entry c.pop_first.new.self.entries))
-    (sym c.in_ok-path.ensures) (least c.pop_first.new.self.entries c.in-Some.key c.in-Some.ensures.all_above)
-
-pub returns-clause-inside : goal.returns-clause-inside
-returns-clause-inside c =
-    subst (λ (path : Parts). IsInside (record { path = path; suite = c.in-Some.suite })) (sym c.in_ok-path.ensures)
-    (first_inside c.self.inside.held.entries c.pop_first.new.self.entries c.in-Some.key c.in-Some.suite
-    c.in-Some.ensures.removal c.self.invariant).0
+pub returns : goal.returns
+returns c =
+    let new = map place_of_entry c.pop_first.new.self.entries in
+    let first = first_of c.self.inside.held.entries c.pop_first.new.self.entries c.in-Some.key c.in-Some.suite
+    c.in-Some.ensures.removal c.in-Some.ensures.all_above c.self.invariant in
+    subst (λ (path : Parts). IsFirst c.args.self.now new (record { path = path; suite = c.in-Some.suite }))
+    (sym c.in_ok-path.ensures)
+    (subst (λ (old : List Place). IsFirst old new (place_of_entry (c.in-Some.key, c.in-Some.suite))) c.self.view_is first)

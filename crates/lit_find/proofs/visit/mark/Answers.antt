@@ -1,0 +1,10 @@
+use Rattle.std.proofs.Common.{ap, ◌∙◌}
+use Rattle.std.specs.List.{list_any}
+use Rattle.lit_find.specs.Walk.{same_text}
+use Rattle.lit_find.proofs.KeyLemmas.{has_inserted}
+use Rattle.lit_find.proofs.visit.mark.Goals as goal
+
+pub returns : goal.returns
+returns c = λ text.
+    ap (list_any (λ key. same_text text key.items)) c.in-Ok.ensures.keys
+    ∙ has_inserted c.args.walked.now.keys c.args.path text
