@@ -13,4 +13,4 @@ mod word;
 pub use lint::{Remark, remarks};
 pub use near::is_near;
 pub use prefixes::prefixes_in;
-pub use run::lint_run;
+pub use run::{LINT, lint_run};

@@ -6,7 +6,12 @@ use crate::prefixes::prefixes_in;
 use std::alloc::Global;
 use tt_base::{Bytes, NoMemory, line_of, place_of};
 use tt_outside::{Files, Sink};
-use tt_run::{Answer, Reading, read_named, tell, write_answer};
+use tt_run::{Answer, Frame, Reading, read_named};
+
+/// The name of `filecheck_lint`.
+pub const LINT: Frame = Frame {
+    name: b"filecheck_lint",
+};
 
 /// How many bytes a check file may have, as for `filecheck`.
 const MAX_FILE: u64 = 1 << 24;
@@ -25,11 +30,8 @@ pub fn lint_run<F: Files, O: Sink, E: Sink>(
     ensures files_stay { F.held files.new ≡ F.held files.old }
 {
     match answer_from(alloc, words, files) {
-        Ok(answer) => write_answer(b"filecheck_lint: error: cannot write\n", &answer, out, err),
-        Err(NoMemory) => {
-            tell(b"filecheck_lint: error: out of memory\n", err);
-            4
-        }
+        Ok(answer) => answer.write(LINT, out, err),
+        Err(NoMemory) => LINT.out_of_memory(err),
     }
 }
 
@@ -93,7 +95,8 @@ fn stopped(
 ) -> Result<Answer, NoMemory>
     ensures { IfOk result (λ answer. answer.status ≡ status) }
 {
-    let mut err = Bytes::from_slice(alloc, b"filecheck_lint: error: ")?;
+    let mut err = Bytes::from_slice(alloc, LINT.name)?;
+    err.append(b": error: ")?;
     err.append(why)?;
     if !word.is_empty() {
         err.append(b" '")?;

@@ -5,16 +5,10 @@
 mod pages;
 
 use crate::pages::{HELP, VERSION};
-use check_lint::lint_run;
+use check_lint::{LINT, lint_run};
 use std::process::ExitCode;
 use tt_main::{Pages, words_or_page};
 use tt_real::{StdErr, StdFiles, StdOut};
-use tt_run::Frame;
-
-/// Its name.
-const LINT: Frame = Frame {
-    name: b"filecheck_lint",
-};
 
 /// What it tells of itself.
 const PAGES: Pages = Pages {

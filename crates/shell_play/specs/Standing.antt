@@ -3,13 +3,14 @@
 use Rattle.std.specs.Prelude.{◌≡◌, ◌+◌, ◌-◌, ◌<◌, ◌≤◌, ◌++◌, ℕ, Bool, true, false, List, [], ◌∷◌, length, take, get_or, Option, Some, None, if◌then◌else◌}
 use Rattle.tt_outside.specs.declared.request.Request.TheVariants.{ReadFile, MakeDir, WriteFile, Spawn}
 use Rattle.tt_outside.specs.declared.request.Request.{Request}
+use Rattle.tt_outside.specs.declared.request.Reply.{Reply}
 use Rattle.tt_outside.specs.declared.test_data.Test.{Test}
 use Rattle.test_course.specs.Bytes.{LIMIT}
 use Rattle.test_course.specs.Course.{over, asks}
-use Rattle.shell_play.specs.Play.{PlayCourse, Onward, Scene, Task, quiet, task_of, is_none_left, by_read, spawned, write_files, behind_command, behind_pipe, behind_line, commands, pipes, lines, from_dir}
+use Rattle.shell_play.specs.Play.{PlayCourse, Onward, Scene, Task, quiet, task_of, is_none_left, by_read, by_spawn, by_write, spawned, streamed, write_files, behind_command, behind_pipe, behind_line, commands, pipes, lines, from_dir}
 use Rattle.mini_shell.specs.declared.line.Line.{Line}
 use Rattle.mini_shell.specs.declared.line.Pipe.{Pipe}
-use Rattle.shell_play.specs.Places.{is_null}
+use Rattle.shell_play.specs.Places.{errors_of, flow_of, is_null, writes_of}
 use Rattle.shell_play.specs.declared.stage.Found.{Found}
 use Rattle.shell_play.specs.declared.stage.Found.TheVariants.{Due, Ended}
 use Rattle.shell_play.specs.declared.stage.Running.{Running}
@@ -17,12 +18,23 @@ use Rattle.shell_play.specs.declared.stage.Stage.{Stage}
 use Rattle.shell_play.specs.declared.stage.Stage.TheVariants.{Dir, Command, Over}
 use Rattle.shell_play.specs.declared.stage.Wants.{Wants}
 use Rattle.shell_play.specs.declared.stage.Wants.TheVariants.{Input, Program, Files}
+use Rattle.shell_play.specs.declared.change.Change.{Change}
+use Rattle.shell_play.specs.declared.change.Output.{Output}
+use Rattle.shell_play.specs.declared.change.Ending.{Ending}
+use Rattle.shell_play.specs.declared.change.Poured.{Poured}
+use Rattle.shell_play.specs.declared.places.Places.{Places}
 use Rattle.shell_play.specs.declared.places.Write.{Write}
+use Rattle.shell_play.specs.declared.told.Note.{Note}
 use Rattle.shell_play.specs.declared.told.Told.{Told}
 
 -- pipes that are left of a line, and the lines behind it
 abbrev pub in_line : Test → ℕ → List Line → List Pipe → Scene → PlayCourse
 in_line test line script left scene = pipes test line (behind_line line (lines test script (line + 1))) left scene
+
+-- the same in a directory and behind a status, whatever was told
+abbrev pub in_line_from : Test → ℕ → List Line → List Pipe → List ℕ → ℕ → List Told → PlayCourse
+in_line_from test line script left dir status told =
+    in_line test line script left (record { told = told; dir = dir; status = status })
 
 -- commands that are left of a pipe, the pipes and the lines behind it
 abbrev pub in_pipe : Test → Running → ℕ → List ℕ → List Told → PlayCourse
@@ -36,6 +48,26 @@ onward test r = behind_command (in_pipe test r) r.failed
 
 abbrev pub task : Test → Running → Task
 task test r = task_of test r.dir r.command.now (is_none_left r.commands.now)
+
+-- what is left behind it, where it ended and files of it are left to write
+abbrev pub files_by : Test → Running → Ending → List Told → PlayCourse
+files_by test r ending before = write_files ending.writes (onward test r ending.flow) before ending.told ending.status
+
+-- where it left these streams
+abbrev pub streamed_by : Test → Running → List Note → Output → List Told → PlayCourse
+streamed_by test r notes output before =
+    streamed (task test r) (onward test r) before (record (quiet r.line) { notes = notes }) output.out.now output.err.now output.status
+
+-- and behind the replies to the ReadFile of its input, to its Spawn, and to a WriteFile before the files that are left
+abbrev pub read_by : Test → Running → List ℕ → Reply → List Told → PlayCourse
+read_by test r path reply before = by_read (task test r) path (onward test r) before (quiet r.line) reply
+
+abbrev pub spawned_by : Test → Running → Reply → List Told → PlayCourse
+spawned_by test r reply before = by_spawn (task test r) (onward test r) before (quiet r.line) reply
+
+abbrev pub written_by : Test → Running → List ℕ → Ending → Reply → List Told → PlayCourse
+written_by test r path ending reply before =
+    by_write path (write_files ending.writes (onward test r ending.flow) before) before ending.told ending.status reply
 
 -- those before the last one that was told, and that one
 abbrev pub told_before : List Told → List Told
@@ -72,6 +104,24 @@ abbrev pub stands : Test → List Told → Stage → PlayCourse
 stands test told (Dir script) = from_dir test script.now told
 stands test told (Command r wants) = wanted test told r wants
 stands test told (Over began end) = over (record { told = told; began = began }) end
+
+-- what is found is what a course has left, for each test and whatever was told
+abbrev pub FoundAs : ℕ → List Line → (Test → List Told → PlayCourse) → Found → Type 0
+FoundAs line rest course next = (test : Test) (told : List Told) → found test told line rest next ≡ course test told
+
+-- a play stands where a course does, whatever was told
+abbrev pub StandsAs : Test → (List Told → PlayCourse) → Stage → Type 0
+StandsAs test course stage = (told : List Told) → stands test told stage ≡ course told
+
+-- behind a change it stands where a course does, whatever was told before the command at hand
+abbrev pub ChangesTo : Test → (List Told → PlayCourse) → Change → Type 0
+ChangesTo test course change =
+    (before : List Told) → stands test (before ++ change.now ∷ []) change.stage ≡ course before
+
+-- the streams of a command come to their places: into files, to the transcript's errors, and to the flow
+abbrev pub IsPoured : Places → List ℕ → List ℕ → Poured → Type 0
+IsPoured places out err poured =
+    (poured.writes ≡ writes_of places out err) × (poured.errors ≡ errors_of places out err) × (poured.flow ≡ flow_of places out err)
 
 -- how many lines there are, as far as they are numbered
 abbrev pub lines_of : Stage → ℕ

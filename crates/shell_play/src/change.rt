@@ -1,10 +1,9 @@
 //! What a reply changes.
-ghost use Rattle.std.specs.Prelude.{◌≡◌, ◌+◌, ◌<◌, ◌++◌, ◌∷◌, [], ℕ, List, IfOk, OnOk, length, if◌then◌else◌};
+ghost use Rattle.std.specs.Prelude.{◌≡◌, ◌+◌, ◌<◌, ◌++◌, ◌∷◌, [], IfOk, OnOk, length, if◌then◌else◌};
 ghost use Rattle.test_course.specs.Course.{after};
-ghost use Rattle.shell_play.specs.Places.{errors_of, flow_of, places_of, writes_of};
-ghost use Rattle.shell_play.specs.Play.{is_none_left, by_read, by_spawn, by_write, first_word, last_failed, lacking, quiet, status_of, streamed, tooled, write_files};
-ghost use Rattle.shell_play.specs.Standing.{IsHere, AreFew, files_left, is_heard, told_last, onward, stands, task, told_now, wanted};
-ghost use Rattle.shell_play.specs.declared.told.Told.{Told};
+ghost use Rattle.shell_play.specs.Places.{places_of};
+ghost use Rattle.shell_play.specs.Play.{is_none_left, first_word, last_failed, lacking, status_of, tooled};
+ghost use Rattle.shell_play.specs.Standing.{IsHere, IsPoured, AreFew, ChangesTo, files_by, files_left, is_heard, told_last, read_by, spawned_by, stands, streamed_by, task, told_now, wanted, written_by};
 
 use crate::places::{Write, errors_of, flow_of, places_of, writes_of};
 use crate::stage::{Running, Stage, Wants};
@@ -60,32 +59,37 @@ fn copy_running<'a>(alloc: Global, running: &Running<'a>) -> Result<Running<'a>,
     })
 }
 
+/// A command that ended, as it is told so far: the files that are left to write, what goes on to the next one, and its status.
+#[derive(Drop)]
+pub struct Ending {
+    pub told: Told,
+    pub writes: Items<Write>,
+    pub flow: Bytes,
+    pub status: u32,
+}
+
 /// Files that are left to write, and then the command has its status.
 fn write_files<'a>(
     alloc: Global,
     test: &Test,
     running: &Running<'a>,
-    now: Told,
-    writes: Items<Write>,
-    flow: Bytes,
-    status: u32,
+    ending: Ending,
 ) -> Result<Change<'a>, NoMemory>
     requires few { running.now.line + length running.now.lines.now < 1000 }
-    requires here { now.line ≡ running.now.line }
+    requires here { ending.told.line ≡ running.now.line }
     ensures few { IfOk result (λ change. AreFew change.stage) }
     ensures here { IfOk result (λ change. IsHere change.stage change.now.line) }
-    ensures exact { IfOk result (λ change. (before : List Told)
-        → stands test.now (before ++ change.now ∷ []) change.stage
-        ≡ write_files writes (onward test.now running.now flow) before now status) }
+    ensures exact { IfOk result (ChangesTo test.now (files_by test.now running.now ending)) }
 {
+    let Ending {
+        told: now,
+        writes,
+        flow,
+        status,
+    } = ending;
     if writes.is_empty() {
-        let stage = next_command(
-            alloc,
-            test,
-            running,
-            last_failed(running.failed, status),
-            flow,
-        )?;
+        let failed = last_failed(running.failed, status);
+        let stage = next_command(alloc, test, running, failed, flow)?;
         let mut now = now;
         now.status = Some(status);
         return Ok(Change { now, stage });
@@ -112,9 +116,7 @@ fn pour(
     out: &[u8],
     err: &[u8],
 ) -> Result<Poured, NoMemory>
-    ensures { IfOk result (λ poured. (poured.writes ≡ writes_of (places_of dir.now redirs.now) out.now err.now)
-        × (poured.errors ≡ errors_of (places_of dir.now redirs.now) out.now err.now)
-        × (poured.flow ≡ flow_of (places_of dir.now redirs.now) out.now err.now)) }
+    ensures { IfOk result (IsPoured (places_of dir.now redirs.now) out.now err.now) }
 {
     let places = places_of(alloc, dir, redirs)?;
     let writes = writes_of(alloc, &places, out, err)?;
@@ -145,30 +147,33 @@ fn shown_or_passed(alloc: Global, last: bool, flow: Bytes) -> (Bytes, Bytes)
     }
 }
 
+/// What a command left: its streams, and its status.
+#[derive(Drop)]
+pub struct Output<'s> {
+    pub out: &'s [u8],
+    pub err: &'s [u8],
+    pub status: u32,
+}
+
 /// A command that ended: its streams go to their places.
 fn streamed<'a>(
     alloc: Global,
     test: &Test,
     running: &Running<'a>,
     notes: Items<Note>,
-    out: &[u8],
-    err: &[u8],
-    status: u32,
+    output: &Output<'_>,
 ) -> Result<Change<'a>, NoMemory>
     requires few { running.now.line + length running.now.lines.now < 1000 }
     ensures few { IfOk result (λ change. AreFew change.stage) }
     ensures here { IfOk result (λ change. IsHere change.stage change.now.line) }
-    ensures exact { IfOk result (λ change. (before : List Told)
-        → stands test.now (before ++ change.now ∷ []) change.stage
-        ≡ streamed (task test.now running.now) (onward test.now running.now) before
-        (record (quiet running.now.line) { notes = notes }) out.now err.now status) }
+    ensures exact { IfOk result (ChangesTo test.now (streamed_by test.now running.now notes output.now)) }
 {
     let poured = pour(
         alloc,
         running.dir.as_slice(),
         running.command.redirs.as_slice(),
-        out,
-        err,
+        output.out,
+        output.err,
     )?;
     let Poured {
         writes,
@@ -177,14 +182,20 @@ fn streamed<'a>(
     } = poured;
     let last = is_none_left(running.commands);
     let (shown, passed) = shown_or_passed(alloc, last, flow);
-    let now = Told {
+    let told = Told {
         line: running.line,
         notes,
         out: shown,
         err: errors,
         status: None,
     };
-    write_files(alloc, test, running, now, writes, passed, status)
+    let ending = Ending {
+        told,
+        writes,
+        flow: passed,
+        status: output.status,
+    };
+    write_files(alloc, test, running, ending)
 }
 
 /// The word of a program that is missing.
@@ -211,6 +222,17 @@ fn one(alloc: Global, note: Note) -> Result<Items<Note>, NoMemory>
     Ok(notes)
 }
 
+/// Nothing was written.
+fn silent(status: u32) -> Output<'static>
+    ensures { (result.out.now ≡ []) × (result.err.now ≡ []) × (result.status ≡ status) }
+{
+    Output {
+        out: b"",
+        err: b"",
+        status,
+    }
+}
+
 /// A reply that ends the play.
 fn unresolved<'a>(now: Told, line: u32) -> Change<'a>
     requires few { line < 1000 }
@@ -233,9 +255,7 @@ fn by_read<'a>(
     requires few { running.now.line + length running.now.lines.now < 1000 }
     ensures few { IfOk result (λ change. AreFew change.stage) }
     ensures here { IfOk result (λ change. IsHere change.stage change.now.line) }
-    ensures exact { IfOk result (λ change. (before : List Told)
-        → stands test.now (before ++ change.now ∷ []) change.stage
-        ≡ by_read (task test.now running.now) path.now (onward test.now running.now) before (quiet running.now.line) reply.now) }
+    ensures exact { IfOk result (ChangesTo test.now (read_by test.now running.now path.now reply.now)) }
 {
     match reply {
         Reply::Bytes(bytes) => {
@@ -251,7 +271,7 @@ fn by_read<'a>(
                 alloc,
                 Note::NoFile(Bytes::from_slice(alloc, path.as_slice())?),
             )?;
-            streamed(alloc, test, running, notes, b"", b"", 1)
+            streamed(alloc, test, running, notes, &silent(1))
         }
         Reply::Written | Reply::Status { .. } | Reply::TooLarge(_) | Reply::Broken => {
             Ok(unresolved(Told::quiet(alloc, running.line), running.line))
@@ -269,23 +289,20 @@ fn by_spawn<'a>(
     requires few { running.now.line + length running.now.lines.now < 1000 }
     ensures few { IfOk result (λ change. AreFew change.stage) }
     ensures here { IfOk result (λ change. IsHere change.stage change.now.line) }
-    ensures exact { IfOk result (λ change. (before : List Told)
-        → stands test.now (before ++ change.now ∷ []) change.stage
-        ≡ by_spawn (task test.now running.now) (onward test.now running.now) before (quiet running.now.line) reply.now) }
+    ensures exact { IfOk result (ChangesTo test.now (spawned_by test.now running.now reply.now)) }
 {
     match reply {
-        Reply::Status { finish, out, err } => streamed(
-            alloc,
-            test,
-            running,
-            Items::new(alloc),
-            out.as_slice(),
-            err.as_slice(),
-            status_of(*finish),
-        ),
+        Reply::Status { finish, out, err } => {
+            let output = Output {
+                out: out.as_slice(),
+                err: err.as_slice(),
+                status: status_of(*finish),
+            };
+            streamed(alloc, test, running, Items::new(alloc), &output)
+        }
         Reply::Missing => {
             let notes = one(alloc, Note::NoProgram(program_of(alloc, test, running)?))?;
-            streamed(alloc, test, running, notes, b"", b"", 127)
+            streamed(alloc, test, running, notes, &silent(127))
         }
         Reply::Written | Reply::Bytes(_) | Reply::TooLarge(_) | Reply::Broken => {
             Ok(unresolved(Told::quiet(alloc, running.line), running.line))
@@ -307,39 +324,40 @@ fn add_writes(alloc: Global, writes: &mut Items<Write>, more: &[Write]) -> Resul
     Ok(())
 }
 
-/// Behind the reply to a WriteFile, of which the path is given, and these files are left.
+/// Equal files.
+fn same_writes(alloc: Global, writes: &[Write]) -> Result<Items<Write>, NoMemory>
+    ensures { IfOk result (λ same. same ≡ writes.now) }
+{
+    let mut same = Items::new(alloc);
+    add_writes(alloc, &mut same, writes)?;
+    Ok(same)
+}
+
+/// Behind the reply to a WriteFile, of which the path is given.
 fn by_write<'a>(
     alloc: Global,
     test: &Test,
     running: &Running<'a>,
     path: &Bytes,
-    left: &[Write],
-    flow: &Bytes,
-    status: u32,
-    now: Told,
+    mut ending: Ending,
     reply: &Reply,
 ) -> Result<Change<'a>, NoMemory>
     requires few { running.now.line + length running.now.lines.now < 1000 }
-    requires here { now.line ≡ running.now.line }
+    requires here { ending.told.line ≡ running.now.line }
     ensures few { IfOk result (λ change. AreFew change.stage) }
     ensures here { IfOk result (λ change. IsHere change.stage change.now.line) }
-    ensures exact { IfOk result (λ change. (before : List Told)
-        → stands test.now (before ++ change.now ∷ []) change.stage
-        ≡ by_write path.now (write_files left.now (onward test.now running.now flow.now) before) before now status reply.now) }
+    ensures exact { IfOk result (ChangesTo test.now (written_by test.now running.now path.now ending reply.now)) }
 {
-    let mut writes = Items::new(alloc);
-    add_writes(alloc, &mut writes, left)?;
-    let flow = Bytes::from_slice(alloc, flow.as_slice())?;
     match reply {
-        Reply::Written => write_files(alloc, test, running, now, writes, flow, status),
+        Reply::Written => write_files(alloc, test, running, ending),
         Reply::Missing => {
-            let mut now = now;
-            now.notes
-                .push(Note::NoWrite(Bytes::from_slice(alloc, path.as_slice())?))?;
-            write_files(alloc, test, running, now, writes, flow, lacking(status))
+            let note = Note::NoWrite(Bytes::from_slice(alloc, path.as_slice())?);
+            ending.told.notes.push(note)?;
+            ending.status = lacking(ending.status);
+            write_files(alloc, test, running, ending)
         }
         Reply::Bytes(_) | Reply::Status { .. } | Reply::TooLarge(_) | Reply::Broken => {
-            Ok(unresolved(now, running.line))
+            Ok(unresolved(ending.told, running.line))
         }
     }
 }
@@ -393,17 +411,15 @@ pub(crate) fn change_by<'a>(
                 unreachable!();
             };
             let last = last_told(alloc, running.line, told)?;
-            let change = by_write(
-                alloc,
-                test,
-                running,
-                &first.path,
-                left,
-                flow,
-                *status,
-                last,
-                reply,
-            )?;
+            let files = same_writes(alloc, left)?;
+            let passed = Bytes::from_slice(alloc, flow.as_slice())?;
+            let ending = Ending {
+                told: last,
+                writes: files,
+                flow: passed,
+                status: *status,
+            };
+            let change = by_write(alloc, test, running, &first.path, ending, reply)?;
             Ok(change)
         }
     }
