@@ -1,5 +1,5 @@
 //! The line itself.
-ghost use Rattle.std.specs.Prelude.{◌≡◌, ◌++◌, OnOk, decimal};
+ghost use Rattle.std.specs.Prelude.{◌≡◌, ◌++◌, IfOk, OnOk, decimal};
 ghost use Rattle.lit_progress.specs.Line.{line_text};
 
 use itoa::Buffer;
@@ -99,7 +99,7 @@ impl<W: Write + Copy> Line<W> {
 /// What is written for these numbers.
 #[tactic(auto, unfolding(crate::specs::Line::line_text))]
 fn text_of(alloc: Global, begun: u64, failed: u64) -> Result<Bytes, NoMemory>
-    ensures { OnOk result (λ text. text ≡ line_text begun failed) }
+    ensures { IfOk result (λ text. text ≡ line_text begun failed) }
 {
     let mut text = Bytes::from_slice(alloc, b"\rlit: begun ")?;
     add_number(&mut text, begun)?;
