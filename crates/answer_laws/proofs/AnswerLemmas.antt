@@ -1,7 +1,7 @@
--- Shown: words and readings come to one answer, runs tell it, and with room it is written whole.
+-- Shown: words and readings come to one answer, of which what isn't asked for is free, and with room it is written whole.
 -- Idea: bodies come to directives that scanning sees in one way, or to one refusal; the verdict hangs on what is seen, and so do the
 -- names with which the variables begin. The hard one is `found_one`.
-use Rattle.std.proofs.Common.{◌≡◌, ℕ, List, [], ◌∷◌, ◌++◌, length, map, Result, Ok, Err, refl, sym, ◌∙◌, ap, arith, inl, inr}
+use Rattle.std.proofs.Common.{◌≡◌, ℕ, ◌&&◌, List, [], ◌∷◌, ◌++◌, length, map, Option, Some, Result, Ok, Err, refl, sym, ◌∙◌, ap, subst, arith, inl, inr}
 use Rattle.std.specs.FinMap.{empty}
 use Rattle.std.specs.List.{flat_map}
 use Rattle.pattern_instance.specs.Missing.{each_once}
@@ -9,6 +9,9 @@ use Rattle.pattern_vars.specs.declared.binding.Binding.{Binding}
 use Rattle.check_group.specs.declared.directive.Check.{Check}
 use Rattle.check_group.specs.declared.fault.Fault.{Fault}
 use Rattle.check_lines.specs.Canonical.{canon}
+use Rattle.check_lines.specs.Checks.{read_checks}
+use Rattle.check_lines.specs.declared.directive.Directive.{Directive}
+use Rattle.check_lines.specs.declared.fault.CheckFault.{CheckFault}
 use Rattle.check_scan.specs.Block.{End}
 use Rattle.check_scan.specs.Verdict.{scan}
 use Rattle.check_program.specs.Compiled.{Formats, IsProgram as HasPatterns}
@@ -19,26 +22,25 @@ use Rattle.compile_laws.specs.Laws.{Seen, seen}
 use Rattle.define_words.specs.Defined.{defined_by}
 use Rattle.define_words.specs.Start.{start}
 use Rattle.scan_laws.proofs.SeenLemmas.{verdict_is_of_seen}
-use Rattle.tt_run.specs.Run.{Files, Source}
 use Rattle.tt_run.specs.declared.reading.Reading.{Reading}
-use Rattle.tt_run.specs.declared.reading.Reading.TheVariants.{Missing}
-use Rattle.filecheck_words.specs.declared.fault.WordsFault.{WordsFault}
-use Rattle.filecheck_words.specs.declared.job.Job.{Job}
+use Rattle.tt_run.specs.declared.reading.Reading.TheVariants.{Whole}
+use Rattle.filecheck_words.specs.declared.job.Job.TheVariants.{Generate}
+use Rattle.generator.specs.Generated.{checks_text}
 use Rattle.filecheck_messages.specs.Answer.{answer_to}
 use Rattle.filecheck_messages.specs.Refusal.{◌>>=◌, LeadsTo, accepted}
 use Rattle.filecheck_messages.specs.declared.refusal.Refusal.{Refusal}
-use Rattle.filecheck_messages.specs.declared.refusal.Refusal.TheVariants.{Words}
 use Rattle.filecheck_messages.specs.declared.refusal.Stop.{Stop}
 use Rattle.filecheck_messages.specs.declared.refusal.Stop.TheVariants.{Refused, NotReadable}
 use Rattle.filecheck_messages.specs.declared.report.Report.{Report}
-use Rattle.filecheck_tool.specs.CheckFile.{check_file_read, whole}
-use Rattle.filecheck_tool.specs.Program.{ArePatterns, IsCompiledTo, IsDefinedWith, bad_body, bodies, fresh_of, opts_of, program_of}
-use Rattle.filecheck_tool.specs.Run.{OutcomeFrom}
+use Rattle.filecheck_tool.specs.Answer.{checks_given, found_by, input_given}
+use Rattle.filecheck_tool.specs.CheckFile.{check_file_of, check_file_read, whole, with_directives}
+use Rattle.filecheck_tool.specs.Program.{ArePatterns, IsCompiledTo, IsDefinedWith, IsProgram, bad_body, bodies, fresh_of, opts_of, program_of}
 use Rattle.filecheck_tool.specs.Start.{start_of}
 use Rattle.filecheck_tool.specs.Verdict.{filled, input_name, report_of, verdict_read}
 use Rattle.filecheck_tool.specs.declared.check_file.CheckFile.{CheckFile}
 use Rattle.filecheck_tool.specs.declared.program.Program.{Program}
-use Rattle.answer_laws.specs.Answers.{AnswerIsOne, AnswersSo, RoomLeavesOne, found_by}
+use Rattle.filecheck_tool.specs.declared.start.Start.{Start}
+use Rattle.answer_laws.specs.Answers.{AnswerIsOne, RoomLeavesOne, UnaskedIsFree}
 
 -- ---- what is seen of two lists that are one behind the other
 
@@ -109,7 +111,7 @@ module _ (file : CheckFile) (known : Formats) where
       → IsDefinedWith file one fresh end → IsDefinedWith file other fresh more
       → found_by end read ≡ found_by more read
   defined_one one other later last (Ok fresh) end more read is again ends mores =
-      ap (λ p. found_by p read) ends ∙ patterns_one one other later last fresh read is again
+      ap (λ p. found_by p read) ends ∙ patterns_one one other later last fresh (input_given file.made read) is again
       ∙ sym (ap (λ p. found_by p read) mores)
   defined_one one other later last (Err refusal) end more read is again ends mores =
       ap (λ p. found_by p read) (ends ∙ sym mores)
@@ -151,26 +153,61 @@ found_one (Err stop) end more read ends mores = ap (λ p. found_by p read) (ends
 -- ---- answers
 
 pub answer_is_one : AnswerIsOne
-answer_is_one (Ok job) file read one other (program, is, told) (another, again, other_told) =
-    told ∙ ap answer_to (found_one (check_file_read (start_of job) file) program another read is again) ∙ sym other_told
-answer_is_one (Err fault) file read one other told again = told ∙ sym again
+answer_is_one (Ok job) file read one other (program, (is, told)) (another, (again, other_told)) =
+    let step = check_file_read (start_of job) (checks_given (start_of job).made file) in
+    told ∙ ap answer_to (found_one step program another read is again) ∙ sym other_told
+answer_is_one (Err fault) file read one other (program, (is, told)) (another, (again, other_told)) =
+    told ∙ ap (λ p. answer_to (found_by p read)) (is ∙ sym again) ∙ sym other_told
 
-refused_so : (later : Files) (input : Source) (most : ℕ) (refusal : Refusal) (program : Result Program Stop)
-    (outcome : Result Report Stop) → program ≡ Err (Refused refusal) → OutcomeFrom later input most program outcome
-    → outcome ≡ Err (Refused refusal)
-refused_so later input most refusal (Ok program) outcome same so = cc
-refused_so later input most refusal (Err stop) outcome same so =
-    let equal : stop ≡ Refused refusal = cc in so.2 ∙ ap Err equal
+-- ---- what isn't asked for
 
-pub runs_answer_so : (files later : Files) (input : Source) (limit most : ℕ) (job : Result Job WordsFault)
-    (program : Result Program Stop) (outcome : Result Report Stop)
-    → AnswersSo files later input limit most job program outcome
-runs_answer_so files later input limit most (Err fault) program outcome from so =
-    (Missing, Missing, ap answer_to (refused_so later input most (Words fault) program outcome from.1 so))
-runs_answer_so files later input limit most (Ok job) (Ok program) outcome (file, read, is) (given, was, same) =
-    (file, given, (Ok program, is, ap answer_to same))
-runs_answer_so files later input limit most (Ok job) (Err stop) outcome (file, read, is) so =
-    (file, Missing, (Err stop, is, ap answer_to so.2))
+-- a program says whether its texts are made
+abbrev IsMade : Option ℕ → Result Program Stop → Type 0
+IsMade made (Ok program) = program.file.made ≡ made
+IsMade made (Err stop) = Unit {0}
+
+made_defined : (file : CheckFile) (patterns : Patterns) (fresh : Result (List Binding) Refusal) (end : Result Program Stop)
+    → IsDefinedWith file patterns fresh end → IsMade file.made end
+made_defined file patterns (Ok fresh) end is = subst (IsMade file.made) (sym is) refl
+made_defined file patterns (Err refusal) end is = subst (IsMade file.made) (sym is) tt
+
+made_led : (file : CheckFile) (patterns : Result Patterns Stop) (fresh : Result (List Binding) Refusal) (end : Result Program Stop)
+    → LeadsTo patterns (λ p. IsDefinedWith file p fresh) end → IsMade file.made end
+made_led file (Ok patterns) fresh end is = made_defined file patterns fresh end is
+made_led file (Err stop) fresh end is = subst (IsMade file.made) (sym is) tt
+
+made_compiled : (file : CheckFile) (end : Result Program Stop) → IsCompiledTo file end → IsMade file.made end
+made_compiled file end (patterns, are, leads) =
+    made_led file patterns (fresh_of (defined_by file.asked.defines).fresh) end leads
+
+made_of_lines : (start : Start) (text : List ℕ) (lines : Result (List Directive) CheckFault) (end : Result Program Stop)
+    → LeadsTo (accepted (check_file_of start text lines)) IsCompiledTo end → IsMade start.made end
+made_of_lines start text (Ok directives) end is = made_compiled (with_directives start text directives) end is
+made_of_lines start text (Err fault) end is = subst (IsMade start.made) (sym is) tt
+
+made_read : (start : Start) (bytes : List ℕ) (end : Result Program Stop) → IsProgram start (Whole bytes) end → IsMade start.made end
+made_read start bytes end =
+    let asked = start.asked in
+    let text = canon asked.strict bytes in
+    made_of_lines start text
+    (read_checks asked.prefixes.checks asked.prefixes.comments asked.allow_unused (asked.strict && asked.full_lines) asked.may_lack text)
+    end
+
+-- where the texts are made, what is found is the same whatever was read
+found_of_made : (count : ℕ) (program : Result Program Stop) (read another : Reading) → IsMade (Some count) program
+    → found_by program read ≡ found_by program another
+found_of_made count (Ok program) read another made =
+    ap (verdict_read program) (ap (λ m. input_given m read) made ∙ sym (ap (λ m. input_given m another) made))
+found_of_made count (Err stop) read another made = refl
+
+pub unasked_is_free : UnaskedIsFree
+unasked_is_free = record {
+  refused = λ fault file read other another answer is.
+      (is.0, (is.1.0, is.1.1 ∙ ap answer_to (ap (λ p. found_by p read) is.1.0 ∙ sym (ap (λ p. found_by p another) is.1.0))));
+  made = λ count file read other another answer is.
+      let begun = made_read (start_of (Generate count)) (checks_text count) is.0 is.1.0 in
+      (is.0, (is.1.0, is.1.1 ∙ ap answer_to (found_of_made count is.0 read another begun)));
+}
 
 pub room_leaves_one : RoomLeavesOne
 room_leaves_one fault answer status out err (inl (taken, inl (same, told))) fits also = (same, taken, told)

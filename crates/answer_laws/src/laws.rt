@@ -1,16 +1,10 @@
 //! Laws of the definitions. A law is the contract of a function that does nothing.
-ghost use Rattle.answer_laws.specs.Answers.{AnswerIsOne, RoomLeavesOne, RunsAnswerSo};
-
-use tt_outside::{Files, Source};
+ghost use Rattle.answer_laws.specs.Answers.{AnswerIsOne, RoomLeavesOne, UnaskedIsFree};
 
 /// Words, and what reading the check file and the input gave, come to one answer, which is written whole where the streams have
-/// room.
+/// room. What isn't asked for doesn't count.
 pub fn law_of_answers()
     ensures one { AnswerIsOne }
+    ensures unasked { UnaskedIsFree }
     ensures room { RoomLeavesOne }
-{}
-
-/// What a run tells is that answer, over any files and any input.
-pub fn law_of_runs<F: Files, I: Source>()
-    ensures { RunsAnswerSo F.Files I.Source }
 {}

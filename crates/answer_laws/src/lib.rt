@@ -3,4 +3,4 @@
 
 mod laws;
 
-pub use laws::{law_of_answers, law_of_runs};
+pub use laws::law_of_answers;

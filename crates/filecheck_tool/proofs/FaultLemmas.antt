@@ -13,14 +13,17 @@ use Rattle.define_words.specs.Defined.{defined_by}
 use Rattle.filecheck_words.specs.declared.checking.Input.{Input}
 use Rattle.filecheck_words.specs.declared.checking.Input.TheVariants.{Standard, Named}
 use Rattle.filecheck_words.specs.declared.fault.WordsFault.{WordsFault}
+use Rattle.filecheck_words.specs.declared.checking.Asked.{Asked}
 use Rattle.filecheck_words.specs.declared.job.Job.{Job}
+use Rattle.filecheck_words.specs.declared.job.Job.TheVariants.{Check, Generate}
 use Rattle.generator.specs.Generated.{checks_text, input_text}
 use Rattle.filecheck_messages.specs.Answer.{answer_to}
+use Rattle.filecheck_tool.specs.Answer.{checks_asked, input_asked, input_given, unless_made}
 use Rattle.filecheck_tool.specs.CheckFile.{check_file_in}
 use Rattle.check_program.specs.declared.program.Program.{Program as Patterns}
-use Rattle.filecheck_tool.specs.Program.{ArePatterns, IsCompiledTo, IsDefinedWith, fresh_of, program_of}
+use Rattle.filecheck_tool.specs.Program.{ArePatterns, IsCompiledTo, IsDefinedWith, IsProgram, fresh_of, program_of}
 use Rattle.filecheck_messages.specs.Refusal.{◌>>=◌, LeadsTo, accepted}
-use Rattle.filecheck_tool.specs.Run.{InputRead, OutcomeFrom, ProgramFrom, ReadOrMade}
+use Rattle.filecheck_tool.specs.Run.{FileAsked, InputAsked, OutcomeFrom, ProgramFrom}
 use Rattle.filecheck_tool.specs.Start.{start_of}
 use Rattle.filecheck_tool.specs.Verdict.{filled, input_name, verdict, verdict_read}
 use Rattle.filecheck_tool.specs.declared.check_file.CheckFile.{CheckFile}
@@ -84,39 +87,29 @@ file_later files limit name Missing is = inl is.1
 file_later files limit name TooLarge (size, gives, past, same) = inl same
 file_later files limit name Failed is = inr is.0
 
-made_later : (files : Files) (limit : ℕ) (start : Start) (made : Option ℕ) (file : Reading)
-    → ReadOrMade files limit start made file → IsLater files.before files.now
-made_later files limit start (Some count) file is = inl is.0.0
-made_later files limit start None file is = file_later files limit start.asked.name file is
+asked_later : (files : Files) (limit : ℕ) (name : Option (List ℕ)) (file : Reading) → FileAsked files limit name file
+    → IsLater files.before files.now
+asked_later files limit (Some name) file is = file_later files limit name file is
+asked_later files limit None file is = inl is.0
 
 program_later : (files : Files) (limit : ℕ) (job : Result Job WordsFault) (program : Result Program Stop)
     → ProgramFrom files limit job program → IsLater files.before files.now
 program_later files limit (Err fault) program from = inl from.0.0
-program_later files limit (Ok job) program (file, read, is) =
-    made_later files limit (start_of job) (start_of job).made file read
+program_later files limit (Ok job) program (file, read, is) = asked_later files limit (checks_asked job) file read
 
-input_later : (files : Files) (input : Source) (limit : ℕ) (made : Option ℕ) (place : Input) (read : Reading)
-    → InputRead files input limit made place read → IsLater files.before files.now
-input_later files input limit (Some count) place read is = inl is.0.0
-input_later files input limit None Standard read is = inl is.0.0
-input_later files input limit None (Named name) read is = file_later files limit name read is.1
+input_later : (files : Files) (input : Source) (limit : ℕ) (asked : Option Input) (read : Reading)
+    → InputAsked files input limit asked read → IsLater files.before files.now
+input_later files input limit None read is = inl is.0.0
+input_later files input limit (Some Standard) read is = inl is.0.0
+input_later files input limit (Some (Named name)) read is = file_later files limit name read is.1
 
 outcome_later : (files : Files) (input : Source) (limit : ℕ) (program : Result Program Stop) (outcome : Result Report Stop)
     → OutcomeFrom files input limit program outcome → IsLater files.before files.now
 outcome_later files input limit (Err stop) outcome from = inl from.0.0
 outcome_later files input limit (Ok program) outcome (read, is, same) =
-    input_later files input limit program.file.made program.file.asked.input read is
+    input_later files input limit (input_asked program.file) read is
 
 -- ---- what counted a fault
-
-abbrev IsFailed : Reading → Type 0
-IsFailed (Whole bytes) = ⊥
-IsFailed Missing = ⊥
-IsFailed TooLarge = ⊥
-IsFailed Failed = ⊤
-
-failed_is_not_whole : (bytes : List ℕ) → Failed ≡ Whole bytes → ⊥
-failed_is_not_whole bytes same = subst IsFailed same tt
 
 -- a call on files failed, which counted it and aren't steady; and one on the input
 abbrev FilesFailed : Files → Type 0
@@ -125,35 +118,49 @@ FilesFailed files = Rose files.before files.now × (files.steady → ⊥)
 abbrev InputFailed : Source → Type 0
 InputFailed input = Rose input.before input.now × (input.steady → ⊥)
 
--- a check file that could not be read was a file
-failed_checks : (files : Files) (limit : ℕ) (start : Start) (made : Option ℕ) → ReadOrMade files limit start made Failed
-    → FilesFailed files
-failed_checks files limit start (Some count) (rests, same) = absurd (failed_is_not_whole (checks_text count) same)
-failed_checks files limit start None is = is
+-- a check file that was read whole stops nothing at a fault
+whole_checks_calm : (start : Start) (bytes : List ℕ) (program : Result Program Stop) → IsProgram start (Whole bytes) program
+    → IsFault program → ⊥
+whole_checks_calm start bytes program leads =
+    leads_calm (check_file_in start (canon start.asked.strict bytes)) IsCompiledTo program
+    (λ file compiled. compiled_calm file program compiled) leads
 
 -- where a program stops at a fault, the files counted it
+fault_of_checks : (files : Files) (limit : ℕ) (asked : Asked) (file : Reading) (program : Result Program Stop)
+    → FileRead files limit asked.name file → IsProgram (start_of (Check asked)) file program → IsFault program → FilesFailed files
+fault_of_checks files limit asked (Whole bytes) program read leads is =
+    absurd (whole_checks_calm (start_of (Check asked)) bytes program leads is)
+fault_of_checks files limit asked Missing program read same is = absurd (subst IsFault same is)
+fault_of_checks files limit asked TooLarge program read same is = absurd (subst IsFault same is)
+fault_of_checks files limit asked Failed program read same is = read
+
 fault_of_files : (files : Files) (limit : ℕ) (job : Result Job WordsFault) (program : Result Program Stop)
     → ProgramFrom files limit job program → IsFault program → FilesFailed files
 fault_of_files files limit (Err fault) program from is = absurd (subst IsFault from.1 is)
-fault_of_files files limit (Ok job) program (Whole bytes, read, leads) is =
-    absurd (leads_calm (check_file_in (start_of job) (canon (start_of job).asked.strict bytes)) IsCompiledTo program
-    (λ file compiled is. compiled_calm file program compiled is) leads is)
-fault_of_files files limit (Ok job) program (Missing, read, same) is = absurd (subst IsFault same is)
-fault_of_files files limit (Ok job) program (TooLarge, read, same) is = absurd (subst IsFault same is)
-fault_of_files files limit (Ok job) program (Failed, read, same) is =
-    failed_checks files limit (start_of job) (start_of job).made read
+fault_of_files files limit (Ok (Check asked)) program (file, read, leads) is =
+    fault_of_checks files limit asked file program read leads is
+fault_of_files files limit (Ok (Generate count)) program (file, read, leads) is =
+    absurd (whole_checks_calm (start_of (Generate count)) (checks_text count) program leads is)
 
 whole_is_none : (program : Program) (bytes : List ℕ) → IsFault (verdict_read program (Whole bytes)) → ⊥
 whole_is_none program bytes =
     no_fault_then (filled program.file.asked.allow_empty (input_name program.file.asked.input) bytes)
     (λ input. Ok (verdict program (length input) (canon program.file.asked.strict input))) (λ input is. is)
 
-failed_input : (files : Files) (input : Source) (limit : ℕ) (made : Option ℕ) (place : Input)
-    → InputRead files input limit made place Failed → FilesFailed files ⊎ InputFailed input
-failed_input files input limit (Some count) place (rests, rest, same) =
-    absurd (failed_is_not_whole (input_text count) same)
-failed_input files input limit None Standard is = inr is.1
-failed_input files input limit None (Named name) is = inl is.1
+-- where the verdict on an input is a fault, the files or the input counted it
+failed_input : (files : Files) (input : Source) (limit : ℕ) (program : Program) (place : Input) (read : Reading)
+    → InputAsked files input limit (Some place) read → IsFault (verdict_read program read) → FilesFailed files ⊎ InputFailed input
+failed_input files input limit program place (Whole bytes) is fault = absurd (whole_is_none program bytes fault)
+failed_input files input limit program place Missing is fault = absurd fault
+failed_input files input limit program place TooLarge is fault = absurd fault
+failed_input files input limit program Standard Failed is fault = inr is.1
+failed_input files input limit program (Named name) Failed is fault = inl is.1
+
+failed_given : (files : Files) (input : Source) (limit : ℕ) (program : Program) (made : Option ℕ) (place : Input) (read : Reading)
+    → InputAsked files input limit (unless_made made place) read → IsFault (verdict_read program (input_given made read))
+    → FilesFailed files ⊎ InputFailed input
+failed_given files input limit program (Some count) place read is fault = absurd (whole_is_none program (input_text count) fault)
+failed_given files input limit program None place read is fault = failed_input files input limit program place read is fault
 
 -- where the outcome is a fault, the files or the input counted it, or the program was one
 fault_of_input : (files : Files) (input : Source) (limit : ℕ) (program : Result Program Stop) (outcome : Result Report Stop)
@@ -161,14 +168,8 @@ fault_of_input : (files : Files) (input : Source) (limit : ℕ) (program : Resul
     → IsFault program ⊎ FilesFailed files ⊎ InputFailed input
 fault_of_input files input limit (Err (Refused refusal)) outcome from is = absurd (subst IsFault from.2 is)
 fault_of_input files input limit (Err (NotReadable name)) outcome from is = inl tt
-fault_of_input files input limit (Ok program) outcome (Whole bytes, read, same) is =
-    absurd (whole_is_none program bytes (subst IsFault same is))
-fault_of_input files input limit (Ok program) outcome (Missing, read, same) is =
-    let no : IsFault (verdict_read program Missing) = subst IsFault same is in absurd no
-fault_of_input files input limit (Ok program) outcome (TooLarge, read, same) is =
-    let no : IsFault (verdict_read program TooLarge) = subst IsFault same is in absurd no
-fault_of_input files input limit (Ok program) outcome (Failed, read, same) is =
-    inr (failed_input files input limit program.file.made program.file.asked.input read)
+fault_of_input files input limit (Ok program) outcome (read, is, same) fault =
+    inr (failed_given files input limit program program.file.made program.file.asked.input read is (subst IsFault same fault))
 
 -- an answer of status 3 is to a fault
 made_is_none : (one : Bool) → ◌≡◌ {A = ℕ} (if one then 0 else 1) 3 → ⊥

@@ -1,3 +1,4 @@
+pub mod Answer
 pub mod CheckFile
 pub mod Program
 pub mod Run

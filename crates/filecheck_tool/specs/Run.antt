@@ -7,22 +7,16 @@ use Rattle.filecheck_words.specs.declared.checking.Input.{Input}
 use Rattle.filecheck_words.specs.declared.checking.Input.TheVariants.{Standard, Named}
 use Rattle.filecheck_words.specs.declared.fault.WordsFault.{WordsFault}
 use Rattle.filecheck_words.specs.declared.job.Job.{Job}
-use Rattle.generator.specs.Generated.{checks_text, input_text}
 use Rattle.tt_outside.specs.declared.files.Files.{Ghosts as OfFiles}
 use Rattle.tt_run.specs.Run.{Answers, Files, FileRead, FilesRest, Source, SourceRead, SourceRests, StaysSteady, Stream, files_of}
 use Rattle.tt_run.specs.declared.answer.Answer.{Answer}
 use Rattle.tt_run.specs.declared.reading.Reading.{Reading}
-use Rattle.tt_run.specs.declared.reading.Reading.TheVariants.{Whole}
-use Rattle.filecheck_tool.specs.Program.{IsProgram}
-use Rattle.filecheck_tool.specs.Start.{start_of}
-use Rattle.filecheck_tool.specs.Verdict.{verdict_read}
+use Rattle.filecheck_tool.specs.Answer.{IsAnswerBy, IsProgramOf, checks_asked, found_by, input_asked}
 use Rattle.filecheck_tool.specs.declared.program.Program.{Program}
-use Rattle.filecheck_messages.specs.Answer.{answer_to}
 use Rattle.filecheck_messages.specs.declared.refusal.Refusal.TheVariants.{Words}
 use Rattle.filecheck_messages.specs.declared.refusal.Stop.{Stop}
 use Rattle.filecheck_messages.specs.declared.refusal.Stop.TheVariants.{Refused}
 use Rattle.filecheck_messages.specs.declared.report.Report.{Report}
-use Rattle.filecheck_tool.specs.declared.start.Start.{Start}
 
 -- files behind a run hold what they held, and are steady where they were
 abbrev pub IsKept : {F : Type 0} → OfFiles F → F → F → Type 0
@@ -32,47 +26,66 @@ IsKept of old new = (of.held new ≡ of.held old) × StaysSteady of.steady old n
 abbrev pub AreUnread : {F I : Type 0} → F → F → I → I → Type 0
 AreUnread files later input rest = (later ≡ files) × (rest ≡ input)
 
--- reading the check file gave this, or this one was made
-abbrev pub ReadOrMade : Files → ℕ → Start → Option ℕ → Reading → Type 0
-ReadOrMade files limit start (Some count) file = FilesRest files × (file ≡ Whole (checks_text count))
-ReadOrMade files limit start None file = FileRead files limit start.asked.name file
+-- ---- what is read
 
-abbrev pub ChecksRead : Files → ℕ → Start → Reading → Type 0
-ChecksRead files limit start file = ReadOrMade files limit start start.made file
+-- reading the file of a name gave this; without a name nothing was read
+abbrev pub FileAsked : Files → ℕ → Option (List ℕ) → Reading → Type 0
+FileAsked files limit (Some name) file = FileRead files limit name file
+FileAsked files limit None file = FilesRest files
 
--- from what the words ask for to the program of the check file: that is read within a limit
-abbrev pub ProgramFrom : Files → ℕ → Result Job WordsFault → Result Program Stop → Type 0
-ProgramFrom files limit (Ok job) program =
-    (file : Reading) × ChecksRead files limit (start_of job) file × IsProgram (start_of job) file program
-ProgramFrom files limit (Err fault) program = FilesRest files × (program ≡ Err (Refused (Words fault)))
+-- the check file was read where the words are accepted
+abbrev pub ChecksRead : Files → ℕ → Result Job WordsFault → Reading → Type 0
+ChecksRead files limit (Ok job) file = FileAsked files limit (checks_asked job) file
+ChecksRead files limit (Err fault) file = FilesRest files
 
--- reading the input gave this, and nothing else was read; or this one was made
-abbrev pub InputRead : Files → Source → ℕ → Option ℕ → Input → Reading → Type 0
-InputRead files input limit (Some count) place read =
-    FilesRest files × SourceRests input × (read ≡ Whole (input_text count))
-InputRead files input limit None Standard read = FilesRest files × SourceRead input limit read
-InputRead files input limit None (Named name) read = SourceRests input × FileRead files limit name read
+-- reading an input gave this, and nothing else was read; without an input nothing was
+abbrev pub InputAsked : Files → Source → ℕ → Option Input → Reading → Type 0
+InputAsked files input limit (Some Standard) read = FilesRest files × SourceRead input limit read
+InputAsked files input limit (Some (Named name)) read = SourceRests input × FileRead files limit name read
+InputAsked files input limit None read = FilesRest files × SourceRests input
 
--- from the program to what is told: the input is read within a limit
-abbrev pub OutcomeFrom : Files → Source → ℕ → Result Program Stop → Result Report Stop → Type 0
-OutcomeFrom files input limit (Ok program) outcome =
-    (read : Reading) × InputRead files input limit program.file.made program.file.asked.input read
-    × (outcome ≡ verdict_read program read)
-OutcomeFrom files input limit (Err stop) outcome = FilesRest files × SourceRests input × (outcome ≡ Err stop)
+-- the input was read where the check file came to a program
+abbrev pub InputRead : Files → Source → ℕ → Result Program Stop → Reading → Type 0
+InputRead files input limit (Ok program) read = InputAsked files input limit (input_asked program.file) read
+InputRead files input limit (Err stop) read = FilesRest files × SourceRests input
 
--- from words to what is told: the check file is read within its limit, and then the input within its own
-abbrev pub OutcomeOf : {F : Type 0} → OfFiles F → F → F → Source → Result Job WordsFault → Result Report Stop → Type 0
-OutcomeOf {F} of old new input job outcome =
-    (middle : F) × (program : Result Program Stop)
-    × ProgramFrom (files_of of old middle) (2 ^ 24) job program × IsKept of old middle
-    × OutcomeFrom (files_of of middle new) input (2 ^ 26) program outcome
+-- the check file was read within its limit, and then the input within its own
+abbrev pub AreRead : {F : Type 0} → OfFiles F → F → F → Source → Result Job WordsFault → Result Program Stop
+    → Reading → Reading → Type 0
+AreRead {F} of old new input job program file read =
+    (middle : F) × ChecksRead (files_of of old middle) (2 ^ 24) job file × IsKept of old middle
+    × InputRead (files_of of middle new) input (2 ^ 26) program read
 
--- and the answer to it
+-- ---- what is answered
+
+-- words, and what was read of the check file and the input, come to this answer
 abbrev pub AnswerOf : {F : Type 0} → OfFiles F → F → F → Source → Result Job WordsFault → Answer → Type 0
 AnswerOf of old new input job answer =
-    (outcome : Result Report Stop) × OutcomeOf of old new input job outcome × (answer ≡ answer_to outcome)
+    (program : Result Program Stop) × (file : Reading) × (read : Reading)
+    × AreRead of old new input job program file read × IsAnswerBy program job file read answer
 
 -- that answer is told, and gives the status; but for want of memory
 abbrev pub Checks : {F : Type 0} → List (List ℕ) → OfFiles F → F → F → Source → ℕ → Stream → Stream → Type 0
 Checks words of old new input result out err =
     Answers (codes "filecheck") (AnswerOf of old new input (asked_by words)) result out err
+
+-- ---- its steps
+
+-- from what the words ask for to the program of the check file
+abbrev pub ProgramFrom : Files → ℕ → Result Job WordsFault → Result Program Stop → Type 0
+ProgramFrom files limit (Ok job) program =
+    (file : Reading) × FileAsked files limit (checks_asked job) file × IsProgramOf (Ok job) file program
+ProgramFrom files limit (Err fault) program = FilesRest files × (program ≡ Err (Refused (Words fault)))
+
+-- from the program to what is told
+abbrev pub OutcomeFrom : Files → Source → ℕ → Result Program Stop → Result Report Stop → Type 0
+OutcomeFrom files input limit (Ok program) outcome =
+    (read : Reading) × InputAsked files input limit (input_asked program.file) read × (outcome ≡ found_by (Ok program) read)
+OutcomeFrom files input limit (Err stop) outcome = FilesRest files × SourceRests input × (outcome ≡ Err stop)
+
+-- from words to what is told
+abbrev pub OutcomeOf : {F : Type 0} → OfFiles F → F → F → Source → Result Job WordsFault → Result Report Stop → Type 0
+OutcomeOf {F} of old new input job outcome =
+    (middle : F) × (program : Result Program Stop)
+    × ProgramFrom (files_of of old middle) (2 ^ 24) job program × IsKept of old middle
+    × OutcomeFrom (files_of of middle new) input (2 ^ 26) program outcome

@@ -6,17 +6,15 @@ ghost use Rattle.std.specs.Str.{is_utf8};
 ghost use Rattle.opt_words.specs.Step.{texts};
 ghost use Rattle.tt_run.specs.Run.{FileRead, IsShort};
 ghost use Rattle.filecheck_tool.specs.Program.{IsSound, IsSoundFile};
-ghost use Rattle.filecheck_tool.specs.Run.{AnswerOf, AreUnread, Checks, ChecksRead, InputRead, IsKept, OutcomeFrom, OutcomeOf, ProgramFrom};
-ghost use Rattle.filecheck_tool.specs.Start.{IsStart};
+ghost use Rattle.filecheck_tool.specs.Answer.{checks_asked, input_asked};
+ghost use Rattle.filecheck_tool.specs.Run.{AnswerOf, AreUnread, Checks, FileAsked, InputAsked, IsKept, OutcomeFrom, OutcomeOf, ProgramFrom};
 ghost use Rattle.filecheck_words.specs.Job.{IsSound as IsSoundJob, asked_by};
 
+use crate::answer::{answered, found_in, program_of};
 use crate::check_file::CheckFile;
-use crate::program::{Program, program_read};
-use crate::start::{Start, start_of};
-use crate::verdict::verdict_read;
-use filecheck_messages::{Refusal, Report, Stop, answer_to, settled};
+use crate::program::Program;
+use filecheck_messages::{Refusal, Report, Stop};
 use filecheck_words::{Input, Job, WordsFail, asked_by};
-use generator::{checks_text, input_text};
 use std::alloc::Global;
 use std::mem::drop;
 use std::str::from_utf8;
@@ -80,10 +78,7 @@ fn answer_from<F: Files, I: Source>(
     ensures files_stay { IsKept F.Files from.old from.new }
 {
     let outcome = outcome_of(alloc, words, from, input)?;
-    let told = answer_to(alloc, &outcome);
-    // A call, since a drop in place is proved variant by variant.
-    drop(outcome);
-    let answer = told?;
+    let answer = answered(alloc, outcome)?;
     Ok(answer)
 }
 
@@ -136,12 +131,11 @@ fn program_by<F: Files>(
     ensures sound { IfOk result (λ program. IfOk program IsSound) }
     ensures files_stay { IsKept F.Files from.old from.new }
 {
-    let start = start_of(alloc, job)?;
-    let Ok(file) = read_checks(alloc, &start, from) else {
-        drop(start);
+    let Ok(file) = read_checks(alloc, &job, from) else {
+        drop(job);
         return Err(NoMemory);
     };
-    settled(program_read(alloc, start, file))
+    program_of(alloc, job, file)
 }
 
 /// What is found amiss in the input.
@@ -164,26 +158,26 @@ fn outcome_from<F: Files, I: Source>(
                 drop(program);
                 return Err(NoMemory);
             };
-            settled(verdict_read(alloc, program, read))
+            found_in(alloc, program, read)
         }
         Err(stop) => Ok(Err(stop)),
     }
 }
 
-/// What reading the check file gave, or the one that is made.
-fn read_checks<F: Files>(alloc: Global, start: &Start, from: &mut F) -> Result<Reading, NoMemory>
-    requires { IsStart start.now }
-    ensures read { IfOk result (ChecksRead (files_of F.Files from.old from.new) (2 ^ 24) start.now) }
+/// What reading the check file gave. One that isn't asked for counts as missing.
+fn read_checks<F: Files>(alloc: Global, job: &Job, from: &mut F) -> Result<Reading, NoMemory>
+    requires { IsSoundJob job.now }
+    ensures read { IfOk result (FileAsked (files_of F.Files from.old from.new) (2 ^ 24) (checks_asked job.now)) }
     ensures short { IfOk result (IsShort (2 ^ 24)) }
     ensures files_stay { IsKept F.Files from.old from.new }
 {
-    match start.made {
-        Some(count) => Ok(Reading::Whole(checks_text(alloc, count)?)),
-        None => read_file(alloc, start.asked.name.as_slice(), CHECK_LIMIT, from),
+    match job {
+        Job::Check(asked) => read_file(alloc, asked.name.as_slice(), CHECK_LIMIT, from),
+        Job::Generate(_) => Ok(Reading::Missing),
     }
 }
 
-/// What reading the input gave, or the one that is made.
+/// What reading the input gave. One that isn't asked for counts as missing.
 fn read_input<F: Files, I: Source>(
     alloc: Global,
     file: &CheckFile,
@@ -191,14 +185,14 @@ fn read_input<F: Files, I: Source>(
     input: &mut I,
 ) -> Result<Reading, NoMemory>
     requires { IsSoundFile file.now }
-    ensures read { IfOk result (InputRead (files_of F.Files from.old from.new)
-        (source_of I.Source input.old input.new) (2 ^ 26) file.now.made file.now.asked.input) }
+    ensures read { IfOk result (InputAsked (files_of F.Files from.old from.new)
+        (source_of I.Source input.old input.new) (2 ^ 26) (input_asked file.now)) }
     ensures short { IfOk result (IsShort (2 ^ 26)) }
     ensures taken { TakesAtMost (I.left input.old) (I.left input.new) (2 ^ 26 + 1) }
     ensures files_stay { IsKept F.Files from.old from.new }
 {
     match file.made {
-        Some(count) => Ok(Reading::Whole(input_text(alloc, count)?)),
+        Some(_) => Ok(Reading::Missing),
         None => match &file.asked.input {
             Input::Standard => read_source(alloc, INPUT_LIMIT, input),
             Input::Named(name) => read_file(alloc, name.as_slice(), INPUT_LIMIT, from),

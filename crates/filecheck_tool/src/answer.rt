@@ -1,0 +1,223 @@
+//! The answer to words, where readings are given.
+ghost use Rattle.std.specs.Prelude.{◌≡◌, ◌≤◌, ◌^◌, IfOk, Ok, Some};
+ghost use Rattle.opt_words.specs.Step.{texts};
+ghost use Rattle.filecheck_messages.specs.Answer.{answer_to};
+ghost use Rattle.filecheck_tool.specs.Answer.{IsAnswer, IsOutcome, IsProgramOf, checks_given, file_of, found_by, input_given, names_of};
+ghost use Rattle.filecheck_tool.specs.Program.{IsProgram, IsSound, IsSoundFile};
+ghost use Rattle.filecheck_tool.specs.Start.{IsStart};
+ghost use Rattle.filecheck_tool.specs.Verdict.{verdict_read};
+ghost use Rattle.filecheck_words.specs.Job.{IsSound as IsSoundJob, asked_by};
+ghost use Rattle.tt_run.specs.Run.{IsShort};
+
+use crate::check_file::CheckFile;
+use crate::file_names::Names;
+use crate::program::{Program, program_read};
+use crate::start::{Start, start_of};
+use crate::verdict::verdict_read;
+use filecheck_messages::{Refusal, Report, Stop, answer_to, settled};
+use filecheck_words::{Input, Job, WordsFail, asked_by};
+use generator::{checks_text, input_text};
+use std::alloc::Global;
+use std::mem::drop;
+use tt_base::{Bytes, NoMemory};
+use tt_run::{Answer, Reading};
+
+/// The answer to words, where this is what reading the check file and the input gave. A reading that isn't asked for isn't looked
+/// at.
+pub fn answer_on(
+    alloc: Global,
+    words: &[String],
+    file: Reading,
+    read: Reading,
+) -> Result<Answer, NoMemory>
+    requires file { IsShort (2 ^ 30) file }
+    requires read { IsShort (2 ^ 30) read }
+    ensures value { IfOk result (IsAnswer (asked_by (texts words.now)) file read) }
+    ensures small { IfOk result (λ answer. answer.status ≤ 3) }
+{
+    let outcome = outcome_on(alloc, words, file, read)?;
+    let answer = answered(alloc, outcome)?;
+    Ok(answer)
+}
+
+/// What is told before it is put into words: each directive that isn't met, or the first refusal.
+pub fn outcome_on(
+    alloc: Global,
+    words: &[String],
+    file: Reading,
+    read: Reading,
+) -> Result<Result<Report, Stop>, NoMemory>
+    requires file { IsShort (2 ^ 30) file }
+    requires read { IsShort (2 ^ 30) read }
+    ensures { IfOk result (IsOutcome (asked_by (texts words.now)) file read) }
+{
+    let program = match program_on(alloc, words, file) {
+        Ok(program) => program,
+        Err(fail) => {
+            drop(read);
+            return Err(fail);
+        }
+    };
+    let outcome = found_by(alloc, program, read)?;
+    Ok(outcome)
+}
+
+/// The program of the check file that words ask for, where this is what reading it gave.
+pub fn program_on(
+    alloc: Global,
+    words: &[String],
+    file: Reading,
+) -> Result<Result<Program, Stop>, NoMemory>
+    requires { IsShort (2 ^ 30) file }
+    ensures value { IfOk result (IsProgramOf (asked_by (texts words.now)) file) }
+    ensures sound { IfOk result (λ program. IfOk program IsSound) }
+{
+    match asked_by(alloc, words) {
+        Ok(job) => program_of(alloc, job, file),
+        Err(WordsFail::Bad(fault)) => Ok(Err(Stop::Refused(Refusal::Words(fault)))),
+        Err(WordsFail::NoMemory) => Err(NoMemory),
+    }
+}
+
+/// The same, where the words are accepted.
+pub(crate) fn program_of(
+    alloc: Global,
+    job: Job,
+    file: Reading,
+) -> Result<Result<Program, Stop>, NoMemory>
+    requires job { IsSoundJob job }
+    requires short { IsShort (2 ^ 30) file }
+    ensures value { IfOk result (IsProgramOf (Ok job) file) }
+    ensures sound { IfOk result (λ program. IfOk program IsSound) }
+{
+    let start = start_of(alloc, job)?;
+    program_by(alloc, start, file)
+}
+
+fn program_by(alloc: Global, start: Start, file: Reading) -> Result<Result<Program, Stop>, NoMemory>
+    requires start { IsStart start }
+    requires short { IsShort (2 ^ 30) file }
+    ensures value { IfOk result (IsProgram start (checks_given start.made file)) }
+    ensures sound { IfOk result (λ program. IfOk program IsSound) }
+{
+    let Ok(file) = checks_given(alloc, &start, file) else {
+        // A call, since a drop in place is proved field by field.
+        drop(start);
+        return Err(NoMemory);
+    };
+    settled(program_read(alloc, start, file))
+}
+
+/// The check file that counts: what reading gave, or the one that is made.
+fn checks_given(alloc: Global, start: &Start, file: Reading) -> Result<Reading, NoMemory>
+    requires start { IsStart start.now }
+    requires short { IsShort (2 ^ 30) file }
+    ensures value { IfOk result (λ given. given ≡ checks_given start.now.made file) }
+    ensures short { IfOk result (IsShort (2 ^ 30)) }
+{
+    match start.made {
+        Some(count) => Ok(Reading::Whole(checks_text(alloc, count)?)),
+        None => Ok(file),
+    }
+}
+
+/// What is told of what reading the input gave, where there is a program.
+fn found_by(
+    alloc: Global,
+    program: Result<Program, Stop>,
+    read: Reading,
+) -> Result<Result<Report, Stop>, NoMemory>
+    requires sound { IfOk program IsSound }
+    requires short { IsShort (2 ^ 30) read }
+    ensures { IfOk result (λ outcome. outcome ≡ found_by program read) }
+{
+    match program {
+        Ok(program) => found_in(alloc, program, read),
+        Err(stop) => Ok(Err(stop)),
+    }
+}
+
+/// What is told of what reading the input gave.
+pub(crate) fn found_in(
+    alloc: Global,
+    program: Program,
+    read: Reading,
+) -> Result<Result<Report, Stop>, NoMemory>
+    requires sound { IsSound program }
+    requires short { IsShort (2 ^ 30) read }
+    ensures { IfOk result (λ outcome. outcome ≡ found_by (Ok program) read) }
+{
+    let Ok(read) = input_given(alloc, &program.file, read) else {
+        drop(program);
+        return Err(NoMemory);
+    };
+    settled(verdict_read(alloc, program, read))
+}
+
+/// The input that counts: what reading gave, or the one that is made.
+fn input_given(alloc: Global, file: &CheckFile, read: Reading) -> Result<Reading, NoMemory>
+    requires file { IsSoundFile file.now }
+    requires short { IsShort (2 ^ 30) read }
+    ensures value { IfOk result (λ given. given ≡ input_given file.now.made read) }
+    ensures short { IfOk result (IsShort (2 ^ 30)) }
+{
+    match file.made {
+        Some(count) => Ok(Reading::Whole(input_text(alloc, count)?)),
+        None => Ok(read),
+    }
+}
+
+/// The answer to what is told.
+pub(crate) fn answered(alloc: Global, outcome: Result<Report, Stop>) -> Result<Answer, NoMemory>
+    ensures value { IfOk result (λ answer. answer ≡ answer_to outcome) }
+    ensures small { IfOk result (λ answer. answer.status ≤ 3) }
+{
+    let told = answer_to(alloc, &outcome);
+    // A call, since a drop in place is proved variant by variant.
+    drop(outcome);
+    told
+}
+
+/// The files that the answer to words is read from. There is none of it where the words are refused.
+pub fn names(alloc: Global, words: &[String]) -> Result<Option<Names>, NoMemory>
+    ensures { IfOk result (λ names. names ≡ names_of (asked_by (texts words.now))) }
+{
+    match asked_by(alloc, words) {
+        Ok(job) => {
+            let names = names_of(alloc, &job);
+            drop(job);
+            Ok(Some(names?))
+        }
+        Err(WordsFail::Bad(fault)) => {
+            drop(fault);
+            Ok(None)
+        }
+        Err(WordsFail::NoMemory) => Err(NoMemory),
+    }
+}
+
+/// The files that a job is read from.
+fn names_of(alloc: Global, job: &Job) -> Result<Names, NoMemory>
+    ensures { IfOk result (λ names. Some names ≡ names_of (Ok job.now)) }
+{
+    match job {
+        Job::Check(asked) => Ok(Names {
+            check: Some(Bytes::from_slice(alloc, asked.name.as_slice())?),
+            input: file_of(alloc, &asked.input)?,
+        }),
+        Job::Generate(_) => Ok(Names {
+            check: None,
+            input: None,
+        }),
+    }
+}
+
+/// The file that an input is, if it is one.
+fn file_of(alloc: Global, input: &Input) -> Result<Option<Bytes>, NoMemory>
+    ensures { IfOk result (λ name. name ≡ file_of input.now) }
+{
+    match input {
+        Input::Standard => Ok(None),
+        Input::Named(name) => Ok(Some(Bytes::from_slice(alloc, name.as_slice())?)),
+    }
+}
