@@ -5,7 +5,7 @@
 mod pages;
 
 use crate::pages::{HELP, VERSION};
-use lit_tool::lit_run;
+use lit_tool::{LIT, lit_run};
 use std::env::{self, Env};
 use std::io::{self, ErrorKind};
 use std::process::ExitCode;
@@ -13,13 +13,10 @@ use tt_base::Bytes;
 use tt_main::{Pages, no_words, with_variable, words_or_page};
 use tt_outside::Sink;
 use tt_real::{StdCrew, StdErr, StdOut, StdTree};
-use tt_run::{Frame, answer_on};
+use tt_run::answer_on;
 
 /// The variable of the environment whose words stand before those of the command line.
 const VARIABLE: &str = "LIT_OPTS";
-
-/// The name of lit.
-const LIT: Frame = Frame { name: b"lit" };
 
 /// What it tells of itself.
 const PAGES: Pages = Pages {

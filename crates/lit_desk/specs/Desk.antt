@@ -2,9 +2,11 @@
 -- Own rule: the part of a test is written as it is taken. A refused test leaves a proper front of its part, and that only at a
 -- fault of the stream; the bytes that are kept have a limit.
 use Rattle.std.specs.Prelude.{◌≡◌, ◌≢◌, ℕ, ◌+◌, ◌<◌, ◌≤◌, List, [], ◌∷◌, length, Option}
+use Rattle.tt_outside.specs.declared.sink.Sink.{Ghosts as OfSink}
 use Rattle.tt_run.specs.Run.{Stopped, Stream, Taken}
 use Rattle.lit_words.specs.declared.asked.Detail.{Detail}
 use Rattle.lit_report.specs.Report.{TestReport, part_of}
+use Rattle.lit_desk.specs.declared.desk.LitDesk.{LitDesk}
 use Rattle.lit_desk.specs.declared.stop.DeskStop.{DeskStop}
 use Rattle.lit_desk.specs.declared.stop.DeskStop.TheVariants.{SinkFault, TooMuch, NoMemory}
 
@@ -17,6 +19,9 @@ pub record Kept : Type 0 where
   pub kept : ℕ
   pub told : TestReport
 
+abbrev pub keeping : ℕ → TestReport → Kept
+keeping kept told = record { kept = kept; told = told }
+
 -- a desk: what it shows of how many tests, how many bytes are kept, and its stream, with what that held, its count of
 -- faults, and the room that it had for certain
 pub record DeskNow : Type 0 where
@@ -27,14 +32,14 @@ pub record DeskNow : Type 0 where
   pub faults : ℕ
   pub room : ℕ
 
-abbrev pub desk : Detail → ℕ → ℕ → Option (List ℕ) → ℕ → ℕ → DeskNow
-desk detail tests kept held faults room = record {
-  detail = detail;
-  tests = tests;
-  kept = kept;
-  held = held;
-  faults = faults;
-  room = room;
+abbrev pub desk : {O : Type 0} → OfSink O → LitDesk O → DeskNow
+desk sink d = record {
+  detail = d.detail;
+  tests = d.tests;
+  kept = d.kept;
+  held = sink.held d.out.now;
+  faults = sink.faults d.out.now;
+  room = sink.room d.out.now;
 }
 
 -- its stream, from one moment to another

@@ -1,6 +1,6 @@
 //! The desk.
 ghost use Rattle.std.specs.Prelude.{◌≡◌, ◌<◌, ◌≤◌, ◌^◌, IfErr, OnOk};
-ghost use Rattle.lit_desk.specs.Desk.{Refused, Took, desk};
+ghost use Rattle.lit_desk.specs.Desk.{Refused, Took, desk, keeping};
 
 use crate::stop::DeskStop;
 use lit_report::{Reported, part_of};
@@ -34,18 +34,10 @@ impl<'a, O: Sink> LitDesk<'a, O> {
         test: &T,
     ) -> Result<(), DeskStop>
         requires { place < 2 ^ 32 }
-        ensures took { OnOk result (Took
-            (desk self.old.detail self.old.tests self.old.kept
-            (O.held self.old.out.now) (O.faults self.old.out.now) (O.room self.old.out.now))
-            place (record { kept = kept; told = T.told test.now })
-            (desk self.new.detail self.new.tests self.new.kept
-            (O.held self.new.out.now) (O.faults self.new.out.now) (O.room self.new.out.now))) }
-        ensures refused { IfErr result (λ stop. Refused
-            (desk self.old.detail self.old.tests self.old.kept
-            (O.held self.old.out.now) (O.faults self.old.out.now) (O.room self.old.out.now))
-            place (record { kept = kept; told = T.told test.now }) stop
-            (desk self.new.detail self.new.tests self.new.kept
-            (O.held self.new.out.now) (O.faults self.new.out.now) (O.room self.new.out.now))) }
+        ensures took { OnOk result (Took (desk O.Sink self.old) place
+            (keeping kept (T.told test.now)) (desk O.Sink self.new)) }
+        ensures refused { IfErr result (λ stop. Refused (desk O.Sink self.old) place
+            (keeping kept (T.told test.now)) stop (desk O.Sink self.new)) }
         ensures same_stream { self.new.out.ghost_name ≡ self.old.out.ghost_name }
     {
         let sum = self.kept.saturating_add(kept);

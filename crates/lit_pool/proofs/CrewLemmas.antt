@@ -11,11 +11,12 @@ use Rattle.std.specs.Option.{option_to_list}
 use Rattle.tt_outside.specs.Faults.{Rose}
 use Rattle.tt_outside.specs.Gave.{Gave}
 use Rattle.tt_outside.specs.declared.crew.Left.{Left}
+use Rattle.tt_outside.specs.declared.crew.Runner.{Ghosts as OfRunner}
 use Rattle.tt_outside.specs.declared.test_data.Test.{Test}
 use Rattle.lit_test.specs.declared.trial.Trial.{Trial}
 use Rattle.lit_claims.specs.Counted.{count_below, count_of}
 use Rattle.lit_claims.proofs.Counts.{count_between}
-use Rattle.lit_round.specs.Hands.{CanRun, IsHandOf, all_left, asked_by, asked_of, begun_below, begun_by, faults_of, left, room_of}
+use Rattle.lit_round.specs.Hands.{CanRun, IsHandOf, all_left, asked_by, asked_of, begun_below, begun_by, faults_of, left, room_of, rooms_of}
 use Rattle.lit_round.specs.Round.{BeginsUpTo, RunsRound}
 use Rattle.lit_round.specs.Trials.{AreTrials, any_fault, sum_entries}
 use Rattle.lit_round.proofs.TrialLemmas.{entries_both, fault_either, neither}
@@ -167,21 +168,21 @@ left_at_end workers tests first trials hands is w = record {
 
 -- ---- hands that run a round
 
-module _ {H : Type 0} (begun : H → List ℕ) (asked faults rooms : H → ℕ) (gives : H → Gave) (ready : H → Type 0) where
+module _ {H : Type 0} (runner : OfRunner H) where
   -- what they asked, hand by hand
-  pub asked_same : (hands : List H) → asked_by asked hands ≡ asked_of (all_left begun asked faults hands)
-  asked_same hands = sym (fold-map (λ n (h : Left). n + h.asked) (left begun asked faults) 0 hands)
+  pub asked_same : (hands : List H) → asked_by runner hands ≡ asked_of (all_left runner hands)
+  asked_same hands = sym (fold-map (λ n (h : Left). n + h.asked) (left runner) 0 hands)
 
   -- each has room for a round, since it began no more tests than all did
   pub can_run : (gave : Gave) (workers tests first count : ℕ) (hands : List H) → length hands ≡ workers
-      → map (room_of begun rooms) hands ≡ replicate workers tests → begun_by (all_left begun asked faults hands) ≡ first
-      → first + count ≤ tests → All (IsHandOf gives ready gave) hands → All (CanRun rooms gives ready gave count) hands
+      → rooms_of runner hands ≡ replicate workers tests → begun_by (all_left runner hands) ≡ first
+      → first + count ≤ tests → All (IsHandOf runner gave) hands → All (CanRun runner gave count) hands
   can_run gave workers tests first count hands many room began within own k d low =
-      let n = length-map hands (room_of begun rooms) in
-      let here = sym (get_or-map (room_of begun rooms) hands k d tests low) ∙ ap (λ ns. get_or ns k tests) room
+      let n = length-map hands (room_of runner) in
+      let here = sym (get_or-map (room_of runner) hands k d tests low) ∙ ap (λ ns. get_or ns k tests) room
       ∙ get_or-replicate workers k tests tests (omega arith) in
-      let most = get_or-le-sum_by (λ h. length (begun h)) hands k d low in
-      let sum = fold-map (λ m (h : Left). m + length h.begun) (left begun asked faults) 0 hands in
+      let most = get_or-le-sum_by (λ h. length (runner.begun h)) hands k d low in
+      let sum = fold-map (λ m (h : Left). m + length h.begun) (left runner) 0 hands in
       (omega arith, own k d low)
 
 -- hands that stay as many

@@ -5,9 +5,10 @@ use Rattle.std.specs.Prelude.{◌≡◌, ◌≢◌, ℕ, ◌+◌, ◌-◌, ◌%�
 use Rattle.std.specs.List.{sum_by}
 use Rattle.tt_outside.specs.Faults.{Rose}
 use Rattle.tt_outside.specs.declared.crew.Left.{Left}
+use Rattle.tt_outside.specs.declared.crew.Runner.{Ghosts as OfRunner}
 use Rattle.lit_test.specs.declared.trial.Trial.{Trial}
 use Rattle.lit_claims.specs.Counted.{count_of}
-use Rattle.lit_round.specs.Hands.{MAX_ROUND, asked_of, begun_by, faults_of}
+use Rattle.lit_round.specs.Hands.{MAX_ROUND, all_left, asked_of, begun_by, faults_of, rooms_of}
 use Rattle.lit_round.specs.Trials.{any_fault, sum_entries}
 use Rattle.lit_pool.specs.Pool.{returned}
 use Rattle.lit_pool.specs.declared.stop.PoolStop.{PoolStop}
@@ -16,6 +17,13 @@ use Rattle.lit_pool.specs.declared.stop.PoolWhy.TheVariants.{NoMemory}
 -- a hand that began and asked nothing
 abbrev pub nothing_left : Left
 nothing_left = record { begun = []; asked = 0; faults = 0 }
+
+-- so many hands that began and asked nothing, and have room for so many tests each
+abbrev pub AreFresh : {H : Type 0} → OfRunner H → ℕ → List H → Type 0
+AreFresh runner count hands = all_left runner hands ≡ replicate count nothing_left
+
+abbrev pub HaveRoom : {H : Type 0} → OfRunner H → ℕ → ℕ → List H → Type 0
+HaveRoom runner count tests hands = rooms_of runner hands ≡ replicate count tests
 
 -- at most so many hands were dismissed that began and asked nothing
 pub record LeavesFresh (workers : ℕ) (old new : List Left) : Type 0 where

@@ -1,14 +1,16 @@
 -- The trials of a run, and how a run stops.
 -- Own rules: a test's number is its place among those that are run; trials are put on a desk in that order; a stopped run returns
 -- what was put, and the trial that the desk refused.
-use Rattle.std.specs.Prelude.{◌≡◌, ℕ, ◌+◌, ◌≤◌, List, ◌++◌, length, slice_get, take, Option, None, Some}
+use Rattle.std.specs.Prelude.{◌≡◌, ℕ, ◌+◌, ◌≤◌, true, false, List, ◌++◌, length, slice_get, take, Option, None, Some}
 use Rattle.std.specs.List.{range_with_len}
 use Rattle.std.specs.Option.{option_to_list}
+use Rattle.tt_outside.specs.Faults.{Rose}
 use Rattle.tt_outside.specs.Gave.{Gave}
+use Rattle.tt_outside.specs.declared.crew.Runner.{Ghosts as OfRunner}
 use Rattle.tt_outside.specs.declared.test_data.Test.{Test}
 use Rattle.test_course.specs.Bytes.{kept_behind}
 use Rattle.lit_test.specs.declared.trial.Trial.{Trial}
-use Rattle.lit_round.specs.Trials.{AreTrials}
+use Rattle.lit_round.specs.Trials.{AreTrials, any_fault, sum_entries}
 use Rattle.lit_report.specs.Report.{TestReport}
 use Rattle.lit_desk.specs.Desk.{Kept, PutFrom}
 use Rattle.lit_desk.specs.declared.stop.DeskStop.{DeskStop}
@@ -26,6 +28,16 @@ told_of trial = record { name = trial.test.name; result = trial.result; text = t
 -- what a desk takes of it
 abbrev pub kept_of : Trial → Kept
 kept_of trial = record { kept = kept_behind 0 trial.entries; told = told_of trial }
+
+-- a hand answered what the entries of trials say, and counted a fault where a reply of theirs is one, and else none
+abbrev pub AnswersFor : {H : Type 0} → OfRunner H → H → H → List Trial → Type 0
+AnswersFor runner old new trials = runner.asked new ≡ runner.asked old + sum_entries trials
+
+abbrev pub FailsFor : {H : Type 0} → OfRunner H → H → H → List Trial → Type 0
+FailsFor runner old new trials = any_fault trials ≡ true → Rose (runner.faults old) (runner.faults new)
+
+abbrev pub IsCalmFor : {H : Type 0} → OfRunner H → H → H → List Trial → Type 0
+IsCalmFor runner old new trials = any_fault trials ≡ false → runner.faults new ≡ runner.faults old
 
 -- ---- a stopped run
 

@@ -1,9 +1,9 @@
 //! The hands of a run: hired before its first test, and dismissed behind its last.
-ghost use Rattle.std.specs.Prelude.{◌≡◌, ◌+◌, ◌≤◌, ◌++◌, IfOk, OnErr, OnOk, length, map, replicate};
+ghost use Rattle.std.specs.Prelude.{◌≡◌, ◌+◌, ◌≤◌, ◌++◌, IfOk, OnErr, OnOk, length};
 ghost use Rattle.std.specs.List.{All};
 ghost use Rattle.tt_outside.specs.Gave.{SameGave};
-ghost use Rattle.lit_round.specs.Hands.{IsHandOf, all_left, room_of};
-ghost use Rattle.lit_pool.specs.Crew.{LeavesFresh, nothing_left};
+ghost use Rattle.lit_round.specs.Hands.{IsHandOf, all_left};
+ghost use Rattle.lit_pool.specs.Crew.{AreFresh, HaveRoom, LeavesFresh};
 
 use std::alloc::Global;
 use tt_base::NoMemory;
@@ -17,10 +17,9 @@ pub(crate) fn hire_all<C: Crew>(
     crew: &mut C,
 ) -> Result<Vec<C::Hand>, NoMemory>
     requires ready { C.ready crew.old }
-    ensures fresh { IfOk result (λ hands.
-        all_left C.Hand.begun C.Hand.asked C.Hand.faults hands.items ≡ replicate workers nothing_left) }
-    ensures rooms { IfOk result (λ hands. map (room_of C.Hand.begun C.Hand.rooms) hands.items ≡ replicate workers room) }
-    ensures own { IfOk result (λ hands. All (IsHandOf C.Hand.gave C.Hand.ready (C.gave crew.old)) hands.items) }
+    ensures fresh { IfOk result (λ hands. AreFresh C.Hand.Runner workers hands.items) }
+    ensures rooms { IfOk result (λ hands. HaveRoom C.Hand.Runner workers room hands.items) }
+    ensures own { IfOk result (λ hands. All (IsHandOf C.Hand.Runner (C.gave crew.old)) hands.items) }
     ensures hands { OnOk result (C.hands crew.new ≡ C.hands crew.old) }
     ensures seats { OnOk result (C.seats crew.new ≡ C.seats crew.old + workers) }
     ensures refused { OnErr result (LeavesFresh workers (C.hands crew.old) (C.hands crew.new)) }
@@ -44,8 +43,8 @@ pub(crate) fn hire_all<C: Crew>(
 /// Dismisses hands of a crew, in order. It takes no memory.
 pub(crate) fn dismiss_all<C: Crew>(mut hands: Vec<C::Hand>, crew: &mut C)
     requires seats { length hands.items ≤ C.seats crew.old }
-    requires own { All (IsHandOf C.Hand.gave C.Hand.ready (C.gave crew.old)) hands.items }
-    ensures hands { C.hands crew.new ≡ C.hands crew.old ++ all_left C.Hand.begun C.Hand.asked C.Hand.faults hands.items }
+    requires own { All (IsHandOf C.Hand.Runner (C.gave crew.old)) hands.items }
+    ensures hands { C.hands crew.new ≡ C.hands crew.old ++ all_left C.Hand.Runner hands.items }
     ensures seats { C.seats crew.new + length hands.items ≡ C.seats crew.old }
     ensures gave { SameGave (C.gave crew.new) (C.gave crew.old) }
     ensures ready { C.ready crew.old → C.ready crew.new }

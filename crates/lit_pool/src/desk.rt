@@ -31,16 +31,10 @@ impl<'a, O: Sink> Desk for LitDesk<'a, O> {
     ghost use Rattle.lit_desk.specs.Desk.{Refused, Took, desk};
     ghost use Rattle.lit_pool.specs.Pool.{kept_of};
 
-    ghost took = { λ old place trial new. Took
-        (desk old.detail old.tests old.kept (O.held old.out.now) (O.faults old.out.now) (O.room old.out.now))
-        place (kept_of trial)
-        (desk new.detail new.tests new.kept (O.held new.out.now) (O.faults new.out.now) (O.room new.out.now))
+    ghost took = { λ old place trial new. Took (desk O.Sink old) place (kept_of trial) (desk O.Sink new)
         × (new.out.ghost_name ≡ old.out.ghost_name) };
 
-    ghost kept = { λ old place trial stop new. Refused
-        (desk old.detail old.tests old.kept (O.held old.out.now) (O.faults old.out.now) (O.room old.out.now))
-        place (kept_of trial) stop
-        (desk new.detail new.tests new.kept (O.held new.out.now) (O.faults new.out.now) (O.room new.out.now))
+    ghost kept = { λ old place trial stop new. Refused (desk O.Sink old) place (kept_of trial) stop (desk O.Sink new)
         × (new.out.ghost_name ≡ old.out.ghost_name) };
 
     fn put(&mut self, alloc: Global, place: u64, trial: &Trial) -> Result<(), DeskStop> {

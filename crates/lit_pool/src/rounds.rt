@@ -1,11 +1,11 @@
 //! The rounds of a run.
-ghost use Rattle.std.specs.Prelude.{◌≡◌, ◌+◌, ◌<◌, ◌≤◌, IfErr, IfOk, OnOk, length, map, replicate, vec_len};
+ghost use Rattle.std.specs.Prelude.{◌≡◌, ◌+◌, ◌<◌, ◌≤◌, IfErr, IfOk, OnOk, length, vec_len};
 ghost use Rattle.std.specs.List.{All};
 ghost use Rattle.lit_claims.specs.Claimed.{SHARES};
-ghost use Rattle.lit_round.specs.Hands.{IsHandOf, all_left, room_of};
+ghost use Rattle.lit_round.specs.Hands.{IsHandOf, all_left};
 ghost use Rattle.lit_round.specs.Trials.{AreTrials};
 ghost use Rattle.lit_desk.specs.Desk.{PutFrom};
-ghost use Rattle.lit_pool.specs.Crew.{AllLeft, nothing_left};
+ghost use Rattle.lit_pool.specs.Crew.{AllLeft, AreFresh, HaveRoom};
 ghost use Rattle.lit_pool.specs.Pool.{IsStopped, RefusesAt};
 
 use crate::desk::Desk;
@@ -69,16 +69,16 @@ pub(crate) fn run_rounds<R: Threads + Sync, C: Crew, D: Desk>(
 ) -> Rounds<C::Hand>
     requires few { length tests.now ≤ 100000 }
     requires workers { (0 < length hands.items) × (length hands.items ≤ SHARES) }
-    requires fresh { all_left C.Hand.begun C.Hand.asked C.Hand.faults hands.items ≡ replicate (length hands.items) nothing_left }
-    requires rooms { map (room_of C.Hand.begun C.Hand.rooms) hands.items ≡ replicate (length hands.items) (length tests.now) }
-    requires own { All (IsHandOf C.Hand.gave C.Hand.ready (C.gave crew.now)) hands.items }
-    ensures own { All (IsHandOf C.Hand.gave C.Hand.ready (C.gave crew.now)) result.hands.items }
+    requires fresh { AreFresh C.Hand.Runner (length hands.items) hands.items }
+    requires rooms { HaveRoom C.Hand.Runner (length hands.items) (length tests.now) hands.items }
+    requires own { All (IsHandOf C.Hand.Runner (C.gave crew.now)) hands.items }
+    ensures own { All (IsHandOf C.Hand.Runner (C.gave crew.now)) result.hands.items }
     ensures count { length result.hands.items ≡ length hands.items }
     ensures trials { IfOk result.ended (AreTrials (C.gave crew.now) 0 tests.now) }
     ensures put { IfOk result.ended (λ trials. PutFrom D.took desk.old 0 trials desk.new) }
     ensures stopped { IfErr result.ended (IsStopped D.took D.kept (C.gave crew.now) tests.now desk.old desk.new) }
     ensures left { AllLeft (length hands.items) (length tests.now) result.ended
-        (all_left C.Hand.begun C.Hand.asked C.Hand.faults result.hands.items) }
+        (all_left C.Hand.Runner result.hands.items) }
 {
     let mut trials = Vec::new(alloc);
     let mut first = 0;

@@ -1,11 +1,10 @@
 //! A run by one hand.
-ghost use Rattle.std.specs.Prelude.{◌≡◌, ◌+◌, ◌<◌, ◌≤◌, ◌^◌, ◌++◌, IfErr, IfOk, IfSome, OnOk, false, length, true};
+ghost use Rattle.std.specs.Prelude.{◌≡◌, ◌+◌, ◌<◌, ◌≤◌, ◌^◌, ◌++◌, IfErr, IfOk, IfSome, OnOk, length};
 ghost use Rattle.std.specs.List.{range_with_len};
-ghost use Rattle.tt_outside.specs.Faults.{Rose};
 ghost use Rattle.tt_outside.specs.Gave.{SameGave};
 ghost use Rattle.lit_desk.specs.Desk.{PutFrom};
-ghost use Rattle.lit_round.specs.Trials.{AreTrials, any_fault, sum_entries};
-ghost use Rattle.lit_pool.specs.Pool.{BeginsSome, IsStopped, returned};
+ghost use Rattle.lit_round.specs.Trials.{AreTrials};
+ghost use Rattle.lit_pool.specs.Pool.{AnswersFor, BeginsSome, FailsFor, IsCalmFor, IsStopped, returned};
 
 use crate::desk::Desk;
 use crate::stop::{PoolStop, PoolWhy, why_of};
@@ -26,20 +25,19 @@ pub fn run_serial<R: Runner, D: Desk>(
     requires room { length tests.now ≤ R.rooms hand.old }
     requires asked { R.asked hand.old < 2 ^ 62 }
     requires ready { R.ready hand.old }
-    ensures trials { IfOk result (λ trials. AreTrials (R.gave hand.old) 0 tests.now trials) }
+    ensures trials { IfOk result (AreTrials (R.gave hand.old) 0 tests.now) }
     ensures put { IfOk result (λ trials. PutFrom D.took desk.old 0 trials desk.new) }
     ensures begun { OnOk result (R.begun hand.new ≡ R.begun hand.old ++ range_with_len 0 (length tests.now)) }
-    ensures asked { IfOk result (λ trials. R.asked hand.new ≡ R.asked hand.old + sum_entries trials) }
-    ensures broken { IfOk result (λ trials. any_fault trials ≡ true → Rose (R.faults hand.old) (R.faults hand.new)) }
-    ensures calm { IfOk result (λ trials. any_fault trials ≡ false → R.faults hand.new ≡ R.faults hand.old) }
+    ensures asked { IfOk result (AnswersFor R.Runner hand.old hand.new) }
+    ensures broken { IfOk result (FailsFor R.Runner hand.old hand.new) }
+    ensures calm { IfOk result (IsCalmFor R.Runner hand.old hand.new) }
 
     // At a stop nothing is said of what a test asked whose trial isn't returned.
-    ensures stopped { IfErr result (λ stop. IsStopped D.took D.kept (R.gave hand.old) tests.now desk.old desk.new stop) }
-    ensures stop_begun { IfErr result (λ stop. BeginsSome (length tests.now) (R.begun hand.old) (R.begun hand.new) stop) }
+    ensures stopped { IfErr result (IsStopped D.took D.kept (R.gave hand.old) tests.now desk.old desk.new) }
+    ensures stop_begun { IfErr result (BeginsSome (length tests.now) (R.begun hand.old) (R.begun hand.new)) }
     ensures stop_asked { IfErr result (λ stop.
-        IfSome stop.other (λ _. R.asked hand.new ≡ R.asked hand.old + sum_entries (returned stop))) }
-    ensures stop_broken { IfErr result (λ stop.
-        any_fault (returned stop) ≡ true → Rose (R.faults hand.old) (R.faults hand.new)) }
+        IfSome stop.other (λ _. AnswersFor R.Runner hand.old hand.new (returned stop))) }
+    ensures stop_broken { IfErr result (λ stop. FailsFor R.Runner hand.old hand.new (returned stop)) }
 
     ensures later { R.faults hand.old ≤ R.faults hand.new }
     ensures room { length (R.begun hand.new) + R.rooms hand.new ≡ length (R.begun hand.old) + R.rooms hand.old }

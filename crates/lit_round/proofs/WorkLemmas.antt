@@ -10,12 +10,13 @@ use Rattle.std.specs.List.{All}
 use Rattle.tt_outside.specs.Faults.{Rose}
 use Rattle.tt_outside.specs.Gave.{Gave, SameGave}
 use Rattle.tt_outside.specs.declared.crew.Left.{Left}
+use Rattle.tt_outside.specs.declared.crew.Runner.{Ghosts as OfRunner}
 use Rattle.tt_outside.specs.declared.test_data.Test.{Test}
 use Rattle.test_course.proofs.PlayedLemmas.{SameGave-trans}
 use Rattle.lit_test.specs.declared.trial.Trial.{Trial}
 use Rattle.lit_claims.specs.Counted.{count_below}
 use Rattle.lit_claims.proofs.Counts.{below_all, below_append, below_push}
-use Rattle.lit_round.specs.Hands.{IsHandOf, all_left, faults_of, left, room_of}
+use Rattle.lit_round.specs.Hands.{IsHandOf, all_left, faults_of, left, room_of, rooms_of}
 use Rattle.lit_round.specs.Trials.{IsTrialAmong, any_fault, sum_entries}
 use Rattle.lit_round.specs.Work.{Begins, RunsAll, Works, named_below, numbers_of}
 use Rattle.lit_round.proofs.TrialLemmas.{among_same, entries_both, fault_either, neither, numbers_both}
@@ -75,55 +76,60 @@ counts_on first count place next drawn now trials trial number low is was =
 
 -- ---- what one worker did
 
-module _ {H : Type 0} (begun : H → List ℕ) (asked faults rooms : H → ℕ) (gives : H → Gave) (ready : H → Type 0) (first : ℕ) (tests : List Test) where
-  works_by : (gave : Gave) (old new : H) (ms drawn : List ℕ) (trials : List Trial) (whole : Bool) → begun new ≡ begun old ++ ms
+module _ {H : Type 0} (runner : OfRunner H) (first : ℕ) (tests : List Test) where
+  works_by : (gave : Gave) (old new : H) (ms drawn : List ℕ) (trials : List Trial) (whole : Bool)
+      → runner.begun new ≡ runner.begun old ++ ms
       → ((bound : ℕ) → count_below bound ms ≡ named_below bound first (length tests) drawn) → length ms ≡ count_below (length tests) drawn
-      → faults old ≤ faults new → room_of begun rooms new ≡ room_of begun rooms old → SameGave (gives new) gave → ready new
+      → runner.faults old ≤ runner.faults new → room_of runner new ≡ room_of runner old → IsHandOf runner gave new
       → All (IsTrialAmong gave first tests) trials
-      → (whole ≡ true → RunsAll first (length tests) (all_left begun asked faults (old ∷ [])) (all_left begun asked faults (new ∷ [])) drawn trials)
-      → Works begun asked faults rooms gives ready gave first tests (old ∷ []) (new ∷ []) drawn trials whole
-  works_by gave old new ms drawn trials whole began below number later room same is_ready given runs = record {
+      → (whole ≡ true → RunsAll first (length tests) (all_left runner (old ∷ [])) (all_left runner (new ∷ [])) drawn trials)
+      → Works runner gave first tests (old ∷ []) (new ∷ []) drawn trials whole
+  works_by gave old new ms drawn trials whole began below number later room is_hand given runs = record {
     begins = record {
       below = λ bound.
-          let all = ap (count_below bound) began ∙ below_append bound (begun old) ms in
+          let all = ap (count_below bound) began ∙ below_append bound (runner.begun old) ms in
           let here = below bound in omega arith;
-      number = let all = ap length began ∙ length-append (begun old) ms in omega arith;
+      number = let all = ap length began ∙ length-append (runner.begun old) ms in omega arith;
       later = omega arith;
     };
     room = ap (λ n. n ∷ []) room;
-    hands = All-cons (IsHandOf gives ready gave) new [] (same, is_ready) (All-nil (IsHandOf gives ready gave));
+    hands = All-cons (IsHandOf runner gave) new [] is_hand (All-nil (IsHandOf runner gave));
     given = given;
     runs = runs;
   }
 
-  module _ (old mid : H) (place : ℕ) (drawn : List ℕ) (trials : List Trial) (began : begun mid ≡ begun old ++ numbers_of trials)
-      (counts : Counts first (length tests) place drawn trials) (later : faults old ≤ faults mid)
-      (room : room_of begun rooms mid ≡ room_of begun rooms old) (same : SameGave (gives mid) (gives old))
-      (given : All (IsTrialAmong (gives old) first tests) trials) where
+  module _ (old mid : H) (place : ℕ) (drawn : List ℕ) (trials : List Trial) (began : runner.begun mid ≡ runner.begun old ++ numbers_of trials)
+      (counts : Counts first (length tests) place drawn trials) (later : runner.faults old ≤ runner.faults mid)
+      (room : room_of runner mid ≡ room_of runner old) (same : SameGave (runner.gave mid) (runner.gave old))
+      (given : All (IsTrialAmong (runner.gave old) first tests) trials) where
     -- memory was wanting in a test or behind it
-    pub works_some : (new : H) (kept : List Trial) → place < length tests → begun new ≡ begun mid ++ (first + place) ∷ []
-        → faults mid ≤ faults new → rooms new + 1 ≡ rooms mid → SameGave (gives new) (gives mid) → ready new → kept ≡ trials
-        → Works begun asked faults rooms gives ready (gives old) first tests (old ∷ []) (new ∷ []) drawn kept false
-    works_some new kept low one risen less gave is_ready is =
+    pub works_some : (new : H) (kept : List Trial) → place < length tests
+        → runner.begun new ≡ runner.begun mid ++ (first + place) ∷ [] → runner.faults mid ≤ runner.faults new
+        → runner.rooms new + 1 ≡ runner.rooms mid → IsHandOf runner (runner.gave mid) new → kept ≡ trials
+        → Works runner (runner.gave old) first tests (old ∷ []) (new ∷ []) drawn kept false
+    works_some new kept low one risen less is_hand is =
         let long = length-append (numbers_of trials) ((first + place) ∷ []) in
         let count = length-map trials (λ (t : Trial). t.number) in
-        let all = ap length one ∙ length-append (begun mid) ((first + place) ∷ []) in
-        works_by (gives old) old new (numbers_of trials ++ (first + place) ∷ []) drawn kept false
-        (one ∙ ap (λ ns. ns ++ (first + place) ∷ []) began ∙ append_assoc (begun old) (numbers_of trials) ((first + place) ∷ []))
+        let all = ap length one ∙ length-append (runner.begun mid) ((first + place) ∷ []) in
+        works_by (runner.gave old) old new (numbers_of trials ++ (first + place) ∷ []) drawn kept false
+        (one ∙ ap (λ ns. ns ++ (first + place) ∷ []) began ∙ append_assoc (runner.begun old) (numbers_of trials) ((first + place) ∷ []))
         (λ bound. begun_on bound first (length tests) place (numbers_of trials) low ∙ counts.0 bound)
-        (let here = counts.1 in grind (arith, nat_tests)) (omega arith) (omega arith) (SameGave-trans (gives new) (gives mid) (gives old) gave same)
-        is_ready (subst (All (IsTrialAmong (gives old) first tests)) (sym is) given) (λ e. absurd (true≢false (sym e)))
+        (let here = counts.1 in grind (arith, nat_tests)) (omega arith) (omega arith)
+        (SameGave-trans (runner.gave new) (runner.gave mid) (runner.gave old) is_hand.0 same, is_hand.1)
+        (subst (All (IsTrialAmong (runner.gave old) first tests)) (sym is) given) (λ e. absurd (true≢false (sym e)))
 
     -- a number past the round was drawn
-    pub works_all : length tests ≤ place → count_below place drawn + 1 ≡ length drawn → ready mid → asked mid ≡ asked old + sum_entries trials
-        → (any_fault trials ≡ true → Rose (faults old) (faults mid)) → (any_fault trials ≡ false → faults mid ≡ faults old)
-        → Works begun asked faults rooms gives ready (gives old) first tests (old ∷ []) (mid ∷ []) drawn trials true
+    pub works_all : length tests ≤ place → count_below place drawn + 1 ≡ length drawn → runner.ready mid
+        → runner.asked mid ≡ runner.asked old + sum_entries trials
+        → (any_fault trials ≡ true → Rose (runner.faults old) (runner.faults mid))
+        → (any_fault trials ≡ false → runner.faults mid ≡ runner.faults old)
+        → Works runner (runner.gave old) first tests (old ∷ []) (mid ∷ []) drawn trials true
     works_all past last is_ready sum broken calm =
         let count = length-map trials (λ (t : Trial). t.number) in
         let below : (bound : ℕ) → count_below bound (numbers_of trials) ≡ named_below bound first (length tests) drawn =
         (λ bound. let here = counts.0 bound in grind (arith, nat_tests)) in
-        works_by (gives old) old mid (numbers_of trials) drawn trials true began below
-        (let here = counts.1 in grind (arith, nat_tests)) later room same is_ready given (λ e. record {
+        works_by (runner.gave old) old mid (numbers_of trials) drawn trials true began below
+        (let here = counts.1 in grind (arith, nat_tests)) later room (same, is_ready) given (λ e. record {
           past = let more = below_more (length tests) place drawn past in omega arith;
           numbers = below;
           asked = omega arith;
@@ -199,35 +205,35 @@ module _ (first count : ℕ) (a b c d : List Left) (one two : List ℕ) where
       by_fault true q was is any = let some = was refl in omega arith
       by_fault false q was is any = let some = is any in omega arith
 
-module _ {H : Type 0} (begun : H → List ℕ) (asked faults rooms : H → ℕ) (gives : H → Gave) (ready : H → Type 0) (first : ℕ) (tests : List Test) where
+module _ {H : Type 0} (runner : OfRunner H) (first : ℕ) (tests : List Test) where
   -- the same of a crew that gives what the hands do
   pub works_same : (one two : Gave) → SameGave one two → (old new : List H) (drawn : List ℕ) (trials : List Trial) (whole : Bool)
-      → Works begun asked faults rooms gives ready one first tests old new drawn trials whole
-      → Works begun asked faults rooms gives ready two first tests old new drawn trials whole
+      → Works runner one first tests old new drawn trials whole
+      → Works runner two first tests old new drawn trials whole
   works_same one two same old new drawn trials whole w = record {
     begins = w.begins;
     room = w.room;
-    hands = All-weaker (IsHandOf gives ready one) (IsHandOf gives ready two)
-        (λ hand is. (SameGave-trans (gives hand) one two is.0 same, is.1)) new w.hands;
+    hands = All-weaker (IsHandOf runner one) (IsHandOf runner two)
+        (λ hand is. (SameGave-trans (runner.gave hand) one two is.0 same, is.1)) new w.hands;
     given = All-weaker (IsTrialAmong one first tests) (IsTrialAmong two first tests) (among_same one two same first tests) trials w.given;
     runs = w.runs;
   }
 
   -- what two did, where all their trials are kept or memory was wanting
   pub works_both : (gave : Gave) (a b c d : List H) (one two : List ℕ) (xs ys trials : List Trial) (p q whole : Bool)
-      → Works begun asked faults rooms gives ready gave first tests a b one xs p
-      → Works begun asked faults rooms gives ready gave first tests c d two ys q
+      → Works runner gave first tests a b one xs p
+      → Works runner gave first tests c d two ys q
       → All (IsTrialAmong gave first tests) trials → (whole ≡ true → (p ≡ true) × (q ≡ true) × (trials ≡ xs ++ ys))
-      → Works begun asked faults rooms gives ready gave first tests (a ++ c) (b ++ d) (one ++ two) trials whole
+      → Works runner gave first tests (a ++ c) (b ++ d) (one ++ two) trials whole
   works_both gave a b c d one two xs ys trials p q whole x y given all =
       let n : ℕ = length tests in
-      let old = map-append (left begun asked faults) a c in
-      let new = map-append (left begun asked faults) b d in
+      let old = map-append (left runner) a c in
+      let new = map-append (left runner) b d in
       record {
         begins = rw old (rw new (begins_both first n _ _ _ _ one two x.begins y.begins));
-        room = map-append (room_of begun rooms) b d ∙ ap (λ l. l ++ map (room_of begun rooms) d) x.room
-            ∙ ap (λ l. map (room_of begun rooms) a ++ l) y.room ∙ sym (map-append (room_of begun rooms) a c);
-        hands = All-append (IsHandOf gives ready gave) b d x.hands y.hands;
+        room = map-append (room_of runner) b d ∙ ap (λ l. l ++ rooms_of runner d) x.room
+            ∙ ap (λ l. rooms_of runner a ++ l) y.room ∙ sym (map-append (room_of runner) a c);
+        hands = All-append (IsHandOf runner gave) b d x.hands y.hands;
         given = given;
         runs = λ is. let w = all is in
             rw w.2 (rw old (rw new (runs_both first n _ _ _ _ one two xs ys x.begins.later y.begins.later (x.runs w.0) (y.runs w.1))));

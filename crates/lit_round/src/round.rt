@@ -1,11 +1,11 @@
 //! A round, from hands to hands.
-ghost use Rattle.std.specs.Prelude.{◌≡◌, ◌<◌, ◌≤◌, ◌^◌, IfSome, length, map, vec_len};
+ghost use Rattle.std.specs.Prelude.{◌≡◌, ◌<◌, ◌≤◌, ◌^◌, IfSome, None, length, vec_len};
 ghost use Rattle.std.specs.List.{All};
 ghost use Rattle.lit_claims.specs.Claimed.{SHARES};
-ghost use Rattle.lit_round.specs.Hands.{CanRun, IsHandOf, MAX_FIRST, MAX_ROUND, all_left, asked_by, room_of};
-ghost use Rattle.lit_round.specs.Round.{BeginsUpTo, RunsRound};
+ghost use Rattle.lit_round.specs.Hands.{CanRun, IsHandOf, MAX_FIRST, MAX_ROUND, asked_by, rooms_of};
+ghost use Rattle.lit_round.specs.Round.{HandsBegin, HandsRun};
 
-use crate::team::{Team, all_work};
+use crate::team::all_work;
 use crate::worker::Shared;
 use lit_claims::{ClaimSet, Claims};
 use lit_test::Trial;
@@ -32,43 +32,40 @@ pub fn run_round<R: Threads + Sync, C: Crew>(
     requires workers { (0 < vec_len hands) × (vec_len hands ≤ SHARES) }
     requires few { length tests.now ≤ MAX_ROUND }
     requires first { first ≤ MAX_FIRST }
-    requires ready { All (CanRun C.Hand.rooms C.Hand.gave C.Hand.ready (C.gave crew.now) (length tests.now)) hands.items }
-    requires asked { asked_by C.Hand.asked hands.items < 2 ^ 62 }
-    ensures hands { All (IsHandOf C.Hand.gave C.Hand.ready (C.gave crew.now)) result.hands.items }
-    ensures rooms { map (room_of C.Hand.begun C.Hand.rooms) result.hands.items ≡ map (room_of C.Hand.begun C.Hand.rooms) hands.items }
-    ensures begun { BeginsUpTo first (length tests.now) (all_left C.Hand.begun C.Hand.asked C.Hand.faults hands.items)
-        (all_left C.Hand.begun C.Hand.asked C.Hand.faults result.hands.items) }
-    ensures trials { IfSome result.trials (λ trials. RunsRound (C.gave crew.now) first tests.now
-        (all_left C.Hand.begun C.Hand.asked C.Hand.faults hands.items)
-        (all_left C.Hand.begun C.Hand.asked C.Hand.faults result.hands.items) trials.items) }
+    requires ready { All (CanRun C.Hand.Runner (C.gave crew.now) (length tests.now)) hands.items }
+    requires asked { asked_by C.Hand.Runner hands.items < 2 ^ 62 }
+    ensures hands { All (IsHandOf C.Hand.Runner (C.gave crew.now)) result.hands.items }
+    ensures rooms { rooms_of C.Hand.Runner result.hands.items ≡ rooms_of C.Hand.Runner hands.items }
+    ensures begun { HandsBegin C.Hand.Runner first tests.now hands.items result.hands.items }
+    ensures trials { IfSome result.trials (λ trials.
+        HandsRun C.Hand.Runner (C.gave crew.now) first tests.now hands.items result.hands.items trials.items) }
 {
     let Ok(ClaimSet { claims, seats }) = Claims::new(alloc, hands.len() as u32) else {
-        return Ran {
-            hands,
-            trials: None,
-        };
+        return without_trials(hands);
     };
     let shared = Shared {
         claims: &claims,
         first,
         tests,
     };
-    let Team {
-        hands,
-        seat,
-        mut trials,
-        whole,
-    } = all_work(rt, alloc, crew, &shared, hands, seats.into_vec());
-    claims.close(seat);
-    if !whole {
-        return Ran {
-            hands,
-            trials: None,
-        };
+    let mut team = all_work(rt, alloc, crew, &shared, hands, seats.into_vec());
+    claims.close(team.seat);
+    if !team.whole {
+        return without_trials(team.hands);
     }
-    trials.sort_unstable_by_key(|trial| trial.number);
+    team.trials.sort_unstable_by_key(|trial| trial.number);
+    Ran {
+        hands: team.hands,
+        trials: Some(team.trials),
+    }
+}
+
+/// A round in which memory was wanting.
+fn without_trials<H: Drop>(hands: Vec<H>) -> Ran<H>
+    ensures { result ≡ record { hands = hands; trials = None } }
+{
     Ran {
         hands,
-        trials: Some(trials),
+        trials: None,
     }
 }

@@ -2,7 +2,7 @@
 ghost use Rattle.std.specs.Prelude.{◌≡◌, ◌⊎◌, ◌+◌, ◌<◌, ◌++◌, ◌∷◌, [], true, vec_capacity, vec_len};
 ghost use Rattle.std.specs.Thread.{IsSync};
 ghost use Rattle.lit_claims.specs.Seats.{claims_id, drawn_by, seat_id, share_of};
-ghost use Rattle.lit_round.specs.Work.{DidJobs, HasJob, HaveJobs};
+ghost use Rattle.lit_round.specs.Work.{HasJob, HaveJobs, TeamDid, TrialsJoin, WorkerDid};
 
 use crate::worker::{Shared, Worked, work};
 use lit_claims::{ClaimSeat, Claims};
@@ -30,9 +30,8 @@ fn add<H: Drop>(claims: &Claims, mut team: Team<H>, worked: Worked<H>) -> Team<H
     ensures drawn { drawn_by result.seat ≡ drawn_by team.seat ++ drawn_by worked.seat }
     ensures hands { result.hands.items ≡ team.hands.items ++ worked.hand ∷ [] }
     ensures space { vec_capacity result.hands ≡ vec_capacity team.hands }
-    ensures trials { (result.trials.items ≡ team.trials.items ++ worked.trials.items) ⊎ (result.trials.items ≡ team.trials.items) }
-    ensures whole { result.whole ≡ true → (team.whole ≡ true) × (worked.whole ≡ true)
-        × (result.trials.items ≡ team.trials.items ++ worked.trials.items) }
+    ensures trials { TrialsJoin team worked result ⊎ (result.trials.items ≡ team.trials.items) }
+    ensures whole { result.whole ≡ true → (team.whole ≡ true) × (worked.whole ≡ true) × TrialsJoin team worked result }
 {
     let Worked {
         hand,
@@ -56,10 +55,8 @@ pub(crate) fn all_work<R: Threads + Sync, C: Crew>(
     mut hands: Vec<C::Hand>,
     mut seats: Vec<ClaimSeat>,
 ) -> Team<C::Hand>
-    requires jobs { HaveJobs C.Hand.asked C.Hand.rooms C.Hand.gave C.Hand.ready (C.gave crew.now) shared.now hands.items seats.items }
-    ensures did { DidJobs C.Hand.begun C.Hand.asked C.Hand.faults C.Hand.rooms C.Hand.gave C.Hand.ready (C.gave crew.now) shared.now
-        hands.items seats.items result.hands.items result.seat result.trials.items result.whole }
-    ensures space { (vec_len result.hands ≡ vec_len hands) × (vec_capacity result.hands ≡ vec_capacity hands) }
+    requires jobs { HaveJobs C.Hand.Runner (C.gave crew.now) shared.now hands.items seats.items }
+    ensures did { TeamDid C.Hand.Runner (C.gave crew.now) shared.now hands seats result }
 {
     let Some(hand) = hands.pop() else {
         unreachable!()
@@ -68,33 +65,24 @@ pub(crate) fn all_work<R: Threads + Sync, C: Crew>(
         unreachable!()
     };
     if hands.is_empty() {
-        let Worked {
-            hand,
-            seat,
-            trials,
-            whole,
-        } = work(alloc, shared, hand, seat);
-        hands.push_reserved(hand);
+        let worked = work(alloc, shared, hand, seat);
+        hands.push_reserved(worked.hand);
         return Team {
             hands,
-            seat,
-            trials,
-            whole,
+            seat: worked.seat,
+            trials: worked.trials,
+            whole: worked.whole,
         };
     }
     let (worked, team) = join(
         rt,
         || -> Worked<C::Hand>
-            requires { HasJob C.Hand.asked C.Hand.rooms C.Hand.gave C.Hand.ready shared.now hand seat }
-            ensures { DidJobs C.Hand.begun C.Hand.asked C.Hand.faults C.Hand.rooms C.Hand.gave C.Hand.ready (C.Hand.gave hand) shared.entry.now
-                (hand ∷ []) (seat ∷ []) (result.hand ∷ []) result.seat result.trials.items result.whole }
+            requires { HasJob C.Hand.Runner shared.now hand seat }
+            ensures { WorkerDid C.Hand.Runner shared.entry.now hand seat result }
         { work(alloc, shared, hand, seat) },
         || -> Team<C::Hand>
-            requires { IsSync R.row
-                × HaveJobs C.Hand.asked C.Hand.rooms C.Hand.gave C.Hand.ready (C.gave crew.now) shared.now hands.items seats.items }
-            ensures { DidJobs C.Hand.begun C.Hand.asked C.Hand.faults C.Hand.rooms C.Hand.gave C.Hand.ready (C.gave crew.entry.now)
-                shared.entry.now hands.items seats.items result.hands.items result.seat result.trials.items result.whole
-                × (vec_len result.hands ≡ vec_len hands) × (vec_capacity result.hands ≡ vec_capacity hands) }
+            requires { IsSync R.row × HaveJobs C.Hand.Runner (C.gave crew.now) shared.now hands.items seats.items }
+            ensures { TeamDid C.Hand.Runner (C.gave crew.entry.now) shared.entry.now hands seats result }
         { all_work(rt, alloc, crew, shared, hands, seats) },
     );
     add(shared.claims, team, worked)

@@ -1,8 +1,8 @@
 //! One worker of a round.
-ghost use Rattle.std.specs.Prelude.{◌≡◌, ◌<◌, ◌≤◌, ◌∷◌, ◌^◌, [], length};
+ghost use Rattle.std.specs.Prelude.{◌≡◌, ◌<◌, ◌≤◌, ◌^◌, [], length};
 ghost use Rattle.lit_claims.specs.Seats.{claims_id, drawn_by, seat_id, share_of};
 ghost use Rattle.lit_round.specs.Hands.{CanRun, MAX_FIRST, MAX_ROUND};
-ghost use Rattle.lit_round.specs.Work.{Works};
+ghost use Rattle.lit_round.specs.Work.{WorksWith};
 
 use lit_claims::{ClaimSeat, Claims};
 use lit_test::{Trial, run_test};
@@ -37,11 +37,10 @@ pub(crate) fn work<H: Runner + Drop>(
     requires fresh { drawn_by seat ≡ [] }
     requires few { length shared.now.tests.now ≤ MAX_ROUND }
     requires first { shared.now.first ≤ MAX_FIRST }
-    requires ready { CanRun H.rooms H.gave H.ready (H.gave hand) (length shared.now.tests.now) hand }
+    requires ready { CanRun H.Runner (H.gave hand) (length shared.now.tests.now) hand }
     requires asked { H.asked hand < 2 ^ 62 }
     ensures seat { (seat_id result.seat ≡ seat_id seat) × (share_of result.seat ≡ share_of seat) }
-    ensures works { Works H.begun H.asked H.faults H.rooms H.gave H.ready (H.gave hand) shared.now.first shared.now.tests.now
-        (hand ∷ []) (result.hand ∷ []) (drawn_by result.seat) result.trials.items result.whole }
+    ensures works { WorksWith H.Runner shared.now hand result }
 {
     let mut trials = Vec::new(alloc);
     let mut whole = true;

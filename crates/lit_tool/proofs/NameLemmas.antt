@@ -14,7 +14,7 @@ use Rattle.lit_words.specs.declared.asked.Asked.{Asked}
 use Rattle.lit_words.specs.declared.number.Shard.{Shard}
 use Rattle.tt_outside.specs.declared.test_data.Test.{Test}
 use Rattle.tt_run.specs.Run.{Stream, Written}
-use Rattle.run_report.specs.Message.{cannot_write, newline}
+use Rattle.tt_run.specs.Frame.{cannot_write, newline}
 use Rattle.run_report.specs.Run.{Rests}
 use Rattle.lit_tool.specs.Answer.{TellsStop, WritesNames, name_line, showing, shown_names, shown_text}
 use Rattle.lit_tool.specs.Kept.{has_place, names_in, names_of, shard_from, unless_none}
@@ -60,13 +60,13 @@ no_both one x fault first second = cc
 -- names are written
 names_by : (t : TreeRun) (wanted : Wanted) (outcome : Result (List Test) Stop) (named : Result (List (List ℕ)) Stop)
     (names : List (List ℕ)) (status : ℕ) (out err : Stream) → TestsFrom t wanted outcome → named ≡ Ok names
-    → named ≡ names_in outcome → Written cannot_write (showing (shown_names names)) status out err
+    → named ≡ names_in outcome → Written (cannot_write (codes "lit")) (showing (shown_names names)) status out err
     → ShowsFrom t wanted status out err
 names_by t wanted (Ok tests) named names status out err from is same written =
     inr (
       Ok tests,
       from,
-      subst (λ text. Written cannot_write (showing text) status out err)
+      subst (λ text. Written (cannot_write (codes "lit")) (showing text) status out err)
           (names_told tests names (ok_same named names (names_of tests) is same)) written,
     )
 names_by t wanted (Err stop) named names status out err from is same written = absurd (no_both named names stop is same)

@@ -7,9 +7,10 @@ use Rattle.lit_dirs.specs.declared.fault.DiscoverFault.TheVariants.{TreeFault}
 use Rattle.lit_tool.specs.Message.{text_of}
 use Rattle.lit_tool.specs.declared.stop.Stop.{Stop}
 use Rattle.lit_tool.specs.declared.stop.Stop.TheVariants.{Discovery}
-use Rattle.run_report.specs.Message.{cannot_write, newline, out_of_memory, unplaced}
+use Rattle.run_report.specs.Message.{unplaced}
 use Rattle.run_report.specs.Run.{Rests}
 use Rattle.tt_outside.specs.declared.test_data.Test.{Test}
+use Rattle.tt_run.specs.Frame.{cannot_write, newline, out_of_memory}
 use Rattle.tt_run.specs.Run.{Answered, Stream, Told, Written}
 use Rattle.tt_run.specs.declared.answer.Answer.{Answer}
 
@@ -17,7 +18,7 @@ use Rattle.tt_run.specs.declared.answer.Answer.{Answer}
 
 -- memory was wanting before a byte of the report
 abbrev pub LacksMemory : ℕ → Stream → Stream → Type 0
-LacksMemory status out err = (status ≡ 4) × Rests out × Told out_of_memory err
+LacksMemory status out err = (status ≡ 4) × Rests out × Told (out_of_memory (codes "lit")) err
 
 -- ---- names
 
@@ -48,16 +49,16 @@ status_of stop = 2
 -- it is told, unless memory is wanting
 abbrev pub TellsStop : Stop → ℕ → Stream → Type 0
 TellsStop stop status err =
-    ((status ≡ 4) × Told out_of_memory err) ⊎ Answered (unplaced (text_of stop)) (status_of stop) status err
+    ((status ≡ 4) × Told (out_of_memory (codes "lit")) err) ⊎ Answered (unplaced (text_of stop)) (status_of stop) status err
 
 -- ---- names, or a stop
 
 -- these names are written, unless memory is wanting before a byte of them
 abbrev pub WritesNames : List (List ℕ) → ℕ → Stream → Stream → Type 0
 WritesNames names status out err =
-    LacksMemory status out err ⊎ Written cannot_write (showing (shown_names names)) status out err
+    LacksMemory status out err ⊎ Written (cannot_write (codes "lit")) (showing (shown_names names)) status out err
 
 -- the names of these tests are written, or why there are none
 abbrev pub TellsNames : Result (List Test) Stop → ℕ → Stream → Stream → Type 0
-TellsNames (Ok tests) status out err = Written cannot_write (showing (shown_text tests)) status out err
+TellsNames (Ok tests) status out err = Written (cannot_write (codes "lit")) (showing (shown_text tests)) status out err
 TellsNames (Err stop) status out err = Rests out × TellsStop stop status err

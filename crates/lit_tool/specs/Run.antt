@@ -2,18 +2,19 @@
 -- Own rules: the tree is looked at only where the words are accepted; names are shown, or tests run, where there are any.
 use Rattle.std.specs.Prelude.{◌≡◌, ◌≢◌, ◌⊎◌, ℕ, Bool, true, false, List, Option, Result, Ok, Err}
 use Rattle.tt_outside.specs.Faults.{Rose}
-use Rattle.tt_outside.specs.Gave.{Gave}
-use Rattle.tt_outside.specs.declared.crew.Left.{Left}
+use Rattle.tt_outside.specs.declared.crew.Crew.{Ghosts as OfCrew}
+use Rattle.tt_outside.specs.declared.sink.Sink.{Ghosts as OfSink}
 use Rattle.tt_outside.specs.declared.test_data.Test.{Test}
 use Rattle.tt_outside.specs.declared.tree.Node.{Node}
-use Rattle.tt_run.specs.Run.{Stream, stream}
+use Rattle.tt_outside.specs.declared.tree.Tree.{Ghosts as OfTree}
+use Rattle.tt_run.specs.Run.{Stream, crew_of, stream_of}
 use Rattle.lit_find.specs.Found.{Discovers}
 use Rattle.lit_dirs.specs.declared.fault.DiscoverFault.{DiscoverFault}
 use Rattle.lit_dirs.specs.declared.fault.DiscoverFault.TheVariants.{TreeFault, NoMemory}
 use Rattle.lit_words.specs.Asked.{Wanted, asked_by}
 use Rattle.lit_words.specs.declared.asked.Detail.{Detail}
 use Rattle.lit_words.specs.declared.fault.WordsFault.{WordsFault}
-use Rattle.run_report.specs.Run.{Around, NoHand, Rests, RunEnds, around, crew, untried}
+use Rattle.run_report.specs.Run.{Around, NoHand, Rests, RunEnds, around, untried}
 use Rattle.run_report.specs.declared.ending.LitEnd.{LitEnd}
 use Rattle.lit_tool.specs.Answer.{LacksMemory, TellsNames, TellsStop}
 use Rattle.lit_tool.specs.Kept.{kept_of, names_in}
@@ -30,13 +31,13 @@ pub record TreeRun : Type 1 where
   pub before : ℕ
   pub now : ℕ
 
-abbrev pub tree : {T : Type 0} → (T → Option (List Node)) → (T → List ℕ) → (T → Type 0) → (T → ℕ) → T → T → TreeRun
-tree nodes root steady faults old new = record {
-  nodes = nodes old;
-  base = root old;
-  steady = steady old;
-  before = faults old;
-  now = faults new;
+abbrev pub tree : {T : Type 0} → OfTree T → T → T → TreeRun
+tree from old new = record {
+  nodes = from.nodes old;
+  base = from.root old;
+  steady = from.steady old;
+  before = from.faults old;
+  now = from.faults new;
 }
 
 -- a tree that was left alone
@@ -73,12 +74,10 @@ pub record Call : Type 1 where
   pub searched : TreeRun
   pub around : Around
 
-abbrev pub call : {T C O E : Type 0} → (T → Option (List Node)) → (T → List ℕ) → (T → Type 0) → (T → ℕ)
-    → (C → Gave) → (C → List Left) → (O → Option (List ℕ)) → (O → ℕ) → (O → ℕ) → (E → Option (List ℕ)) → (E → ℕ) → (E → ℕ)
-    → T → T → C → C → O → O → E → E → Call
-call nodes root steady faults gave hands held failed room told missed space t u c d o p e f = record {
-  searched = tree nodes root steady faults t u;
-  around = around (crew gave hands c d) (stream held failed room o p) (stream told missed space e f);
+abbrev pub call : {T C H O E : Type 0} → OfTree T → OfCrew C H → OfSink O → OfSink E → T → T → C → C → O → O → E → E → Call
+call searched hired report told from past crew behind out written err more = record {
+  searched = tree searched from past;
+  around = around (crew_of hired crew behind) (stream_of report out written) (stream_of told err more);
 }
 
 -- no test was run: the status alone is left, and no hand was hired

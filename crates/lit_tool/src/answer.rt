@@ -1,17 +1,17 @@
 //! What is written where nothing is run.
 ghost use Rattle.std.specs.Prelude.{◌≡◌, ◌≤◌, ◌++◌, IfOk, OnOk};
-ghost use Rattle.tt_run.specs.Run.{stream};
+ghost use Rattle.tt_run.specs.Run.{stream_of};
 ghost use Rattle.lit_tool.specs.Answer.{TellsStop, WritesNames, name_line, shown_names, status_of};
 ghost use Rattle.lit_tool.specs.Message.{text_of};
 
 use crate::message::message_of;
 use crate::stop::Stop;
 use lit_dirs::DiscoverFault;
-use run_report::tell_memory;
+use run_report::LIT;
 use std::alloc::Global;
 use tt_base::{Bytes, NoMemory};
 use tt_outside::Sink;
-use tt_run::{Answer, answer_on, write_answer};
+use tt_run::{Answer, answer_on};
 
 /// Names, each on a line.
 fn shown_names(alloc: Global, names: &[Bytes]) -> Result<Bytes, NoMemory>
@@ -41,17 +41,17 @@ pub(crate) fn write_names<O: Sink, E: Sink>(
     err: &mut E,
 ) -> u8
     ensures { WritesNames names.now result
-        (stream O.held O.faults O.room out.old out.new) (stream E.held E.faults E.room err.old err.new) }
+        (stream_of O.Sink out.old out.new) (stream_of E.Sink err.old err.new) }
 {
     let Ok(text) = shown_names(alloc, names) else {
-        return tell_memory(err);
+        return LIT.out_of_memory(err);
     };
     let answer = Answer {
         out: text,
         err: Bytes::new(alloc),
         status: 0,
     };
-    write_answer(b"lit: error: cannot write\n", &answer, out, err)
+    answer.write(LIT, out, err)
 }
 
 /// The status of a stop.
@@ -67,10 +67,10 @@ fn status_of(stop: &Stop) -> u8
 
 /// Tells a stop, and answers its status, 3 at a fault of the stream, or 4 for want of memory.
 pub(crate) fn refuse<E: Sink>(alloc: Global, stop: &Stop, err: &mut E) -> u8
-    ensures { TellsStop stop.now result (stream E.held E.faults E.room err.old err.new) }
+    ensures { TellsStop stop.now result (stream_of E.Sink err.old err.new) }
 {
     let Ok(message) = message_of(alloc, stop) else {
-        return tell_memory(err);
+        return LIT.out_of_memory(err);
     };
     answer_on(message.as_slice(), status_of(stop), err)
 }

@@ -10,5 +10,5 @@ mod stop;
 mod tests;
 
 pub use run::lit_run;
-pub use run_report::LitEnd;
+pub use run_report::{LIT, LitEnd};
 pub use stop::Stop;

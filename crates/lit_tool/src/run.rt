@@ -1,8 +1,7 @@
 //! The top call.
 ghost use Rattle.std.specs.Prelude.{◌≡◌, ◌⊎◌, ◌≤◌, IfOk, IfSome};
-ghost use Rattle.tt_outside.specs.Faults.{Rose};
 ghost use Rattle.tt_outside.specs.Gave.{SameGave};
-ghost use Rattle.tt_run.specs.Run.{stream};
+ghost use Rattle.tt_run.specs.Run.{Failed, stream_of};
 ghost use Rattle.opt_words.specs.Step.{texts};
 ghost use Rattle.lit_words.specs.Asked.{wanted};
 ghost use Rattle.lit_words.specs.Number.{IsShard};
@@ -12,7 +11,7 @@ use crate::answer::{refuse, write_names};
 use crate::stop::Stop;
 use crate::tests::{names_from, tests_from};
 use lit_words::{Asked, WordsFail, asked_by};
-use run_report::{LitEnd, run_and_report, tell_memory};
+use run_report::{LIT, LitEnd, run_and_report};
 use std::alloc::Global;
 use std::sync::Wait;
 use std::thread::Threads;
@@ -33,13 +32,12 @@ pub fn lit_run<R: Threads + Wait + Sync, T: Tree, C: Crew, O: Sink, E: Sink>(
     err: &mut E,
 ) -> LitEnd
     requires ready { C.ready crew.old }
-    ensures ends { LitEnds (texts words.now) (call T.nodes T.root T.steady T.faults C.gave C.hands O.held O.faults O.room
-        E.held E.faults E.room from.old from.new crew.old crew.new out.old out.new err.old err.new) result }
-    ensures fault { result.status ≡ 3 → Rose (T.faults from.old) (T.faults from.new)
-        ⊎ Rose (O.faults out.old) (O.faults out.new)
-        ⊎ Rose (E.faults err.old) (E.faults err.new) }
-    ensures steady { T.steady from.old → result.status ≡ 3 → Rose (O.faults out.old) (O.faults out.new)
-        ⊎ Rose (E.faults err.old) (E.faults err.new) }
+    ensures ends { LitEnds (texts words.now) (call T.Tree C.Crew O.Sink E.Sink
+        from.old from.new crew.old crew.new out.old out.new err.old err.new) result }
+    ensures fault { result.status ≡ 3 → Failed T.faults from.old from.new
+        ⊎ Failed O.faults out.old out.new ⊎ Failed E.faults err.old err.new }
+    ensures steady { T.steady from.old → result.status ≡ 3 →
+        Failed O.faults out.old out.new ⊎ Failed E.faults err.old err.new }
     ensures nodes { T.nodes from.new ≡ T.nodes from.old }
     ensures root { T.root from.new ≡ T.root from.old }
     ensures later { T.faults from.old ≤ T.faults from.new }
@@ -60,8 +58,8 @@ fn lit_on<R: Threads + Wait + Sync, T: Tree, C: Crew, O: Sink, E: Sink>(
     err: &mut E,
 ) -> LitEnd
     requires ready { C.ready crew.old }
-    ensures ends { LitEnds (texts words.now) (call T.nodes T.root T.steady T.faults C.gave C.hands O.held O.faults O.room
-        E.held E.faults E.room from.old from.new crew.old crew.new out.old out.new err.old err.new) result }
+    ensures ends { LitEnds (texts words.now) (call T.Tree C.Crew O.Sink E.Sink
+        from.old from.new crew.old crew.new out.old out.new err.old err.new) result }
     ensures nodes { T.nodes from.new ≡ T.nodes from.old }
     ensures root { T.root from.new ≡ T.root from.old }
     ensures later { T.faults from.old ≤ T.faults from.new }
@@ -73,7 +71,7 @@ fn lit_on<R: Threads + Wait + Sync, T: Tree, C: Crew, O: Sink, E: Sink>(
         Err(WordsFail::Bad(fault)) => {
             return LitEnd::untried(alloc, refuse(alloc, &Stop::Words(fault), err));
         }
-        Err(WordsFail::NoMemory) => return LitEnd::untried(alloc, tell_memory(err)),
+        Err(WordsFail::NoMemory) => return LitEnd::untried(alloc, LIT.out_of_memory(err)),
     };
     if asked.show {
         return LitEnd::untried(alloc, show(alloc, &asked, from, out, err));
@@ -90,8 +88,8 @@ fn show<T: Tree, O: Sink, E: Sink>(
     err: &mut E,
 ) -> u8
     requires { IfSome asked.now.shard IsShard }
-    ensures shows { ShowsFrom (tree T.nodes T.root T.steady T.faults from.old from.new) (wanted asked.now) result
-        (stream O.held O.faults O.room out.old out.new) (stream E.held E.faults E.room err.old err.new) }
+    ensures shows { ShowsFrom (tree T.Tree from.old from.new) (wanted asked.now) result
+        (stream_of O.Sink out.old out.new) (stream_of E.Sink err.old err.new) }
     ensures nodes { T.nodes from.new ≡ T.nodes from.old }
     ensures root { T.root from.new ≡ T.root from.old }
     ensures later { T.faults from.old ≤ T.faults from.new }
@@ -99,7 +97,7 @@ fn show<T: Tree, O: Sink, E: Sink>(
     match names_from(alloc, asked, from) {
         Ok(Ok(names)) => write_names(alloc, names.as_slice(), out, err),
         Ok(Err(stop)) => refuse(alloc, &stop, err),
-        Err(NoMemory) => tell_memory(err),
+        Err(NoMemory) => LIT.out_of_memory(err),
     }
 }
 
@@ -116,8 +114,8 @@ fn run<R: Threads + Wait + Sync, T: Tree, C: Crew, O: Sink, E: Sink>(
     requires workers { (1 ≤ asked.now.workers) × (asked.now.workers ≤ 64) }
     requires shard { IfSome asked.now.shard IsShard }
     requires ready { C.ready crew.old }
-    ensures runs { RunsFrom (wanted asked.now) (call T.nodes T.root T.steady T.faults C.gave C.hands O.held O.faults O.room
-        E.held E.faults E.room from.old from.new crew.old crew.new out.old out.new err.old err.new) result }
+    ensures runs { RunsFrom (wanted asked.now) (call T.Tree C.Crew O.Sink E.Sink
+        from.old from.new crew.old crew.new out.old out.new err.old err.new) result }
     ensures nodes { T.nodes from.new ≡ T.nodes from.old }
     ensures root { T.root from.new ≡ T.root from.old }
     ensures later { T.faults from.old ≤ T.faults from.new }
@@ -127,6 +125,6 @@ fn run<R: Threads + Wait + Sync, T: Tree, C: Crew, O: Sink, E: Sink>(
     match tests_from(alloc, asked, from) {
         Ok(Ok(tests)) => run_and_report(rt, alloc, asked, &tests, crew, out, err),
         Ok(Err(stop)) => LitEnd::untried(alloc, refuse(alloc, &stop, err)),
-        Err(NoMemory) => LitEnd::untried(alloc, tell_memory(err)),
+        Err(NoMemory) => LitEnd::untried(alloc, LIT.out_of_memory(err)),
     }
 }

@@ -20,7 +20,7 @@ pub(crate) fn tests_from<T: Tree>(
     from: &mut T,
 ) -> Result<Result<Items<Test>, Stop>, NoMemory>
     requires { IfSome asked.now.shard IsShard }
-    ensures value { IfOk result (TestsFrom (tree T.nodes T.root T.steady T.faults from.old from.new) (wanted asked.now)) }
+    ensures value { IfOk result (TestsFrom (tree T.Tree from.old from.new) (wanted asked.now)) }
     ensures few { IfOk result (λ outcome. IfOk outcome (λ tests. length tests ≤ 100000)) }
     ensures nodes { T.nodes from.new ≡ T.nodes from.old }
     ensures root { T.root from.new ≡ T.root from.old }
@@ -40,7 +40,7 @@ pub(crate) fn names_from<T: Tree>(
     from: &mut T,
 ) -> Result<Result<Items<Bytes>, Stop>, NoMemory>
     requires { IfSome asked.now.shard IsShard }
-    ensures value { IfOk result (NamesFrom (tree T.nodes T.root T.steady T.faults from.old from.new) (wanted asked.now)) }
+    ensures value { IfOk result (NamesFrom (tree T.Tree from.old from.new) (wanted asked.now)) }
     ensures nodes { T.nodes from.new ≡ T.nodes from.old }
     ensures root { T.root from.new ≡ T.root from.old }
     ensures later { T.faults from.old ≤ T.faults from.new }
@@ -60,7 +60,7 @@ fn all_from<T: Tree>(
     requires shard { IfSome asked.now.shard IsShard }
     requires select { asked.now.select ≡ None }
     requires drop { asked.now.drop ≡ None }
-    ensures value { IfOk result (NamesFrom (tree T.nodes T.root T.steady T.faults from.old from.new) (wanted asked.now)) }
+    ensures value { IfOk result (NamesFrom (tree T.Tree from.old from.new) (wanted asked.now)) }
     ensures nodes { T.nodes from.new ≡ T.nodes from.old }
     ensures root { T.root from.new ≡ T.root from.old }
     ensures later { T.faults from.old ≤ T.faults from.new }
@@ -79,7 +79,7 @@ fn chosen_from<T: Tree>(
     from: &mut T,
 ) -> Result<Result<Items<Bytes>, Stop>, NoMemory>
     requires { IfSome asked.now.shard IsShard }
-    ensures value { IfOk result (NamesFrom (tree T.nodes T.root T.steady T.faults from.old from.new) (wanted asked.now)) }
+    ensures value { IfOk result (NamesFrom (tree T.Tree from.old from.new) (wanted asked.now)) }
     ensures nodes { T.nodes from.new ≡ T.nodes from.old }
     ensures root { T.root from.new ≡ T.root from.old }
     ensures later { T.faults from.old ≤ T.faults from.new }

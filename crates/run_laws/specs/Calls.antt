@@ -1,10 +1,12 @@
 -- Calls of lit that ask for the same, but for the number of workers.
 -- Own rule: the tree and the words tell which tests there are, and the number of workers has no part in that.
-use Rattle.std.specs.Prelude.{◌≡◌, ℕ, ◌≤◌, false, List, Option, Some, Ok}
-use Rattle.tt_outside.specs.Gave.{Gave, IsSteady, SameGave}
-use Rattle.tt_outside.specs.declared.crew.Left.{Left}
+use Rattle.std.specs.Prelude.{◌≡◌, ℕ, ◌≤◌, false, List, Some, Ok}
+use Rattle.tt_outside.specs.Gave.{IsSteady, SameGave}
+use Rattle.tt_outside.specs.declared.crew.Crew.{Ghosts as OfCrew}
+use Rattle.tt_outside.specs.declared.sink.Sink.{Ghosts as OfSink}
 use Rattle.tt_outside.specs.declared.test_data.Test.{Test}
 use Rattle.tt_outside.specs.declared.tree.Node.{Node}
+use Rattle.tt_outside.specs.declared.tree.Tree.{Ghosts as OfTree}
 use Rattle.lit_find.specs.Found.{AreTests}
 use Rattle.lit_paths.specs.Paths.{Parts}
 use Rattle.lit_tool.specs.Run.{Call, LitEnds, call}
@@ -42,9 +44,8 @@ IsOneAnswer c d =
     → EndsAlike c.around d.around one other
 
 -- any two calls, on trees, by crews and on streams of these types
-abbrev pub OfCalls : {T C O E : Type 0} → (T → Option (List Node)) → (T → List ℕ) → (T → Type 0) → (T → ℕ) → (C → Gave) → (C → List Left)
-    → (O → Option (List ℕ)) → (O → ℕ) → (O → ℕ) → (E → Option (List ℕ)) → (E → ℕ) → (E → ℕ) → (Call → Call → Type 0) → Type 0
-OfCalls {T} {C} {O} {E} nodes root steady failed gave hands held faults room told missed space Law =
+abbrev pub OfCalls : {T C H O E : Type 0} → OfTree T → OfCrew C H → OfSink O → OfSink E → (Call → Call → Type 0) → Type 0
+OfCalls {T} {C} {H} {O} {E} searched hired report told Law =
     (bare seen fresh found : T) (first last again end : C) (blank full empty whole : O) (calm spoke silent cried : E)
-    → Law (call nodes root steady failed gave hands held faults room told missed space bare seen first last blank full calm spoke)
-    (call nodes root steady failed gave hands held faults room told missed space fresh found again end empty whole silent cried)
+    → Law (call searched hired report told bare seen first last blank full calm spoke)
+    (call searched hired report told fresh found again end empty whole silent cried)

@@ -1,21 +1,23 @@
 -- Runs of the same tests by any numbers of workers.
 -- Own rule: where hands give one reply to each request of a test, for what was asked before it in the same test, a run is told in the
 -- same words whatever the number of its workers.
-use Rattle.std.specs.Prelude.{◌≡◌, ℕ, ◌≤◌, List, ◌++◌, Option}
+use Rattle.std.specs.Prelude.{◌≡◌, ℕ, ◌≤◌, List, ◌++◌}
 use Rattle.std.specs.Option.{option_to_list}
-use Rattle.tt_outside.specs.Gave.{Gave, IsSteady, SameGave}
+use Rattle.tt_outside.specs.Gave.{IsSteady, SameGave}
+use Rattle.tt_outside.specs.declared.crew.Crew.{Ghosts as OfCrew}
 use Rattle.tt_outside.specs.declared.crew.Left.{Left}
+use Rattle.tt_outside.specs.declared.sink.Sink.{Ghosts as OfSink}
 use Rattle.tt_outside.specs.declared.test_data.Test.{Test}
-use Rattle.tt_run.specs.Run.{Taken, stream}
+use Rattle.tt_run.specs.Run.{Crew, Taken, crew_of, stream_of}
 use Rattle.lit_words.specs.declared.asked.Detail.{Detail}
 use Rattle.lit_test.specs.declared.trial.Trial.{Trial}
 use Rattle.lit_round.specs.Hands.{asked_of}
 use Rattle.lit_pool.specs.Crew.{begun_of}
-use Rattle.run_report.specs.Run.{Around, CrewRun, Rests, RunEnds, around, crew}
+use Rattle.run_report.specs.Run.{Around, Rests, RunEnds, around}
 use Rattle.run_report.specs.declared.ending.LitEnd.{LitEnd}
 
 -- the hands of two runs, however many, began each test as often, and answered as many requests
-pub record DidAlike (a b : CrewRun) : Type 0 where
+pub record DidAlike (a b : Crew) : Type 0 where
   pub hands : List Left
   pub others : List Left
   pub left : a.new ≡ a.old ++ hands
@@ -52,9 +54,8 @@ StopsInFront a b =
     → one.status ≤ 1 → (rest : List Trial) × (one.trials ≡ trials_of other ++ rest)
 
 -- any two runs, by crews and on streams of these types
-abbrev pub OfRuns : {C O E : Type 0} → (C → Gave) → (C → List Left) → (O → Option (List ℕ)) → (O → ℕ) → (O → ℕ) → (E → Option (List ℕ))
-    → (E → ℕ) → (E → ℕ) → (Around → Around → Type 0) → Type 0
-OfRuns {C} {O} {E} gave hands held faults room told missed space Law =
+abbrev pub OfRuns : {C H O E : Type 0} → OfCrew C H → OfSink O → OfSink E → (Around → Around → Type 0) → Type 0
+OfRuns {C} {H} {O} {E} hired report told Law =
     (first last again end : C) (blank full empty whole : O) (calm spoke silent cried : E)
-    → Law (around (crew gave hands first last) (stream held faults room blank full) (stream told missed space calm spoke))
-    (around (crew gave hands again end) (stream held faults room empty whole) (stream told missed space silent cried))
+    → Law (around (crew_of hired first last) (stream_of report blank full) (stream_of told calm spoke))
+    (around (crew_of hired again end) (stream_of report empty whole) (stream_of told silent cried))

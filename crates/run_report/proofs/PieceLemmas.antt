@@ -6,6 +6,7 @@ use Rattle.std.specs.Io.KnownBytes.{Appends}
 use Rattle.std.proofs.KnownBytes.{Appends-trans}
 use Rattle.tt_outside.specs.Faults.{Rose}
 use Rattle.tt_outside.specs.Transfer.{AppendsPart}
+use Rattle.tt_outside.specs.declared.sink.Sink.{Ghosts as OfSink}
 use Rattle.tt_run.specs.Run.{Stream, Taken}
 use Rattle.run_report.specs.Run.{EndWrites, StopsBehind}
 
@@ -15,8 +16,8 @@ pub record Moment : Type 0 where
   pub faults : ℕ
   pub room : ℕ
 
-abbrev pub moment : {S : Type 0} → (S → Option (List ℕ)) → (S → ℕ) → (S → ℕ) → S → Moment
-moment held faults room s = record { held = held s; faults = faults s; room = room s }
+abbrev pub moment : {S : Type 0} → OfSink S → S → Moment
+moment sink s = record { held = sink.held s; faults = sink.faults s; room = sink.room s }
 
 -- from one moment to another
 abbrev pub span : Moment → Moment → Stream

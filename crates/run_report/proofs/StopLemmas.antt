@@ -9,8 +9,7 @@ use Rattle.tt_run.specs.Run.{Taken}
 use Rattle.lit_words.specs.declared.asked.Detail.{Detail}
 use Rattle.lit_test.specs.declared.trial.Trial.{Trial}
 use Rattle.lit_report.specs.Report.{part_of, parts_from}
-use Rattle.lit_desk.specs.Desk.{DeskNow, Kept, MAX_KEPT, PutFrom, Refused, StopCause, Took, desk}
-use Rattle.lit_desk.specs.declared.desk.LitDesk.{LitDesk}
+use Rattle.lit_desk.specs.Desk.{DeskNow, Kept, MAX_KEPT, PutFrom, Refused, StopCause, Took}
 use Rattle.lit_desk.specs.declared.stop.DeskStop.{DeskStop}
 use Rattle.lit_desk.specs.declared.stop.DeskStop.TheVariants as stops
 use Rattle.lit_desk.proofs.PutLemmas.{parts_are_written, stays}
@@ -23,11 +22,7 @@ use Rattle.run_report.proofs.PieceLemmas.{Fills, Moment, span, stops_both, stops
 
 -- ---- what was put
 
--- lit's desk, with its stream
-abbrev pub now_of : {O : Type 0} → (O → Option (List ℕ)) → (O → ℕ) → (O → ℕ) → LitDesk O → DeskNow
-now_of held faults room d = desk d.detail d.tests d.kept (held d.out.now) (faults d.out.now) (room d.out.now)
-
--- it took a trial, or refused one, and its stream stayed the same one
+-- a desk took a trial, or refused one, and its stream stayed the same one
 abbrev pub TakesIn : {D N : Type 0} → (D → DeskNow) → (D → N) → D → ℕ → Trial → D → Type 0
 TakesIn now name one place trial next = Took (now one) place (kept_of trial) (now next) × (name next ≡ name one)
 

@@ -1,14 +1,14 @@
 -- A run of tests with its report, by where it stopped.
 -- After LLVM Command Guide, lit, for the report and its status. Own rules: the header goes before a hand is hired, a fault of the
 -- report is told once on the other stream, and hands are dismissed however the run ends.
-use Rattle.std.specs.Prelude.{◌≡◌, ◌≢◌, ◌⊎◌, ℕ, ◌+◌, ◌<◌, ◌≤◌, List, [], ◌++◌, length, map, Option, None, Some, Ok, Err}
+use Rattle.std.specs.Prelude.{◌≡◌, ◌≢◌, ◌⊎◌, ℕ, ◌+◌, ◌<◌, ◌≤◌, List, [], ◌++◌, codes, length, map, Option, None, Some, Ok, Err}
 use Rattle.std.specs.List.{sum_by}
 use Rattle.std.specs.Io.KnownBytes.{Appends}
 use Rattle.tt_outside.specs.Faults.{Rose}
 use Rattle.tt_outside.specs.Gave.{Gave}
-use Rattle.tt_outside.specs.declared.crew.Left.{Left}
 use Rattle.tt_outside.specs.declared.test_data.Test.{Test}
-use Rattle.tt_run.specs.Run.{Answered, Stream, Taken, Told}
+use Rattle.tt_run.specs.Frame.{cannot_write, out_of_memory}
+use Rattle.tt_run.specs.Run.{Answered, Crew, Stream, Taken, Told}
 use Rattle.lit_words.specs.declared.asked.Detail.{Detail}
 use Rattle.lit_test.specs.declared.trial.Trial.{Trial}
 use Rattle.lit_report.specs.Ending.{end_of, status_of}
@@ -20,33 +20,24 @@ use Rattle.lit_pool.specs.Pool.{kept_of, returned, told_of}
 use Rattle.lit_pool.specs.declared.stop.PoolStop.{PoolStop}
 use Rattle.lit_pool.specs.declared.stop.PoolWhy.{PoolWhy}
 use Rattle.lit_pool.specs.declared.stop.PoolWhy.TheVariants.{SinkFault, TooMuch, NoMemory}
-use Rattle.run_report.specs.Message.{cannot_write, out_of_memory, too_much}
+use Rattle.run_report.specs.Message.{too_much}
 use Rattle.run_report.specs.declared.ending.LitEnd.{LitEnd}
 
 -- ---- what a run is given
 
--- a crew: the replies that its hands may give, and what dismissed hands left before and after
-pub record CrewRun : Type 1 where
-  pub gave : Gave
-  pub old : List Left
-  pub new : List Left
-
-abbrev pub crew : {C : Type 0} → (C → Gave) → (C → List Left) → C → C → CrewRun
-crew gave hands old new = record { gave = gave old; old = hands old; new = hands new }
-
 -- a crew, the stream of the report and that of messages
 pub record Around : Type 1 where
-  pub hired : CrewRun
+  pub hired : Crew
   pub out : Stream
   pub err : Stream
 
-abbrev pub around : CrewRun → Stream → Stream → Around
+abbrev pub around : Crew → Stream → Stream → Around
 around hired out err = record { hired = hired; out = out; err = err }
 
 -- ---- what it leaves
 
 -- no hand was hired and dismissed
-abbrev pub NoHand : CrewRun → Type 0
+abbrev pub NoHand : Crew → Type 0
 NoHand hired = hired.new ≡ hired.old
 
 -- a stream was left alone
@@ -76,8 +67,8 @@ kept_by trials = sum_by (λ kept. kept.kept) (map kept_of trials)
 -- how a header failed, by the status and the streams: memory was wanting for it, or it was written up to a fault
 abbrev pub HeaderFails : List ℕ → Stream → Stream → ℕ → Type 0
 HeaderFails head out err status =
-    ((status ≡ 4) × Rests out × Told out_of_memory err)
-    ⊎ ((status ≡ 3) × StopsBehind [] head out × Told cannot_write err)
+    ((status ≡ 4) × Rests out × Told (out_of_memory (codes "lit")) err)
+    ⊎ ((status ≡ 3) × StopsBehind [] head out × Told (cannot_write (codes "lit")) err)
 
 -- there was no header
 abbrev pub LacksHeader : List ℕ → Around → LitEnd → Type 0
@@ -108,9 +99,9 @@ pub record StopsTests (before : List ℕ) (detail : Detail) (tests : List Test) 
 
 -- what is told of it, and its status
 abbrev pub StopTells : PoolWhy → ℕ → Stream → Type 0
-StopTells SinkFault status err = (status ≡ 3) × Told cannot_write err
+StopTells SinkFault status err = (status ≡ 3) × Told (cannot_write (codes "lit")) err
 StopTells TooMuch status err = Answered too_much 2 status err
-StopTells NoMemory status err = (status ≡ 4) × Told out_of_memory err
+StopTells NoMemory status err = (status ≡ 4) × Told (out_of_memory (codes "lit")) err
 
 -- a run stopped in its midst
 pub record StopsRun (detail : Detail) (workers : ℕ) (tests : List Test) (a : Around) (end : LitEnd) : Type 0 where
@@ -127,8 +118,8 @@ pub record StopsRun (detail : Detail) (workers : ℕ) (tests : List Test) (a : A
 abbrev pub EndWrites : List ℕ → List ℕ → ℕ → ℕ → Stream → Stream → Type 0
 EndWrites before text own status out err =
     ((status ≡ own) × Taken (before ++ text) out × Rests err)
-    ⊎ ((status ≡ 3) × StopsBehind before text out × Told cannot_write err)
-    ⊎ ((status ≡ 4) × Taken before out × Told out_of_memory err)
+    ⊎ ((status ≡ 3) × StopsBehind before text out × Told (cannot_write (codes "lit")) err)
+    ⊎ ((status ≡ 4) × Taken before out × Told (out_of_memory (codes "lit")) err)
 
 -- the same, of a report whose trials were put: what is written of its end
 abbrev pub ReportEnds : Detail → ℕ → List Trial → ℕ → Stream → Stream → Type 0

@@ -1,9 +1,9 @@
 //! How a run of lit ends.
 ghost use Rattle.std.specs.Prelude.{◌≡◌};
-ghost use Rattle.tt_run.specs.Run.{stream};
+ghost use Rattle.tt_run.specs.Run.{stream_of};
 ghost use Rattle.run_report.specs.Run.{ReportEnds, untried};
 
-use crate::message::{tell_fault, tell_memory};
+use crate::message::LIT;
 use crate::parts::write_piece;
 use lit_pool::reported;
 use lit_report::{end_of, status_of};
@@ -45,16 +45,16 @@ pub(crate) fn write_end<O: Sink, E: Sink>(
     err: &mut E,
 ) -> u8
     ensures { ReportEnds detail count trials.now result
-        (stream O.held O.faults O.room out.old out.new) (stream E.held E.faults E.room err.old err.new) }
+        (stream_of O.Sink out.old out.new) (stream_of E.Sink err.old err.new) }
 {
     let Ok(told) = reported(alloc, trials) else {
-        return tell_memory(err);
+        return LIT.out_of_memory(err);
     };
     let Ok(text) = end_of(alloc, detail, count, told.as_slice()) else {
-        return tell_memory(err);
+        return LIT.out_of_memory(err);
     };
     match write_piece(text.as_slice(), out) {
         Ok(()) => status_of(told.as_slice()),
-        Err(_) => tell_fault(err),
+        Err(_) => LIT.cannot_write(err),
     }
 }

@@ -9,5 +9,5 @@ mod parts;
 mod running;
 
 pub use ending::LitEnd;
-pub use message::{tell_fault, tell_memory};
+pub use message::LIT;
 pub use running::run_and_report;

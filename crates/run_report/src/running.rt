@@ -1,12 +1,12 @@
 //! A run of tests.
 ghost use Rattle.std.specs.Prelude.{◌≡◌, ◌<◌, ◌≤◌, ◌+◌, IfErr, OnOk, length};
 ghost use Rattle.tt_outside.specs.Gave.{SameGave};
-ghost use Rattle.tt_run.specs.Run.{Taken, stream};
+ghost use Rattle.tt_run.specs.Run.{Taken, crew_of, stream_of};
 ghost use Rattle.lit_report.specs.Report.{header};
-ghost use Rattle.run_report.specs.Run.{HeaderFails, RunEnds, around, crew};
+ghost use Rattle.run_report.specs.Run.{HeaderFails, RunEnds, around};
 
 use crate::ending::{LitEnd, write_end};
-use crate::message::{tell_fault, tell_memory, tell_stop};
+use crate::message::{LIT, tell_stop};
 use crate::parts::{report_each, write_piece};
 use lit_report::header;
 use lit_words::{Asked, Detail};
@@ -24,18 +24,18 @@ fn write_header<O: Sink, E: Sink>(
     out: &mut O,
     err: &mut E,
 ) -> Result<(), u8>
-    ensures taken { OnOk result (Taken (header detail tests) (stream O.held O.faults O.room out.old out.new)) }
+    ensures taken { OnOk result (Taken (header detail tests) (stream_of O.Sink out.old out.new)) }
     ensures room { OnOk result (O.room out.old ≤ O.room out.new + length (header detail tests)) }
     ensures calm { OnOk result (err.new ≡ err.old) }
     ensures fails { IfErr result (HeaderFails (header detail tests)
-        (stream O.held O.faults O.room out.old out.new) (stream E.held E.faults E.room err.old err.new)) }
+        (stream_of O.Sink out.old out.new) (stream_of E.Sink err.old err.new)) }
 {
     let Ok(text) = header(alloc, detail, tests) else {
-        return Err(tell_memory(err));
+        return Err(LIT.out_of_memory(err));
     };
     match write_piece(text.as_slice(), out) {
         Ok(()) => Ok(()),
-        Err(_) => Err(tell_fault(err)),
+        Err(_) => Err(LIT.cannot_write(err)),
     }
 }
 
@@ -53,8 +53,8 @@ pub fn run_and_report<R: Threads + Wait + Sync, C: Crew, O: Sink, E: Sink>(
     requires few { length tests.now ≤ 100000 }
     requires workers { (0 < asked.now.workers) × (asked.now.workers ≤ 64) }
     requires ready { C.ready from.old }
-    ensures ends { RunEnds asked.now.detail asked.now.workers tests.now (around (crew C.gave C.hands from.old from.new)
-        (stream O.held O.faults O.room out.old out.new) (stream E.held E.faults E.room err.old err.new)) result }
+    ensures ends { RunEnds asked.now.detail asked.now.workers tests.now (around (crew_of C.Crew from.old from.new)
+        (stream_of O.Sink out.old out.new) (stream_of E.Sink err.old err.new)) result }
     ensures gave { SameGave (C.gave from.new) (C.gave from.old) }
     ensures ready { C.ready from.new }
 {

@@ -9,10 +9,10 @@ decreases-loop-hand g l = length l.hands.items
 
 abbrev pub invariant-loop-hand : goal.invariant-loop-hand
 invariant-loop-hand g l = record {
-  hands : g.C.Crew.hands l.crew ++ all_left g.C.Hand.Runner.begun g.C.Hand.Runner.asked g.C.Hand.Runner.faults (reverse l.hands.items)
-      ≡ g.C.Crew.hands l.fn.crew ++ all_left g.C.Hand.Runner.begun g.C.Hand.Runner.asked g.C.Hand.Runner.faults l.fn.hands.items;
+  hands : g.C.Crew.hands l.crew ++ all_left g.C.Hand.Runner (reverse l.hands.items)
+      ≡ g.C.Crew.hands l.fn.crew ++ all_left g.C.Hand.Runner l.fn.hands.items;
   seats : g.C.Crew.seats l.crew + length l.fn.hands.items ≡ g.C.Crew.seats l.fn.crew + length l.hands.items;
-  own : All (IsHandOf g.C.Hand.Runner.gave g.C.Hand.Runner.ready (g.C.Crew.gave l.fn.crew)) l.hands.items;
+  own : All (IsHandOf g.C.Hand.Runner (g.C.Crew.gave l.fn.crew)) l.hands.items;
   gave : SameGave (g.C.Crew.gave l.crew) (g.C.Crew.gave l.fn.crew);
   ready : g.C.Crew.ready l.fn.crew → g.C.Crew.ready l.crew;
 }

@@ -1,7 +1,7 @@
-use Rattle.std.proofs.Common.{◌≡◌, ◌+◌, map, replicate, vec_capacity, vec_len}
+use Rattle.std.proofs.Common.{◌≡◌, ◌+◌, replicate, vec_capacity, vec_len}
 use Rattle.std.specs.List.{All}
 use Rattle.tt_outside.specs.Gave.{SameGave}
-use Rattle.lit_round.specs.Hands.{IsHandOf, all_left, room_of}
+use Rattle.lit_round.specs.Hands.{IsHandOf, all_left, rooms_of}
 use Rattle.lit_pool.specs.Crew.{nothing_left}
 use Rattle.lit_pool.proofs.crew.hire_all.Given as goal
 
@@ -9,9 +9,9 @@ abbrev pub invariant-loop : goal.invariant-loop
 invariant-loop g l = record {
   count : vec_len l.hands ≡ l.counter;
   space : vec_capacity l.hands ≡ l.workers;
-  fresh : all_left g.C.Hand.Runner.begun g.C.Hand.Runner.asked g.C.Hand.Runner.faults l.hands.items ≡ replicate l.counter nothing_left;
-  rooms : map (room_of g.C.Hand.Runner.begun g.C.Hand.Runner.rooms) l.hands.items ≡ replicate l.counter l.room;
-  own : All (IsHandOf g.C.Hand.Runner.gave g.C.Hand.Runner.ready (g.C.Crew.gave l.fn.crew)) l.hands.items;
+  fresh : all_left g.C.Hand.Runner l.hands.items ≡ replicate l.counter nothing_left;
+  rooms : rooms_of g.C.Hand.Runner l.hands.items ≡ replicate l.counter l.room;
+  own : All (IsHandOf g.C.Hand.Runner (g.C.Crew.gave l.fn.crew)) l.hands.items;
   hands : g.C.Crew.hands l.crew ≡ g.C.Crew.hands l.fn.crew;
   seats : g.C.Crew.seats l.crew ≡ g.C.Crew.seats l.fn.crew + l.counter;
   gave : SameGave (g.C.Crew.gave l.crew) (g.C.Crew.gave l.fn.crew);

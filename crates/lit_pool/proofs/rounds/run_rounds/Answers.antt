@@ -20,9 +20,9 @@ run_round-ran-requires-clause-ready g c κs within =
     let low = c.loop-first-test.true in
     let count = c.min-count.ensures in
     let part = c.split_at-in-loop-first.ensures.front_len in
-    can_run R.begun R.asked R.faults R.rooms R.gave R.ready (g.C.Crew.gave c.args.crew.now) (length c.args.hands.items)
+    can_run R (g.C.Crew.gave c.args.crew.now) (length c.args.hands.items)
     (length c.args.tests.now) c.loop-first.first (length c.split_at-in-loop-first.result.0.now) hands
-    (sym (length-map hands (left R.begun R.asked R.faults)) ∙ was.went.count) (was.rooms ∙ c.requires.rooms) was.went.number
+    (sym (length-map hands (left R)) ∙ was.went.count) (was.rooms ∙ c.requires.rooms) was.went.number
     (omega arith) was.own
 
 pub returns-in_default-clause-left : goal.returns-in_default-clause-left
@@ -33,7 +33,7 @@ returns-in_default-clause-left g c =
     next_left (length c.args.hands.items) c.args.tests.now c.split_at-in-loop-first.result.0.now c.loop-first.first c.min-count.result
     c.loop-first.trials.items _ _ was.went c.loop-first-test.true c.min-count.ensures
     (c.split_at-in-loop-first.ensures.front ∙ ap (take c.min-count.result) c.split_at.ensures.back) ran.begun
-    (hands_same (room_of R.begun R.rooms) (left R.begun R.asked R.faults) c.loop-first.hands.items c.run_round-ran.result.hands.items ran.rooms)
+    (hands_same (room_of R) (left R) c.loop-first.hands.items c.run_round-ran.result.hands.items ran.rooms)
     c.stop.result (ap (λ s. s.trials) c.stop.ensures) (ap (λ s. s.other) c.stop.ensures)
 
 pub returns-then-is_err-clause-left : goal.returns-then-is_err-clause-left
@@ -45,7 +45,7 @@ returns-then-is_err-clause-left g c =
     next_left (length c.args.hands.items) c.args.tests.now c.split_at-in-loop-first.result.0.now c.loop-first.first c.min-count.result
     c.loop-first.trials.items _ _ was.went c.loop-first-test.true c.min-count.ensures
     (c.split_at-in-loop-first.ensures.front ∙ ap (take c.min-count.result) c.split_at.ensures.back) ran.begun
-    (hands_same (room_of R.begun R.rooms) (left R.begun R.asked R.faults) c.loop-first.hands.items c.run_round-ran.result.hands.items ran.rooms)
+    (hands_same (room_of R) (left R) c.loop-first.hands.items c.run_round-ran.result.hands.items ran.rooms)
     c.stop-then-is_err.result (ap (λ s. s.trials) c.stop-then-is_err.ensures ∙ kept) (ap (λ s. s.other) c.stop-then-is_err.ensures)
 
 pub put_all-requires : goal.put_all-requires
@@ -60,7 +60,7 @@ put_all-requires g c =
     let long = next_long (length c.args.hands.items) c.args.tests.now c.split_at-in-loop-first.result.0.now c.loop-first.first
     c.min-count.result xs _ _ was.went c.loop-first-test.true c.min-count.ensures
     (c.split_at-in-loop-first.ensures.front ∙ ap (take c.min-count.result) c.split_at.ensures.back) ran.begun
-    (hands_same (room_of R.begun R.rooms) (left R.begun R.asked R.faults) c.loop-first.hands.items c.run_round-ran.result.hands.items ran.rooms)
+    (hands_same (room_of R) (left R) c.loop-first.hands.items c.run_round-ran.result.hands.items ran.rooms)
     (g.C.Crew.gave c.args.crew.now) ys runs in
     let behind = ap length (c.split_at-in-loop-first-2.ensures.back ∙ ap (drop c.loop-first.first) (c.deref.ensures.value ∙ all)
     ∙ drop_at xs ys c.loop-first.first was.went.long) in
@@ -82,7 +82,7 @@ overflow_add-first-in-Err g c =
 
 pub returns-in-Err-clause-count : goal.returns-in-Err-clause-count
 returns-in-Err-clause-count g c =
-    let room = room_of g.C.Hand.Runner.begun g.C.Hand.Runner.rooms in
+    let room = room_of g.C.Hand.Runner in
     sym (length-map c.run_round-ran.result.hands.items room) ∙ ap length (c.run_round-ran.ensures.rooms ∙ c.loop-first.invariant.rooms)
     ∙ length-map c.args.hands.items room
 
@@ -136,7 +136,7 @@ returns-in-Err-clause-left g c =
     next_refused (length c.args.hands.items) c.args.tests.now c.split_at-in-loop-first.result.0.now first c.min-count.result xs _ _ was.went
     c.loop-first-test.true c.min-count.ensures
     (c.split_at-in-loop-first.ensures.front ∙ ap (take c.min-count.result) c.split_at.ensures.back) ran.begun
-    (hands_same (room_of R.begun R.rooms) (left R.begun R.asked R.faults) c.loop-first.hands.items c.run_round-ran.result.hands.items ran.rooms)
+    (hands_same (room_of R) (left R) c.loop-first.hands.items c.run_round-ran.result.hands.items ran.rooms)
     (g.C.Crew.gave c.args.crew.now) ys runs taken c.stop-in-Err.result short
     (ap returned stop ∙ sym c.pop-other.ensures.items ∙ cut)
     (ap (λ s. length s.trials) stop ∙ (let ok = c.truncate.new.self.ok.0 in omega arith))
@@ -159,7 +159,7 @@ loop-first-preserved g c =
     let runs = rw c.in-Some.is at ran.trials in
     let behind = c.split_at-in-loop-first-2.ensures.back ∙ ap (drop first) (c.deref.ensures.value ∙ all) ∙ drop_at xs ys first was.went.long in
     let part_is = c.split_at-in-loop-first.ensures.front ∙ ap (take count) c.split_at.ensures.back in
-    let same = hands_same (room_of R.begun R.rooms) (left R.begun R.asked R.faults) c.loop-first.hands.items c.run_round-ran.result.hands.items
+    let same = hands_same (room_of R) (left R) c.loop-first.hands.items c.run_round-ran.result.hands.items
     ran.rooms in
     rw all (record {
       within = omega (arith, low, c.min-count.ensures);

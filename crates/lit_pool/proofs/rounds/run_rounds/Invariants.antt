@@ -1,6 +1,6 @@
-use Rattle.std.proofs.Common.{◌≡◌, ◌-◌, ◌≤◌, length, map, take}
+use Rattle.std.proofs.Common.{◌≡◌, ◌-◌, ◌≤◌, length, take}
 use Rattle.std.specs.List.{All}
-use Rattle.lit_round.specs.Hands.{IsHandOf, all_left, room_of}
+use Rattle.lit_round.specs.Hands.{IsHandOf, all_left, rooms_of}
 use Rattle.lit_round.specs.Trials.{AreTrials}
 use Rattle.lit_desk.specs.Desk.{PutFrom}
 use Rattle.lit_pool.proofs.CrewLemmas.{Went}
@@ -14,9 +14,7 @@ invariant-loop-first g l = record {
   within : l.first ≤ length l.tests;
   are : AreTrials (g.C.Crew.gave l.crew) 0 (take l.first l.tests) l.trials.items;
   put : PutFrom g.D.Desk.took l.fn.desk 0 l.trials.items l.desk;
-  own : All (IsHandOf g.C.Hand.Runner.gave g.C.Hand.Runner.ready (g.C.Crew.gave l.crew)) l.hands.items;
-  rooms : map (room_of g.C.Hand.Runner.begun g.C.Hand.Runner.rooms) l.hands.items
-      ≡ map (room_of g.C.Hand.Runner.begun g.C.Hand.Runner.rooms) l.fn.hands.items;
-  went : Went (length l.fn.hands.items) (length l.tests) l.first l.trials.items
-      (all_left g.C.Hand.Runner.begun g.C.Hand.Runner.asked g.C.Hand.Runner.faults l.hands.items);
+  own : All (IsHandOf g.C.Hand.Runner (g.C.Crew.gave l.crew)) l.hands.items;
+  rooms : rooms_of g.C.Hand.Runner l.hands.items ≡ rooms_of g.C.Hand.Runner l.fn.hands.items;
+  went : Went (length l.fn.hands.items) (length l.tests) l.first l.trials.items (all_left g.C.Hand.Runner l.hands.items);
 }

@@ -12,8 +12,8 @@ use Rattle.lit_round.specs.Trials.{IsTrialAmong}
 use Rattle.lit_round.proofs.WorkLemmas.{all_kept, works_both, works_same}
 use Rattle.lit_round.proofs.team.+all_work+fn-all_work-join+arg3.Goals as goal
 
-pub returns-then-is_empty-clause-did : goal.returns-then-is_empty-clause-did
-returns-then-is_empty-clause-did g t c =
+pub returns-then-is_empty : goal.returns-then-is_empty
+returns-then-is_empty g t c =
     let R = g.C.Hand.Runner in
     let jobs = c.requires.jobs in
     let hand = c.in-Some.hand in
@@ -22,7 +22,7 @@ returns-then-is_empty-clause-did g t c =
     let popped : c.args.hands.items ≡ c.pop.new.self.items ++ hand ∷ [] = search rules in
     let seated : c.args.seats.items ≡ c.pop-2.new.self.items ++ seat ∷ [] = search rules in
     let none : c.pop.new.self.items ≡ [] = search rules in
-    let ready = All-pop (CanRun R.rooms R.gave R.ready gave (length c.args.shared.now.tests.now)) _ _ (Some hand) popped jobs.fit in
+    let ready = All-pop (CanRun R gave (length c.args.shared.now.tests.now)) _ _ (Some hand) popped jobs.fit in
     let fresh = All-pop (IsFresh (claims_id c.args.shared.now.claims.now)) _ _ (Some seat) seated jobs.own in
     let hands = ap length popped ∙ length_push c.pop.new.self.items hand in
     let seats = ap length seated ∙ length_push c.pop-2.new.self.items seat in
@@ -30,12 +30,18 @@ returns-then-is_empty-clause-did g t c =
     let left = ap length none in
     let no_seat = ap (sum_by share_of) (nil_from_length c.pop-2.new.self.items (omega arith)) in
     let shares = ap (sum_by share_of) seated ∙ sum_by_push share_of c.pop-2.new.self.items seat in
-    let worked = c.work-hand.ensures in
+    let worked = c.work-worked.ensures in
     record {
-      own = worked.seat.0 ∙ fresh.1.0;
-      share = let share = worked.seat.1 in omega arith;
-      works = rw popped (rw c.push_reserved.ensures.items (rw none (works_same R.begun R.asked R.faults R.rooms R.gave R.ready
-          c.args.shared.now.first c.args.shared.now.tests.now (R.gave hand) gave ready.1.1.0 _ _ _ _ _ worked.works)));
+      did = (
+        record {
+          own = worked.seat.0 ∙ fresh.1.0;
+          share = let share = worked.seat.1 in omega arith;
+          works = rw popped (rw c.push_reserved.ensures.items (rw none (works_same R c.args.shared.now.first c.args.shared.now.tests.now
+              (R.gave hand) gave ready.1.1.0 _ _ _ _ _ worked.works)));
+        },
+        search (rules, arith),
+        search (rules, arith),
+      );
     }
 
 pub join-worked-requires-after_bounds : goal.join-worked-requires-after_bounds
@@ -46,7 +52,7 @@ join-worked-requires-after_bounds g t c κs within =
     let seat = c.in-Some-pop.seat in
     let popped : c.args.hands.items ≡ c.pop.new.self.items ++ hand ∷ [] = search rules in
     let seated : c.args.seats.items ≡ c.pop-2.new.self.items ++ seat ∷ [] = search rules in
-    let ready = All-pop (CanRun R.rooms R.gave R.ready (g.C.Crew.gave c.args.crew.now) (length c.args.shared.now.tests.now)) _ _ (Some hand)
+    let ready = All-pop (CanRun R (g.C.Crew.gave c.args.crew.now) (length c.args.shared.now.tests.now)) _ _ (Some hand)
     popped jobs.fit in
     let fresh = All-pop (IsFresh (claims_id c.args.shared.now.claims.now)) _ _ (Some seat) seated jobs.own in
     let asked = ap (sum_by R.asked) popped ∙ sum_by_push R.asked c.pop.new.self.items hand in
@@ -98,8 +104,8 @@ add-requires g t c = record {
   space = search (rules, arith);
 }
 
-pub returns-clause-did : goal.returns-clause-did
-returns-clause-did g t c =
+pub returns : goal.returns
+returns g t c =
     let R = g.C.Hand.Runner in
     let hand = c.in-Some.hand in
     let seat = c.in-Some-pop.seat in
@@ -108,20 +114,29 @@ returns-clause-did g t c =
     let tests = c.args.shared.now.tests.now in
     let popped : c.args.hands.items ≡ c.pop.new.self.items ++ hand ∷ [] = search rules in
     let seated : c.args.seats.items ≡ c.pop-2.new.self.items ++ seat ∷ [] = search rules in
-    let ready = All-pop (CanRun R.rooms R.gave R.ready gave (length tests)) _ _ (Some hand) popped c.requires.jobs.fit in
+    let ready = All-pop (CanRun R gave (length tests)) _ _ (Some hand) popped c.requires.jobs.fit in
     let mine = c.join-worked.ensures.first in
     let theirs = c.join-worked.ensures.second.0 in
-    let worked = works_same R.begun R.asked R.faults R.rooms R.gave R.ready first tests (R.gave hand) gave ready.1.1.0 _ _ _ _ _ mine.works in
+    let worked = works_same R first tests (R.gave hand) gave ready.1.1.0 _ _ _ _ _ mine.works in
     let one = c.join-worked.result.0 in
     let all = c.join-worked.result.1 in
     let added = c.add.ensures in
     let shares = ap (sum_by share_of) seated ∙ sum_by_push share_of c.pop-2.new.self.items seat in
+    let long = ap length added.hands ∙ length_push all.hands.items one.hand in
+    let was = ap length popped ∙ length_push c.pop.new.self.items hand in
+    let same = c.join-worked.ensures.second.1 in
     record {
-      own = added.seat ∙ theirs.own;
-      share = let sum = added.share in let share = mine.share in let rest = theirs.share in omega arith;
-      works = rw popped (rw added.hands (rw added.drawn (works_both R.begun R.asked R.faults R.rooms R.gave R.ready first tests gave
-          c.pop.new.self.items all.hands.items (hand ∷ []) (one.hand ∷ []) (drawn_by all.seat) (drawn_by one.seat) all.trials.items
-          one.trials.items c.add.result.trials.items all.whole one.whole c.add.result.whole theirs.works worked
-          (all_kept (IsTrialAmong gave first tests) all.trials.items one.trials.items c.add.result.trials.items added.trials theirs.works.given
-          worked.given) added.whole)));
+      did = (
+        record {
+          own = added.seat ∙ theirs.own;
+          share = let sum = added.share in let share = mine.share in let rest = theirs.share in omega arith;
+          works = rw popped (rw added.hands (rw added.drawn (works_both R first tests gave c.pop.new.self.items all.hands.items
+              (hand ∷ []) (one.hand ∷ []) (drawn_by all.seat) (drawn_by one.seat) all.trials.items one.trials.items
+              c.add.result.trials.items all.whole one.whole c.add.result.whole theirs.works worked
+              (all_kept (IsTrialAmong gave first tests) all.trials.items one.trials.items c.add.result.trials.items added.trials
+              theirs.works.given worked.given) added.whole)));
+        },
+        omega (arith, long, was, same),
+        search (rules, arith),
+      );
     }

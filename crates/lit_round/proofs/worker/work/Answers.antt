@@ -84,19 +84,16 @@ loop-place-preserved g c =
 pub returns-clause-works : goal.returns-clause-works
 returns-clause-works g c =
     let was = c.loop-place.invariant in
-    let R = g.H.Runner in
-    let some = works_some R.begun R.asked R.faults R.rooms R.gave R.ready c.args.shared.now.first c.args.shared.now.tests.now c.args.hand
-    c.loop-place.hand c.loop-place.place (drawn_by c.loop-place.seat) c.loop-place.trials.items was.begun was.counts was.later was.room
-    was.gave was.given in
-    let all = works_all R.begun R.asked R.faults R.rooms R.gave R.ready c.args.shared.now.first c.args.shared.now.tests.now c.args.hand
-    c.loop-place.hand c.loop-place.place (drawn_by c.loop-place.seat) c.loop-place.trials.items was.begun was.counts was.later was.room
-    was.gave was.given in
+    let some = works_some g.H.Runner c.args.shared.now.first c.args.shared.now.tests.now c.args.hand c.loop-place.hand c.loop-place.place
+    (drawn_by c.loop-place.seat) c.loop-place.trials.items was.begun was.counts was.later was.room was.gave was.given in
+    let all = works_all g.H.Runner c.args.shared.now.first c.args.shared.now.tests.now c.args.hand c.loop-place.hand c.loop-place.place
+    (drawn_by c.loop-place.seat) c.loop-place.trials.items was.begun was.counts was.later was.room was.gave was.given in
     elim c.loop-place-test.branch [
       | else-loop-place-test w ↦ rw w.hand-is (rw w.trials-is (rw w.whole-is (rw was.whole (all (omega (arith, w.loop-place-test.false)) was.last
           was.ready was.asked was.broken was.calm))))
       | then-loop-place-test+in_default w ↦ let ran = w.run_test.ensures in
-          rw w.hand-is (rw w.trials-is (rw w.whole-is (some _ _ w.loop-place-test.true ran.begun ran.later ran.room ran.gave ran.ready refl)))
+          rw w.hand-is (rw w.trials-is (rw w.whole-is (some _ _ w.loop-place-test.true ran.begun ran.later ran.room (ran.gave, ran.ready) refl)))
       | then-loop-place-test+in-Ok+then-is_err w ↦ let ran = w.run_test.ensures in
-          rw w.hand-is (rw w.trials-is (rw w.whole-is (some _ _ w.loop-place-test.true ran.begun ran.later ran.room ran.gave ran.ready
+          rw w.hand-is (rw w.trials-is (rw w.whole-is (some _ _ w.loop-place-test.true ran.begun ran.later ran.room (ran.gave, ran.ready)
           (search rules))))
     ]

@@ -23,7 +23,7 @@ invariant-loop-place g l = record {
   begun : g.H.Runner.begun l.hand ≡ g.H.Runner.begun l.fn.hand ++ numbers_of l.trials.items;
   counts : Counts l.shared.first (length l.shared.tests.now) l.place (drawn_by l.seat) l.trials.items;
   some : length l.trials.items ≤ l.place;
-  room : room_of g.H.Runner.begun g.H.Runner.rooms l.hand ≡ room_of g.H.Runner.begun g.H.Runner.rooms l.fn.hand;
+  room : room_of g.H.Runner l.hand ≡ room_of g.H.Runner l.fn.hand;
   given : All (IsTrialAmong (g.H.Runner.gave l.fn.hand) l.shared.first l.shared.tests.now) l.trials.items;
   asked : g.H.Runner.asked l.hand ≡ g.H.Runner.asked l.fn.hand + sum_entries l.trials.items;
   broken : any_fault l.trials.items ≡ true → Rose (g.H.Runner.faults l.fn.hand) (g.H.Runner.faults l.hand);

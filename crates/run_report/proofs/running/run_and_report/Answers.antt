@@ -1,26 +1,26 @@
 use Rattle.std.proofs.Common.{inl, inr}
-use Rattle.tt_run.specs.Run.{stream}
+use Rattle.tt_run.specs.Run.{stream_of}
 use Rattle.run_report.proofs.PieceLemmas.{moment}
 use Rattle.run_report.proofs.RunLemmas.{runs_all, stops_run}
 use Rattle.run_report.proofs.running.run_and_report.Goals as goal
 
 pub returns-in-Ok-clause-ends : goal.returns-in-Ok-clause-ends
 returns-in-Ok-clause-ends g c =
-    let out = moment g.O.Sink.held g.O.Sink.faults g.O.Sink.room in
+    let out = moment g.O.Sink in
     inr (inr (runs_all c.args.asked.now.detail c.args.asked.now.workers c.args.tests.now c.len-count.result
     (g.C.Crew.gave c.args.from.now) (g.C.Crew.hands c.args.from.now) (g.C.Crew.hands c.report_each-ran.new.from) (out c.args.out.now)
     (out c.write_header.new.out) (out c.report_each-ran.new.out) (out c.write_end.new.out)
-    (λ e. stream g.E.Sink.held g.E.Sink.faults g.E.Sink.room e c.write_end.new.err) c.args.err.now c.write_header.new.err
+    (λ e. stream_of g.E.Sink e c.write_end.new.err) c.args.err.now c.write_header.new.err
     c.in-Ok.trials c.as_slice.result.now c.write_end.result c.len-count.ensures c.in-Ok.ensures.trials
     (c.in_default.ensures.taken, c.in_default.ensures.room) c.in-Ok.ensures.wrote c.as_slice.ensures
     c.in_default.ensures.calm c.write_end.ensures c.in-Ok.ensures.hands))
 
 pub returns-in-Err-ran-clause-ends : goal.returns-in-Err-ran-clause-ends
 returns-in-Err-ran-clause-ends g c =
-    let out = moment g.O.Sink.held g.O.Sink.faults g.O.Sink.room in
+    let out = moment g.O.Sink in
     inr (inl (stops_run c.args.asked.now.detail c.args.asked.now.workers c.args.tests.now c.len-count.result
     (g.C.Crew.gave c.args.from.now) (g.C.Crew.hands c.args.from.now) (g.C.Crew.hands c.report_each-ran.new.from) (out c.args.out.now)
     (out c.write_header.new.out) (out c.report_each-ran.new.out)
-    (λ e. stream g.E.Sink.held g.E.Sink.faults g.E.Sink.room e c.tell_stop.new.err) c.args.err.now c.write_header.new.err
+    (λ e. stream_of g.E.Sink e c.tell_stop.new.err) c.args.err.now c.write_header.new.err
     c.in-Err-ran.stop c.tell_stop.result c.len-count.ensures (c.in_default.ensures.taken, c.in_default.ensures.room)
     c.in-Err-ran.ensures.stopped c.in_default.ensures.calm c.tell_stop.ensures c.in-Err-ran.ensures.hands))
