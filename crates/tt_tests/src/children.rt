@@ -125,6 +125,7 @@ const FED: &str = "true => 1048576 => 10 => code 0 0 0
 cat => 1048576 => 1048576 => code 0 1048576 0
 sh, -c, cat; echo e >&2 => 2 => 10 => code 0 2 2
 cat => 1048576 => 10 => too much output 0 0 0
+cat => 100 => 10 => too much output 0 0 0
 sh, -c, head -c 4096 => 4096 => 4096 => code 0 4096 0
 sh, -c, cat >&2; echo a => 4097 => 4097 => code 0 2 4097
 sh, -c, head -c 200000 /dev/zero >&2; cat => 200000 => 200000 => code 0 200000 200000
