@@ -1,3 +1,6 @@
+-- A word that is a file: its test is found, or a directory up to its suite is refused.
+-- By what the call for the nearest suite gave, over the nodes that the tree tells, where it tells them.
+-- The long goal is `returns-in_ok-put-in-Ok-Some-clause-gives`.
 use Rattle.std.proofs.Common.{[], ◌∷◌, ◌++◌, sym, ap, subst, ◌∙◌, Ok, IfSome}
 use Rattle.std.specs.List.{list_all}
 use Rattle.tt_outside.specs.TreeMap.{is_part}
@@ -13,12 +16,10 @@ use Rattle.lit_find.proofs.WordLemmas.{apart, dir_is_dir, file_added, file_refus
 use Rattle.lit_find.proofs.words.add_file.Goals as goal
 
 pub nearest-requires : goal.nearest-requires
-nearest-requires g c =
-    let split = c.in-Some.ensures.cases.0 in
-    record {
-      parts = parts_left c.in-Some.dir.now (c.in-Some.field-0-0.now ∷ [])
-          (ap (list_all is_part) (sym split) ∙ c.requires.parts);
-    }
+nearest-requires g c = record {
+  parts = parts_left c.in-Some.dir.now (c.in-Some.field-0-0.now ∷ [])
+      (ap (list_all is_part) (sym c.in-Some.ensures.cases.0) ∙ c.requires.parts);
+}
 
 pub put-requires : goal.put-requires
 put-requires g c =
