@@ -108,7 +108,6 @@ fn is_told(alloc: Global, row: &str) -> Result<bool, NoMemory> {
 /// The name of a listed directory, what is lost, and what is told.
 const LOST: &str = "d => is gone => missing /w/d
 d => is a file => missing /w/d
-d/e => is gone => tests
 d => no suite file => missing /w/lit.suite.toml";
 
 #[test]
