@@ -28,12 +28,14 @@ pub record Stream : Type 0 where
   pub now : ℕ
   pub room : ℕ
 
-abbrev pub stream : {S : Type 0} → (S → Option (List ℕ)) → (S → ℕ) → (S → ℕ) → S → S → Stream
-stream held faults room old new =
-    record { old = held old; new = held new; before = faults old; now = faults new; room = room old }
-
 abbrev pub stream_of : {S : Type 0} → OfSink S → S → S → Stream
-stream_of sink old new = stream sink.held sink.faults sink.room old new
+stream_of sink old new = record {
+  old = sink.held old;
+  new = sink.held new;
+  before = sink.faults old;
+  now = sink.faults new;
+  room = sink.room old;
+}
 
 -- files: whether nobody touched them, the bytes under each name, whether no call fails for certain, and the count of faults
 pub record Files : Type 1 where

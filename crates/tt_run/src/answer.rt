@@ -1,7 +1,7 @@
 //! An answer, and how it is written.
 ghost use Rattle.std.specs.Prelude.{◌≤◌};
 ghost use Rattle.tt_run.specs.Frame.{cannot_write};
-ghost use Rattle.tt_run.specs.Run.{Answered, Told, Written, stream_of};
+ghost use Rattle.tt_run.specs.Run.{Answered, Written, stream_of};
 
 use crate::frame::Frame;
 use tt_base::Bytes;
@@ -30,21 +30,6 @@ impl Answer {
     }
 }
 
-/// Writes the answer, and answers its status, or 3 where a stream fails. `fault` is what is told on `err` where
-/// `out` fails.
-pub fn write_answer<O: Sink, E: Sink>(fault: &[u8], answer: &Answer, out: &mut O, err: &mut E) -> u8
-    requires { answer.now.status ≤ 3 }
-    ensures written { Written fault.now answer.now result
-        (stream_of O.Sink out.old out.new) (stream_of E.Sink err.old err.new) }
-    ensures range { result ≤ 3 }
-{
-    if write_all(out, answer.out.as_slice()).is_err() {
-        tell(fault, err);
-        return 3;
-    }
-    answer_on(answer.err.as_slice(), answer.status, err)
-}
-
 /// Writes a message, and answers the status, or 3 where the stream fails. It takes no memory.
 pub fn answer_on<E: Sink>(message: &[u8], status: u8, err: &mut E) -> u8
     requires { status ≤ 3 }
@@ -55,11 +40,4 @@ pub fn answer_on<E: Sink>(message: &[u8], status: u8, err: &mut E) -> u8
         Ok(()) => status,
         Err(_) => 3,
     }
-}
-
-/// Writes a message, as far as the stream takes it. It takes no memory.
-pub fn tell<E: Sink>(message: &[u8], err: &mut E)
-    ensures { Told message.now (stream_of E.Sink err.old err.new) }
-{
-    let _ = write_all(err, message);
 }

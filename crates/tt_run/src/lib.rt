@@ -7,7 +7,7 @@ mod frame;
 mod parts;
 mod reading;
 
-pub use answer::{Answer, answer_on, tell, write_answer};
+pub use answer::{Answer, answer_on};
 pub use frame::Frame;
 pub use parts::answer_parts;
 pub use reading::{Reading, read_named, read_source};
