@@ -24,7 +24,7 @@ use Rattle.define_words.specs.Start.{start}
 use Rattle.scan_laws.proofs.SeenLemmas.{verdict_is_of_seen}
 use Rattle.tt_run.specs.declared.reading.Reading.{Reading}
 use Rattle.tt_run.specs.declared.reading.Reading.TheVariants.{Whole}
-use Rattle.filecheck_words.specs.declared.job.Job.TheVariants.{Generate}
+use Rattle.filecheck_words.specs.declared.job.Job.TheVariants as jobs
 use Rattle.generator.specs.Generated.{checks_text}
 use Rattle.filecheck_messages.specs.Answer.{answer_to}
 use Rattle.filecheck_messages.specs.Refusal.{◌>>=◌, LeadsTo, accepted}
@@ -32,12 +32,14 @@ use Rattle.filecheck_messages.specs.declared.refusal.Refusal.{Refusal}
 use Rattle.filecheck_messages.specs.declared.refusal.Stop.{Stop}
 use Rattle.filecheck_messages.specs.declared.refusal.Stop.TheVariants.{Refused, NotReadable}
 use Rattle.filecheck_messages.specs.declared.report.Report.{Report}
-use Rattle.filecheck_tool.specs.Answer.{checks_given, found_by, input_given}
+use Rattle.filecheck_tool.specs.Answer.{IsChecking, found_by, input_given}
 use Rattle.filecheck_tool.specs.CheckFile.{check_file_of, check_file_read, whole, with_directives}
 use Rattle.filecheck_tool.specs.Program.{ArePatterns, IsCompiledTo, IsDefinedWith, IsProgram, bad_body, bodies, fresh_of, opts_of, program_of}
-use Rattle.filecheck_tool.specs.Start.{start_of}
+use Rattle.filecheck_tool.specs.Start.{start_made, start_with}
 use Rattle.filecheck_tool.specs.Verdict.{filled, input_name, report_of, verdict_read}
 use Rattle.filecheck_tool.specs.declared.check_file.CheckFile.{CheckFile}
+use Rattle.filecheck_tool.specs.declared.plan.Plan.{Plan}
+use Rattle.filecheck_tool.specs.declared.plan.Plan.TheVariants as plans
 use Rattle.filecheck_tool.specs.declared.program.Program.{Program}
 use Rattle.filecheck_tool.specs.declared.start.Start.{Start}
 use Rattle.answer_laws.specs.Answers.{AnswerIsOne, RoomLeavesOne, UnaskedIsFree}
@@ -79,6 +81,11 @@ told_with file faults read =
 abbrev faults_of : Program → List ℕ → List Fault
 faults_of program input = (scan program.checks program.always program.file.asked.var_scope input program.vars).faults
 
+-- what is told by a program, or by the refusal in its place
+abbrev verdict_by : Result Program Stop → Reading → Result Report Stop
+verdict_by (Ok program) read = verdict_read program (input_given program.file.made read)
+verdict_by (Err stop) read = Err stop
+
 told_so : (program : Program) (read : Reading) → verdict_read program read ≡ told_with program.file (faults_of program) read
 told_so program read = refl
 
@@ -109,18 +116,18 @@ module _ (file : CheckFile) (known : Formats) where
       → HasPatterns (opts_of file.asked) (length file.directives) known (bodies file) one later
       → HasPatterns (opts_of file.asked) (length file.directives) known (bodies file) other last
       → IsDefinedWith file one fresh end → IsDefinedWith file other fresh more
-      → found_by end read ≡ found_by more read
+      → verdict_by end read ≡ verdict_by more read
   defined_one one other later last (Ok fresh) end more read is again ends mores =
-      ap (λ p. found_by p read) ends ∙ patterns_one one other later last fresh (input_given file.made read) is again
-      ∙ sym (ap (λ p. found_by p read) mores)
+      ap (λ p. verdict_by p read) ends ∙ patterns_one one other later last fresh (input_given file.made read) is again
+      ∙ sym (ap (λ p. verdict_by p read) mores)
   defined_one one other later last (Err refusal) end more read is again ends mores =
-      ap (λ p. found_by p read) (ends ∙ sym mores)
+      ap (λ p. verdict_by p read) (ends ∙ sym mores)
 
   -- and what the patterns lead to, or their refusal
   compiled_one : (one other : Result Patterns Stop) (fresh : Result (List Binding) Refusal)
       (end more : Result Program Stop) (read : Reading) → ArePatterns file known one → ArePatterns file known other
       → LeadsTo one (λ p. IsDefinedWith file p fresh) end → LeadsTo other (λ p. IsDefinedWith file p fresh) more
-      → found_by end read ≡ found_by more read
+      → verdict_by end read ≡ verdict_by more read
   compiled_one (Ok one) (Ok other) fresh end more read is again ends mores =
       defined_one one other is.0 again.0 fresh end more read is.1 again.1 ends mores
   compiled_one (Ok one) (Err (Refused refusal)) fresh end more read is (number, fault, later, refused, same) ends mores =
@@ -134,29 +141,47 @@ module _ (file : CheckFile) (known : Formats) where
       let one = refusal_is_one (opts_of file.asked) 0 known (bodies file) number index fault why later last refused
       denied in
       let equal : refusal ≡ another = same ∙ (λ i. bad_body file (one.0 i) (one.1 i)) ∙ sym alike in
-      ap (λ p. found_by p read) (ends ∙ ap (λ r. Err (Refused r)) equal ∙ sym mores)
+      ap (λ p. verdict_by p read) (ends ∙ ap (λ r. Err (Refused r)) equal ∙ sym mores)
   compiled_one (Err (NotReadable name)) other fresh end more read is again ends mores = absurd is
   compiled_one (Ok one) (Err (NotReadable name)) fresh end more read is again ends mores = absurd again
   compiled_one (Err (Refused refusal)) (Err (NotReadable name)) fresh end more read is again ends mores = absurd again
 
 file_one : (file : CheckFile) (end more : Result Program Stop) (read : Reading) → IsCompiledTo file end
-    → IsCompiledTo file more → found_by end read ≡ found_by more read
+    → IsCompiledTo file more → verdict_by end read ≡ verdict_by more read
 file_one file end more read (one, is, ends) (other, again, mores) =
     compiled_one file (defined_by file.asked.defines).known one other (fresh_of (defined_by file.asked.defines).fresh)
     end more read is again ends mores
 
 found_one : (step : Result CheckFile Stop) (end more : Result Program Stop) (read : Reading)
-    → LeadsTo step IsCompiledTo end → LeadsTo step IsCompiledTo more → found_by end read ≡ found_by more read
+    → LeadsTo step IsCompiledTo end → LeadsTo step IsCompiledTo more → verdict_by end read ≡ verdict_by more read
 found_one (Ok file) end more read ends mores = file_one file end more read ends mores
-found_one (Err stop) end more read ends mores = ap (λ p. found_by p read) (ends ∙ sym mores)
+found_one (Err stop) end more read ends mores = ap (λ p. verdict_by p read) (ends ∙ sym mores)
 
 -- ---- answers
 
+-- two plans to check that words and a reading come to
+checked_one : (start : Start) (file read : Reading) (plan more : Result Plan Stop) → IsChecking start file plan
+    → IsChecking start file more → found_by plan read ≡ found_by more read
+checked_one start file read (Ok (plans.Check one)) (Ok (plans.Check other)) is again =
+    found_one (check_file_read start file) (Ok one) (Ok other) read is again
+checked_one start file read (Ok (plans.Check one)) (Err stop) is again =
+    found_one (check_file_read start file) (Ok one) (Err stop) read is again
+checked_one start file read (Err stop) (Ok (plans.Check other)) is again =
+    found_one (check_file_read start file) (Err stop) (Ok other) read is again
+checked_one start file read (Err stop) (Err halt) is again =
+    found_one (check_file_read start file) (Err stop) (Err halt) read is again
+checked_one start file read (Ok (plans.Make making old)) more is again = absurd is
+checked_one start file read (Ok (plans.Check one)) (Ok (plans.Make making old)) is again = absurd again
+checked_one start file read (Err stop) (Ok (plans.Make making old)) is again = absurd again
+
 pub answer_is_one : AnswerIsOne
-answer_is_one (Ok job) file read one other (program, (is, told)) (another, (again, other_told)) =
-    let step = check_file_read (start_of job) (checks_given (start_of job).made file) in
-    told ∙ ap answer_to (found_one step program another read is again) ∙ sym other_told
-answer_is_one (Err fault) file read one other (program, (is, told)) (another, (again, other_told)) =
+answer_is_one (Ok (jobs.Check asked)) file read one other (plan, (is, told)) (more, (again, other_told)) =
+    told ∙ ap answer_to (checked_one (start_with asked) file read plan more is again) ∙ sym other_told
+answer_is_one (Ok (jobs.Generate count)) file read one other (plan, (is, told)) (more, (again, other_told)) =
+    told ∙ ap answer_to (checked_one (start_made count) (Whole (checks_text count)) read plan more is again) ∙ sym other_told
+answer_is_one (Ok (jobs.Make making)) file read one other (plan, (is, told)) (more, (again, other_told)) =
+    told ∙ ap (λ p. answer_to (found_by p read)) (is ∙ sym again) ∙ sym other_told
+answer_is_one (Err fault) file read one other (plan, (is, told)) (more, (again, other_told)) =
     told ∙ ap (λ p. answer_to (found_by p read)) (is ∙ sym again) ∙ sym other_told
 
 -- ---- what isn't asked for
@@ -195,18 +220,24 @@ made_read start bytes end =
 
 -- where the texts are made, what is found is the same whatever was read
 found_of_made : (count : ℕ) (program : Result Program Stop) (read another : Reading) → IsMade (Some count) program
-    → found_by program read ≡ found_by program another
+    → verdict_by program read ≡ verdict_by program another
 found_of_made count (Ok program) read another made =
     ap (verdict_read program) (ap (λ m. input_given m read) made ∙ sym (ap (λ m. input_given m another) made))
 found_of_made count (Err stop) read another made = refl
+
+planned_made : (count : ℕ) (plan : Result Plan Stop) (read another : Reading)
+    → IsChecking (start_made count) (Whole (checks_text count)) plan → found_by plan read ≡ found_by plan another
+planned_made count (Ok (plans.Check program)) read another is =
+    found_of_made count (Ok program) read another (made_read (start_made count) (checks_text count) (Ok program) is)
+planned_made count (Ok (plans.Make making old)) read another is = absurd is
+planned_made count (Err stop) read another is = refl
 
 pub unasked_is_free : UnaskedIsFree
 unasked_is_free = record {
   refused = λ fault file read other another answer is.
       (is.0, (is.1.0, is.1.1 ∙ ap answer_to (ap (λ p. found_by p read) is.1.0 ∙ sym (ap (λ p. found_by p another) is.1.0))));
   made = λ count file read other another answer is.
-      let begun = made_read (start_of (Generate count)) (checks_text count) is.0 is.1.0 in
-      (is.0, (is.1.0, is.1.1 ∙ ap answer_to (found_of_made count is.0 read another begun)));
+      (is.0, (is.1.0, is.1.1 ∙ ap answer_to (planned_made count is.0 read another is.1.0)));
 }
 
 pub room_leaves_one : RoomLeavesOne

@@ -29,7 +29,16 @@ Options:
                               format and a comma may stand: -D#%x,N=11
   --enable-var-scope          variables without a $ end with their LABEL block
   --allow-empty               an empty input is taken
-  --dump-input=never          no other value is taken
+  --dump-input=WHEN           show the input with what failed: never, as by
+                              default, fail or always
+  --dump-input-context=N      with fail, N lines on either side of one with a
+                              mark; 5 by default
+  --dump-input-filter=FILTER  show all lines, or those of an error: all or error
+  --make-checks               write a check file that takes this input and no
+                              other; without FILE
+  --make-lead=TEXT            what stands before each directive that is made
+  --refresh=FILE              the same, behind the lines of FILE that hold no
+                              directive; this is the only FILE
   --generate=N                time a made run of N lines; no file is read
   -h, --help                  print this, where it is the only word
   --version                   print the version, where it is the only word

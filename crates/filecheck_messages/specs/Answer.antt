@@ -1,7 +1,8 @@
 -- What is told of a run, and its status: a row for each refusal, in the order of docs/PROFILE.md.
 -- After LLVM Command Guide, FileCheck: 0 where the input matches, 1 where it doesn't. Own rules: the texts, and the
 -- statuses 2 for a refusal and 3 for a fault of reading.
-use Rattle.std.specs.Prelude.{ℕ, ◌==◌, if◌then◌else◌, List, [], ◌∷◌, ◌++◌, codes, Result, Ok, Err}
+use Rattle.std.specs.Prelude.{ℕ, ◌==◌, if◌then◌else◌, List, [], ◌∷◌, ◌++◌, codes, Option, Some, None, Result, Ok, Err}
+use Rattle.std.specs.Fmt.{decimal}
 use Rattle.check_lines.specs.declared.fault.LineFault.{LineFault}
 use Rattle.check_lines.specs.declared.fault.LineFault.TheVariants as line
 use Rattle.ere_tree.specs.declared.fault.EreKind.{EreKind}
@@ -13,13 +14,15 @@ use Rattle.pattern_parse.specs.declared.fault.PatKind.{PatKind}
 use Rattle.pattern_parse.specs.declared.fault.PatKind.TheVariants as pat
 use Rattle.filecheck_messages.specs.Message.{made_text, placed, told, unplaced}
 use Rattle.filecheck_messages.specs.declared.refusal.Refusal.{Refusal}
-use Rattle.filecheck_messages.specs.declared.refusal.Refusal.TheVariants.{Words, NotFound, TooLarge, BadLine, NoChecks, UnusedPrefix, BadBody, BadDefine, IsEmpty}
+use Rattle.filecheck_messages.specs.declared.refusal.Refusal.TheVariants.{Words, NotFound, TooLarge, BadLine, NoChecks, UnusedPrefix, BadBody, BadDefine, IsEmpty, BadMake}
 use Rattle.filecheck_messages.specs.declared.refusal.Stop.{Stop}
 use Rattle.filecheck_messages.specs.declared.refusal.Stop.TheVariants.{Refused, NotReadable}
 use Rattle.filecheck_messages.specs.declared.finding.Finding.{Finding}
 use Rattle.filecheck_messages.specs.declared.report.Made.{Made as Counts}
 use Rattle.filecheck_messages.specs.declared.report.Report.{Report}
-use Rattle.filecheck_messages.specs.declared.report.Report.TheVariants.{Found, Made}
+use Rattle.filecheck_messages.specs.declared.report.Report.TheVariants.{Found, Made, Checks}
+use Rattle.make_checks.specs.declared.fault.MakeFault.{MakeFault}
+use Rattle.make_checks.specs.declared.fault.MakeFault.TheVariants as make
 use Rattle.tt_run.specs.declared.answer.Answer.{Answer}
 
 -- what is told of words
@@ -71,6 +74,12 @@ body_text pat.SameLineNumber = codes "number defined on the same line"
 body_text pat.VariableInLabel = codes "variable in a label"
 body_text pat.TooManyReferences = codes "more than nine references"
 
+-- what is told of a check file that isn't made
+abbrev pub make_text : MakeFault → List ℕ
+make_text make.BadLead = unplaced (codes "bad lead")
+make_text (make.LineTooLong line) = unplaced (codes "line " ++ decimal line ++ codes " is too long")
+make_text make.TooLarge = unplaced (codes "check file would be too large")
+
 -- the table
 abbrev pub text_of : Refusal → List ℕ
 text_of (Words fault) = words_text fault
@@ -82,6 +91,7 @@ text_of (UnusedPrefix prefix) = unplaced (codes "prefix '" ++ prefix ++ codes "'
 text_of (BadBody kind spot) = placed spot (codes "error: " ++ body_text kind)
 text_of (BadDefine value) = unplaced (codes "bad definition '" ++ value ++ codes "'")
 text_of (IsEmpty name) = unplaced (codes "'" ++ name ++ codes "' is empty")
+text_of (BadMake fault) = make_text fault
 
 -- an answer that tells something on the error stream alone
 abbrev pub telling : ℕ → List ℕ → Answer
@@ -97,13 +107,23 @@ abbrev pub verdict_row : List Finding → Answer
 verdict_row [] = telling 0 []
 verdict_row (finding ∷ later) = telling 1 (told (finding ∷ later))
 
+-- behind it stands the annotated input, if there is one
+abbrev pub with_dump : Answer → Option (List ℕ) → Answer
+with_dump answer None = answer
+with_dump answer (Some rows) = record { out = answer.out; err = answer.err ++ rows; status = answer.status }
+
 -- the same of checks and an input that were made, of which counts are told
 abbrev pub made_row : Counts → Answer
 made_row made = record { out = made_text made; err = []; status = if made.faults == 0 then 0 else 1 }
 
+-- a check file that is made is written
+abbrev pub text_row : List ℕ → Answer
+text_row text = record { out = text; err = []; status = 0 }
+
 abbrev pub report_row : Report → Answer
-report_row (Found findings) = verdict_row findings
+report_row (Found findings rows) = with_dump (verdict_row findings) rows
 report_row (Made made) = made_row made
+report_row (Checks text) = text_row text
 
 -- what is told of a run
 abbrev pub answer_to : Result Report Stop → Answer

@@ -1,16 +1,18 @@
 //! The table: what is told of each refusal, and of a verdict.
-ghost use Rattle.std.specs.Prelude.{◌≡◌, ◌≤◌, ◌++◌, IfOk, codes};
-ghost use Rattle.filecheck_messages.specs.Answer.{answer_to, body_text, line_text, made_row, regex_text, report_row, row_of, telling, text_of, verdict_row, words_text};
+ghost use Rattle.std.specs.Prelude.{◌≡◌, ◌≤◌, ◌++◌, IfOk, Some, codes};
+ghost use Rattle.filecheck_messages.specs.Answer.{answer_to, body_text, line_text, made_row, make_text, regex_text, report_row, row_of, telling, text_of, text_row, verdict_row, with_dump, words_text};
 ghost use Rattle.filecheck_messages.specs.Message.{placed, unplaced};
 
+use crate::dumped::Dumped;
 use crate::finding::Finding;
-use crate::message::{made_text, placed, told, unplaced};
+use crate::message::{append_number, made_text, placed, told, unplaced};
 use crate::refusal::{Refusal, Stop};
 use crate::report::{Made, Report};
 use crate::spot::Spot;
 use check_lines::LineFault;
 use ere_tree::EreKind;
 use filecheck_words::WordsFault;
+use make_checks::MakeFault;
 use pattern_parse::PatKind;
 use std::alloc::Global;
 use tt_base::{Bytes, NoMemory};
@@ -32,9 +34,44 @@ fn report_row(alloc: Global, report: &Report) -> Result<Answer, NoMemory>
     ensures small { IfOk result (λ answer. answer.status ≤ 3) }
 {
     match report {
-        Report::Found(findings) => verdict_row(alloc, findings.as_slice()),
+        Report::Found(findings, dumped) => {
+            let answer = verdict_row(alloc, findings.as_slice())?;
+            match dumped {
+                Some(dumped) => with_dump(alloc, answer, dumped),
+                None => Ok(answer),
+            }
+        }
         Report::Made(made) => made_row(alloc, *made),
+        Report::Checks(text) => text_row(alloc, text.as_slice()),
     }
+}
+
+/// An answer with the annotated input behind its messages.
+fn with_dump(alloc: Global, answer: Answer, dumped: &Dumped) -> Result<Answer, NoMemory>
+    requires small { answer.status ≤ 3 }
+    ensures value { IfOk result (λ whole. whole ≡ with_dump answer (Some dumped.now)) }
+    ensures small { IfOk result (λ whole. whole.status ≤ 3) }
+{
+    let Answer {
+        out,
+        mut err,
+        status,
+    } = answer;
+    let rows = dumped.bytes(alloc)?;
+    err.append(rows.as_slice())?;
+    Ok(Answer { out, err, status })
+}
+
+/// The answer of a check file that is made.
+fn text_row(alloc: Global, text: &[u8]) -> Result<Answer, NoMemory>
+    ensures value { IfOk result (λ answer. answer ≡ text_row text.now) }
+    ensures small { IfOk result (λ answer. answer.status ≤ 3) }
+{
+    Ok(Answer {
+        out: Bytes::from_slice(alloc, text)?,
+        err: Bytes::new(alloc),
+        status: 0,
+    })
 }
 
 fn verdict_row(alloc: Global, findings: &[Finding]) -> Result<Answer, NoMemory>
@@ -84,6 +121,22 @@ fn text_of(alloc: Global, refusal: &Refusal) -> Result<Bytes, NoMemory>
         Refusal::BadBody(kind, spot) => placed_fault(alloc, spot, body_text(*kind)),
         Refusal::BadDefine(value) => named(alloc, b"bad definition '", value, b"'"),
         Refusal::IsEmpty(name) => named(alloc, b"'", name, b"' is empty"),
+        Refusal::BadMake(fault) => make_text(alloc, *fault),
+    }
+}
+
+/// What is told of a check file that isn't made.
+fn make_text(alloc: Global, fault: MakeFault) -> Result<Bytes, NoMemory>
+    ensures { IfOk result (λ text. text ≡ make_text fault) }
+{
+    match fault {
+        MakeFault::BadLead => unplaced(alloc, b"bad lead"),
+        MakeFault::LineTooLong(line) => {
+            let mut number = Bytes::new(alloc);
+            append_number(alloc, &mut number, line)?;
+            named(alloc, b"line ", &number, b" is too long")
+        }
+        MakeFault::TooLarge => unplaced(alloc, b"check file would be too large"),
     }
 }
 

@@ -3,6 +3,7 @@
 #![tactic(auto)]
 
 mod answer;
+mod dumped;
 mod finding;
 mod message;
 mod refusal;
@@ -10,6 +11,7 @@ mod report;
 mod spot;
 
 pub use answer::answer_to;
+pub use dumped::Dumped;
 pub use finding::{Finding, Note, Remark};
 pub use refusal::{Refusal, StepFail, Stop, refuse, settled};
 pub use report::{Made, Report};

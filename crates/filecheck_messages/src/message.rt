@@ -182,7 +182,7 @@ pub fn unplaced(alloc: Global, text: &[u8]) -> Result<Bytes, NoMemory>
     Ok(message)
 }
 
-fn append_number(alloc: Global, message: &mut Bytes, number: u32) -> Result<(), NoMemory>
+pub(crate) fn append_number(alloc: Global, message: &mut Bytes, number: u32) -> Result<(), NoMemory>
     ensures { OnOk result (message.new ≡ message.old ++ decimal number) }
 {
     match number.to_string(alloc) {

@@ -7,6 +7,7 @@ ghost use Rattle.filecheck_messages.specs.declared.refusal.StepFail.TheVariants.
 use crate::spot::Spot;
 use check_lines::LineFault;
 use filecheck_words::WordsFault;
+use make_checks::MakeFault;
 use pattern_parse::PatKind;
 use tt_base::{Bytes, NoMemory};
 
@@ -31,6 +32,8 @@ pub enum Refusal {
     BadDefine(Bytes),
     /// The input has no byte.
     IsEmpty(Bytes),
+    /// No check file is made from the input, as with `--make-lead=a`.
+    BadMake(MakeFault),
 }
 
 /// Why a run has no verdict.

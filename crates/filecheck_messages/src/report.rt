@@ -1,6 +1,7 @@
-//! What a run with a verdict tells.
+//! What a run tells that wasn't refused.
+use crate::dumped::Dumped;
 use crate::finding::Finding;
-use tt_base::Items;
+use tt_base::{Bytes, Items};
 
 /// What is told of checks and an input that were made.
 #[derive(Clone, Copy, Debug, PartialEq, Eq)]
@@ -11,10 +12,12 @@ pub struct Made {
     pub faults: u64,
 }
 
-/// What a run with a verdict tells.
+/// What a run tells that wasn't refused.
 #[derive(Drop, Debug)]
 pub enum Report {
-    /// Each directive that isn't met, in order.
-    Found(Items<Finding>),
+    /// Each directive that isn't met, in order, and the annotated input where it is due.
+    Found(Items<Finding>, Option<Dumped>),
     Made(Made),
+    /// A check file that was made from the input.
+    Checks(Bytes),
 }

@@ -1,6 +1,6 @@
 //! What words of `filecheck` ask for. Words stand between `|`.
 use crate::objects::words_of;
-use filecheck_words::{Asked, Input, Job, WordsFail, asked_by};
+use filecheck_words::{Asked, Dump, Input, Job, Making, When, WordsFail, asked_by};
 use std::alloc::Global;
 use std::test::Fail;
 use tt_base::{Bytes, NoMemory};
@@ -29,6 +29,37 @@ fn add_flags(text: &mut Bytes, asked: &Asked) -> Result<(), NoMemory> {
     add_flag(text, asked.may_lack, b"m")
 }
 
+/// A letter for each annotated input: none for never.
+fn add_dump(text: &mut Bytes, dump: Dump) -> Result<(), NoMemory> {
+    match dump.when {
+        When::Never => return Ok(()),
+        When::Fail => text.append(b" fail")?,
+        When::Always => text.append(b" always")?,
+    }
+    add_flag(text, dump.all, b"+")?;
+    add_flag(text, dump.context == 5, b"5")?;
+    add_flag(text, dump.context == 1_000_000, b"M")
+}
+
+/// What is asked for, where a check file is to be made, as a line.
+fn making_told(alloc: Global, making: &Making) -> Result<Bytes, NoMemory> {
+    let mut text = Bytes::from_slice(alloc, b"make ")?;
+    match &making.old {
+        Some(name) => text.append(name.as_slice())?,
+        None => text.append(b"new")?,
+    }
+    text.append(b" ")?;
+    match &making.input {
+        Input::Standard => text.append(b"<stdin>")?,
+        Input::Named(name) => text.append(name.as_slice())?,
+    }
+    text.append(b" [")?;
+    text.append(making.lead.as_slice())?;
+    text.append(b"]")?;
+    add_flag(&mut text, making.allow_empty, b"e")?;
+    Ok(text)
+}
+
 /// What is asked for, as a line.
 fn asked_told(alloc: Global, asked: &Asked) -> Result<Bytes, NoMemory> {
     let mut text = Bytes::from_slice(alloc, asked.name.as_slice())?;
@@ -42,6 +73,7 @@ fn asked_told(alloc: Global, asked: &Asked) -> Result<Bytes, NoMemory> {
     add_list(&mut text, asked.prefixes.comments.as_slice())?;
     add_list(&mut text, asked.implicit.as_slice())?;
     add_list(&mut text, asked.defines.as_slice())?;
+    add_dump(&mut text, asked.dump)?;
     Ok(text)
 }
 
@@ -55,6 +87,7 @@ fn told(alloc: Global, line: &str) -> Result<Bytes, NoMemory> {
         Ok(Job::Generate(3)) => Bytes::from_slice(alloc, b"three"),
         Ok(Job::Generate(20_000)) => Bytes::from_slice(alloc, b"most"),
         Ok(Job::Generate(_)) => Bytes::from_slice(alloc, b"some"),
+        Ok(Job::Make(making)) => making_told(alloc, &making),
         Err(WordsFail::Bad(_)) => Bytes::from_slice(alloc, b"refused"),
         Err(WordsFail::NoMemory) => Err(NoMemory),
     }
@@ -72,7 +105,18 @@ t.txt|--implicit-check-not=a|--check-prefix=CHECK => t.txt <stdin>  [CHECK,] [CO
 t.txt|--implicit-check-not=a|--check-prefixes=A,B|--comment-prefixes=C => t.txt <stdin>  [A,B,] [C,] [a,] []
 --generate=3 => three
 -generate|20000 => most
---|--generate => --generate <stdin>  [CHECK,] [COM,RUN,] [] []";
+--|--generate => --generate <stdin>  [CHECK,] [COM,RUN,] [] []
+t.txt|--dump-input=fail => t.txt <stdin>  [CHECK,] [COM,RUN,] [] [] fail5
+--dump-input|always|t.txt => t.txt <stdin>  [CHECK,] [COM,RUN,] [] [] always+5
+t.txt|-dump-input-filter|all|--dump-input=fail|-dump-input-context=1000000 => t.txt <stdin>  [CHECK,] [COM,RUN,] [] [] fail+M
+t.txt|--dump-input=always|--dump-input-filter=error|--dump-input-context|0 => t.txt <stdin>  [CHECK,] [COM,RUN,] [] [] always
+t.txt|--dump-input-filter=all => t.txt <stdin>  [CHECK,] [COM,RUN,] [] []
+--make-checks => make new <stdin> []
+--make-checks|-make-checks|--input-file=in.txt|--make-lead|; |--allow-empty => make new in.txt [; ]e
+--refresh=t.txt|--make-lead= => make t.txt <stdin> []
+--refresh|t.txt|--make-checks => refused
+--make-lead=x => refused
+--make-checks|t.txt => refused";
 
 /// Whether the words before the arrow of a row ask for what stands behind it.
 fn is_asked(alloc: Global, row: &str) -> Result<bool, Fail> {

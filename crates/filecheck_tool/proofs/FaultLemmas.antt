@@ -15,16 +15,21 @@ use Rattle.filecheck_words.specs.declared.checking.Input.TheVariants.{Standard, 
 use Rattle.filecheck_words.specs.declared.fault.WordsFault.{WordsFault}
 use Rattle.filecheck_words.specs.declared.checking.Asked.{Asked}
 use Rattle.filecheck_words.specs.declared.job.Job.{Job}
-use Rattle.filecheck_words.specs.declared.job.Job.TheVariants.{Check, Generate}
+use Rattle.filecheck_words.specs.declared.job.Job.TheVariants as jobs
+use Rattle.filecheck_words.specs.declared.making.Making.{Making}
+use Rattle.filecheck_tool.specs.Making.{checks_made, made_behind, made_read}
+use Rattle.filecheck_tool.specs.declared.plan.Plan.{Plan}
+use Rattle.filecheck_tool.specs.declared.plan.Plan.TheVariants.{Check, Make}
+use Rattle.make_checks.specs.Made.{refreshed}
 use Rattle.generator.specs.Generated.{checks_text, input_text}
 use Rattle.filecheck_messages.specs.Answer.{answer_to}
-use Rattle.filecheck_tool.specs.Answer.{checks_asked, input_asked, input_given, unless_made}
+use Rattle.filecheck_tool.specs.Answer.{IsChecking, checks_asked, found_in, input_asked, input_given, make_plan, old_read, unless_made}
 use Rattle.filecheck_tool.specs.CheckFile.{check_file_in}
 use Rattle.check_program.specs.declared.program.Program.{Program as Patterns}
 use Rattle.filecheck_tool.specs.Program.{ArePatterns, IsCompiledTo, IsDefinedWith, IsProgram, fresh_of, program_of}
 use Rattle.filecheck_messages.specs.Refusal.{◌>>=◌, LeadsTo, accepted}
-use Rattle.filecheck_tool.specs.Run.{FileAsked, InputAsked, OutcomeFrom, ProgramFrom}
-use Rattle.filecheck_tool.specs.Start.{start_of}
+use Rattle.filecheck_tool.specs.Run.{FileAsked, InputAsked, OutcomeFrom, PlanFrom}
+use Rattle.filecheck_tool.specs.Start.{start_made, start_with}
 use Rattle.filecheck_tool.specs.Verdict.{filled, input_name, verdict, verdict_read}
 use Rattle.filecheck_tool.specs.declared.check_file.CheckFile.{CheckFile}
 use Rattle.filecheck_tool.specs.declared.program.Program.{Program}
@@ -32,7 +37,7 @@ use Rattle.filecheck_messages.specs.declared.refusal.Refusal.{Refusal}
 use Rattle.filecheck_messages.specs.declared.refusal.Stop.{Stop}
 use Rattle.filecheck_messages.specs.declared.refusal.Stop.TheVariants.{Refused, NotReadable}
 use Rattle.filecheck_messages.specs.declared.report.Report.{Report}
-use Rattle.filecheck_messages.specs.declared.report.Report.TheVariants.{Found, Made}
+use Rattle.filecheck_messages.specs.declared.report.Report.TheVariants.{Found, Made, Checks}
 use Rattle.filecheck_tool.specs.declared.start.Start.{Start}
 
 -- a step stopped at a fault of reading
@@ -51,6 +56,10 @@ no_fault_then : {X Y : Type 0} (step : Result X Refusal) (next : X → Result Y 
     → IsFault (accepted step >>= next) → ⊥
 no_fault_then (Ok x) next calm is = calm x is
 no_fault_then (Err refusal) next calm is = is
+
+no_fault_step : {X : Type 0} (step : Result X Refusal) → IsFault (accepted step) → ⊥
+no_fault_step (Ok x) is = is
+no_fault_step (Err refusal) is = is
 
 -- patterns and definitions are none
 patterns_calm : (file : CheckFile) (patterns : Result Patterns Stop) (end : Result Program Stop)
@@ -92,10 +101,10 @@ asked_later : (files : Files) (limit : ℕ) (name : Option (List ℕ)) (file : R
 asked_later files limit (Some name) file is = file_later files limit name file is
 asked_later files limit None file is = inl is.0
 
-program_later : (files : Files) (limit : ℕ) (job : Result Job WordsFault) (program : Result Program Stop)
-    → ProgramFrom files limit job program → IsLater files.before files.now
-program_later files limit (Err fault) program from = inl from.0.0
-program_later files limit (Ok job) program (file, read, is) = asked_later files limit (checks_asked job) file read
+plan_later : (files : Files) (limit : ℕ) (job : Result Job WordsFault) (plan : Result Plan Stop)
+    → PlanFrom files limit job plan → IsLater files.before files.now
+plan_later files limit (Err fault) plan from = inl from.0.0
+plan_later files limit (Ok job) plan (file, read, is) = asked_later files limit (checks_asked job) file read
 
 input_later : (files : Files) (input : Source) (limit : ℕ) (asked : Option Input) (read : Reading)
     → InputAsked files input limit asked read → IsLater files.before files.now
@@ -103,11 +112,10 @@ input_later files input limit None read is = inl is.0.0
 input_later files input limit (Some Standard) read is = inl is.0.0
 input_later files input limit (Some (Named name)) read is = file_later files limit name read is.1
 
-outcome_later : (files : Files) (input : Source) (limit : ℕ) (program : Result Program Stop) (outcome : Result Report Stop)
-    → OutcomeFrom files input limit program outcome → IsLater files.before files.now
+outcome_later : (files : Files) (input : Source) (limit : ℕ) (plan : Result Plan Stop) (outcome : Result Report Stop)
+    → OutcomeFrom files input limit plan outcome → IsLater files.before files.now
 outcome_later files input limit (Err stop) outcome from = inl from.0.0
-outcome_later files input limit (Ok program) outcome (read, is, same) =
-    input_later files input limit (input_asked program.file) read is
+outcome_later files input limit (Ok plan) outcome (read, is, same) = input_later files input limit (input_asked plan) read is
 
 -- ---- what counted a fault
 
@@ -125,88 +133,117 @@ whole_checks_calm start bytes program leads =
     leads_calm (check_file_in start (canon start.asked.strict bytes)) IsCompiledTo program
     (λ file compiled. compiled_calm file program compiled) leads
 
--- where a program stops at a fault, the files counted it
+-- where a plan stops at a fault, the files counted it
 fault_of_checks : (files : Files) (limit : ℕ) (asked : Asked) (file : Reading) (program : Result Program Stop)
-    → FileRead files limit asked.name file → IsProgram (start_of (Check asked)) file program → IsFault program → FilesFailed files
+    → FileRead files limit asked.name file → IsProgram (start_with asked) file program → IsFault program → FilesFailed files
 fault_of_checks files limit asked (Whole bytes) program read leads is =
-    absurd (whole_checks_calm (start_of (Check asked)) bytes program leads is)
+    absurd (whole_checks_calm (start_with asked) bytes program leads is)
 fault_of_checks files limit asked Missing program read same is = absurd (subst IsFault same is)
 fault_of_checks files limit asked TooLarge program read same is = absurd (subst IsFault same is)
 fault_of_checks files limit asked Failed program read same is = read
 
-fault_of_files : (files : Files) (limit : ℕ) (job : Result Job WordsFault) (program : Result Program Stop)
-    → ProgramFrom files limit job program → IsFault program → FilesFailed files
-fault_of_files files limit (Err fault) program from is = absurd (subst IsFault from.1 is)
-fault_of_files files limit (Ok (Check asked)) program (file, read, leads) is =
-    fault_of_checks files limit asked file program read leads is
-fault_of_files files limit (Ok (Generate count)) program (file, read, leads) is =
-    absurd (whole_checks_calm (start_of (Generate count)) (checks_text count) program leads is)
+fault_of_old : (files : Files) (limit : ℕ) (making : Making) (old : Option (List ℕ)) (file : Reading)
+    → FileAsked files limit old file → IsFault (old_read old file >>= (λ old. Ok (Make making old))) → FilesFailed files
+fault_of_old files limit making None file read is = absurd is
+fault_of_old files limit making (Some name) (Whole bytes) read is = absurd is
+fault_of_old files limit making (Some name) Missing read is = absurd is
+fault_of_old files limit making (Some name) TooLarge read is = absurd is
+fault_of_old files limit making (Some name) Failed read is = read
+
+fault_of_files : (files : Files) (limit : ℕ) (job : Result Job WordsFault) (plan : Result Plan Stop)
+    → PlanFrom files limit job plan → IsFault plan → FilesFailed files
+fault_of_files files limit job (Ok plan) from is = absurd is
+fault_of_files files limit (Err fault) (Err stop) from is = absurd (subst IsFault from.1 is)
+fault_of_files files limit (Ok (jobs.Check asked)) (Err stop) (file, read, leads) is =
+    fault_of_checks files limit asked file (Err stop) read leads is
+fault_of_files files limit (Ok (jobs.Generate count)) (Err stop) (file, read, leads) is =
+    absurd (whole_checks_calm (start_made count) (checks_text count) (Err stop) leads is)
+fault_of_files files limit (Ok (jobs.Make making)) (Err stop) (file, read, same) is =
+    fault_of_old files limit making making.old file read (subst IsFault same is)
 
 whole_is_none : (program : Program) (bytes : List ℕ) → IsFault (verdict_read program (Whole bytes)) → ⊥
 whole_is_none program bytes =
     no_fault_then (filled program.file.asked.allow_empty (input_name program.file.asked.input) bytes)
     (λ input. Ok (verdict program (length input) (canon program.file.asked.strict input))) (λ input is. is)
 
--- where the verdict on an input is a fault, the files or the input counted it
-failed_input : (files : Files) (input : Source) (limit : ℕ) (program : Program) (place : Input) (read : Reading)
-    → InputAsked files input limit (Some place) read → IsFault (verdict_read program read) → FilesFailed files ⊎ InputFailed input
-failed_input files input limit program place (Whole bytes) is fault = absurd (whole_is_none program bytes fault)
-failed_input files input limit program place Missing is fault = absurd fault
-failed_input files input limit program place TooLarge is fault = absurd fault
-failed_input files input limit program Standard Failed is fault = inr is.1
-failed_input files input limit program (Named name) Failed is fault = inl is.1
+made_is_none : (making : Making) (old bytes : List ℕ) → IsFault (made_read making old (Whole bytes)) → ⊥
+made_is_none making old bytes =
+    no_fault_then (filled making.allow_empty (input_name making.input) bytes) (made_behind making old)
+    (λ output. no_fault_step (checks_made (refreshed old output making.lead)))
 
-failed_given : (files : Files) (input : Source) (limit : ℕ) (program : Program) (made : Option ℕ) (place : Input) (read : Reading)
+-- where what is told of an input is a fault, the files or the input counted it
+failed_input : (files : Files) (input : Source) (limit : ℕ) (told : Reading → Result Report Stop) (place : Input) (read : Reading)
+    → ((bytes : List ℕ) → IsFault (told (Whole bytes)) → ⊥) → (IsFault (told Missing) → ⊥) → (IsFault (told TooLarge) → ⊥)
+    → InputAsked files input limit (Some place) read → IsFault (told read) → FilesFailed files ⊎ InputFailed input
+failed_input files input limit told place (Whole bytes) whole missing large is fault = absurd (whole bytes fault)
+failed_input files input limit told place Missing whole missing large is fault = absurd (missing fault)
+failed_input files input limit told place TooLarge whole missing large is fault = absurd (large fault)
+failed_input files input limit told Standard Failed whole missing large is fault = inr is.1
+failed_input files input limit told (Named name) Failed whole missing large is fault = inl is.1
+
+failed_checked : (files : Files) (input : Source) (limit : ℕ) (program : Program) (made : Option ℕ) (place : Input) (read : Reading)
     → InputAsked files input limit (unless_made made place) read → IsFault (verdict_read program (input_given made read))
     → FilesFailed files ⊎ InputFailed input
-failed_given files input limit program (Some count) place read is fault = absurd (whole_is_none program (input_text count) fault)
-failed_given files input limit program None place read is fault = failed_input files input limit program place read is fault
+failed_checked files input limit program (Some count) place read is fault =
+    absurd (whole_is_none program (input_text count) fault)
+failed_checked files input limit program None place read is fault =
+    failed_input files input limit (verdict_read program) place read (whole_is_none program) (λ is. is) (λ is. is) is fault
 
--- where the outcome is a fault, the files or the input counted it, or the program was one
-fault_of_input : (files : Files) (input : Source) (limit : ℕ) (program : Result Program Stop) (outcome : Result Report Stop)
-    → OutcomeFrom files input limit program outcome → IsFault outcome
-    → IsFault program ⊎ FilesFailed files ⊎ InputFailed input
+failed_plan : (files : Files) (input : Source) (limit : ℕ) (plan : Plan) (read : Reading)
+    → InputAsked files input limit (input_asked plan) read → IsFault (found_in plan read) → FilesFailed files ⊎ InputFailed input
+failed_plan files input limit (Check program) read is fault =
+    failed_checked files input limit program program.file.made program.file.asked.input read is fault
+failed_plan files input limit (Make making old) read is fault =
+    failed_input files input limit (made_read making old) making.input read (made_is_none making old) (λ is. is) (λ is. is) is fault
+
+-- where the outcome is a fault, the files or the input counted it, or the plan was one
+fault_of_input : (files : Files) (input : Source) (limit : ℕ) (plan : Result Plan Stop) (outcome : Result Report Stop)
+    → OutcomeFrom files input limit plan outcome → IsFault outcome
+    → IsFault plan ⊎ FilesFailed files ⊎ InputFailed input
 fault_of_input files input limit (Err (Refused refusal)) outcome from is = absurd (subst IsFault from.2 is)
 fault_of_input files input limit (Err (NotReadable name)) outcome from is = inl tt
-fault_of_input files input limit (Ok program) outcome (read, is, same) fault =
-    inr (failed_given files input limit program program.file.made program.file.asked.input read is (subst IsFault same fault))
+fault_of_input files input limit (Ok plan) outcome (read, is, same) fault =
+    inr (failed_plan files input limit plan read is (subst IsFault same fault))
 
 -- an answer of status 3 is to a fault
-made_is_none : (one : Bool) → ◌≡◌ {A = ℕ} (if one then 0 else 1) 3 → ⊥
-made_is_none true is = cc
-made_is_none false is = cc
+counts_are_none : (one : Bool) → ◌≡◌ {A = ℕ} (if one then 0 else 1) 3 → ⊥
+counts_are_none true is = cc
+counts_are_none false is = cc
 
 answers_fault : (outcome : Result Report Stop) → (answer_to outcome).status ≡ 3 → IsFault outcome
-answers_fault (Ok (Found [])) is = cc
-answers_fault (Ok (Found (finding ∷ later))) is = cc
-answers_fault (Ok (Made made)) is = absurd (made_is_none (made.faults == 0) is)
+answers_fault (Ok (Found [] None)) is = cc
+answers_fault (Ok (Found [] (Some rows))) is = cc
+answers_fault (Ok (Found (finding ∷ later) None)) is = cc
+answers_fault (Ok (Found (finding ∷ later) (Some rows))) is = cc
+answers_fault (Ok (Checks text)) is = cc
+answers_fault (Ok (Made made)) is = absurd (counts_are_none (made.faults == 0) is)
 answers_fault (Err (Refused refusal)) is = cc
 answers_fault (Err (NotReadable name)) is = tt
 
-module _ (first_files last_files : Files) (limit : ℕ) (job : Result Job WordsFault) (program : Result Program Stop) (input : Source)
+module _ (first_files last_files : Files) (limit : ℕ) (job : Result Job WordsFault) (plan : Result Plan Stop) (input : Source)
     (most : ℕ) (outcome : Result Report Stop) (joint : first_files.now ≡ last_files.before)
-    (from : ProgramFrom first_files limit job program) (read : OutcomeFrom last_files input most program outcome) where
+    (from : PlanFrom first_files limit job plan) (read : OutcomeFrom last_files input most plan outcome) where
   -- a fault of either reading is counted in the end
   in_first : Rose first_files.before first_files.now → Rose first_files.before last_files.now
   in_first rose =
       rose_then first_files.before last_files.before last_files.now (subst (λ n. Rose first_files.before n) joint rose)
-      (outcome_later last_files input most program outcome read)
+      (outcome_later last_files input most plan outcome read)
 
   in_last : Rose last_files.before last_files.now → Rose first_files.before last_files.now
   in_last rose =
       then_rose first_files.before last_files.before last_files.now
-      (subst (λ n. IsLater first_files.before n) joint (program_later first_files limit job program from)) rose
+      (subst (λ n. IsLater first_files.before n) joint (plan_later first_files limit job plan from)) rose
 
-  by_reading : IsFault program ⊎ FilesFailed last_files ⊎ InputFailed input
+  by_reading : IsFault plan ⊎ FilesFailed last_files ⊎ InputFailed input
       → Rose first_files.before last_files.now ⊎ Rose input.before input.now
-  by_reading (inl fault) = inl (in_first (fault_of_files first_files limit job program from fault).0)
+  by_reading (inl fault) = inl (in_first (fault_of_files first_files limit job plan from fault).0)
   by_reading (inr (inl failed)) = inl (in_last failed.0)
   by_reading (inr (inr failed)) = inr failed.0
 
   -- and not where all are steady
   none_by_reading : first_files.steady → last_files.steady → input.steady
-      → IsFault program ⊎ FilesFailed last_files ⊎ InputFailed input → ⊥
-  none_by_reading first last steady (inl fault) = (fault_of_files first_files limit job program from fault).1 first
+      → IsFault plan ⊎ FilesFailed last_files ⊎ InputFailed input → ⊥
+  none_by_reading first last steady (inl fault) = (fault_of_files first_files limit job plan from fault).1 first
   none_by_reading first last steady (inr (inl failed)) = failed.1 last
   none_by_reading first last steady (inr (inr failed)) = failed.1 steady
 
@@ -214,13 +251,13 @@ module _ (first_files last_files : Files) (limit : ℕ) (job : Result Job WordsF
   pub fault_of_answer : (answer : Answer) → answer ≡ answer_to outcome → answer.status ≡ 3
       → Rose first_files.before last_files.now ⊎ Rose input.before input.now
   fault_of_answer answer same is =
-      by_reading (fault_of_input last_files input most program outcome read
+      by_reading (fault_of_input last_files input most plan outcome read
       (answers_fault outcome (sym (ap (λ a. a.status) same) ∙ is)))
 
   pub calm_of_answer : first_files.steady → last_files.steady → input.steady → (answer : Answer)
       → answer ≡ answer_to outcome → answer.status ≡ 3 → ⊥
   calm_of_answer first last steady answer same is =
-      none_by_reading first last steady (fault_of_input last_files input most program outcome read
+      none_by_reading first last steady (fault_of_input last_files input most plan outcome read
       (answers_fault outcome (sym (ap (λ a. a.status) same) ∙ is)))
 
 wider : {A B C : Type 0} → A ⊎ B → A ⊎ B ⊎ C

@@ -1,3 +1,4 @@
+pub mod DumpLemmas
 pub mod FaultLemmas
 pub mod NumberLemmas
 pub mod ProgramLemmas

@@ -10,34 +10,34 @@ use Rattle.filecheck_words.specs.declared.job.Job.{Job}
 use Rattle.filecheck_messages.specs.Answer.{answer_to}
 use Rattle.filecheck_messages.specs.declared.refusal.Stop.{Stop}
 use Rattle.filecheck_messages.specs.declared.report.Report.{Report}
-use Rattle.filecheck_tool.specs.Answer.{IsOutcome, IsAnswer, IsProgramOf, found_by}
-use Rattle.filecheck_tool.specs.Run.{AnswerOf, ChecksRead, InputRead, OutcomeFrom, OutcomeOf, ProgramFrom}
-use Rattle.filecheck_tool.specs.declared.program.Program.{Program}
+use Rattle.filecheck_tool.specs.Answer.{IsOutcome, IsAnswer, IsPlan, found_by}
+use Rattle.filecheck_tool.specs.Run.{AnswerOf, ChecksRead, InputRead, OutcomeFrom, OutcomeOf, PlanFrom}
+use Rattle.filecheck_tool.specs.declared.plan.Plan.{Plan}
 
 -- the check file that was read, or any where none was
-checks_of : (files : Files) (limit : ℕ) (job : Result Job WordsFault) (program : Result Program Stop)
-    → ProgramFrom files limit job program
-    → (file : Reading) × ChecksRead files limit job file × IsProgramOf job file program
-checks_of files limit (Ok job) program from = from
-checks_of files limit (Err fault) program from = (Missing, from.0, from.1)
+checks_of : (files : Files) (limit : ℕ) (job : Result Job WordsFault) (plan : Result Plan Stop)
+    → PlanFrom files limit job plan
+    → (file : Reading) × ChecksRead files limit job file × IsPlan job file plan
+checks_of files limit (Ok job) plan from = from
+checks_of files limit (Err fault) plan from = (Missing, from.0, from.1)
 
 -- and the input
-input_of : (files : Files) (input : Source) (limit : ℕ) (program : Result Program Stop) (outcome : Result Report Stop)
-    → OutcomeFrom files input limit program outcome
-    → (read : Reading) × InputRead files input limit program read × (outcome ≡ found_by program read)
-input_of files input limit (Ok program) outcome from = from
+input_of : (files : Files) (input : Source) (limit : ℕ) (plan : Result Plan Stop) (outcome : Result Report Stop)
+    → OutcomeFrom files input limit plan outcome
+    → (read : Reading) × InputRead files input limit plan read × (outcome ≡ found_by plan read)
+input_of files input limit (Ok plan) outcome from = from
 input_of files input limit (Err stop) outcome from = (Missing, (from.0, from.1), from.2)
 
 module _ {F : Type 0} (of : OfFiles F) (old new : F) (input : Source) (job : Result Job WordsFault) (outcome : Result Report Stop) where
   -- what is told by way of a middle state of the files is told of what was read
   pub answer_of_run : (answer : Answer) → OutcomeOf of old new input job outcome → answer ≡ answer_to outcome
       → AnswerOf of old new input job answer
-  answer_of_run answer (middle, program, from, kept, told) same =
-      let checks = checks_of (files_of of old middle) (2 ^ 24) job program from in
-      let inputs = input_of (files_of of middle new) input (2 ^ 26) program outcome told in
-      (program, checks.0, inputs.0, (middle, checks.1, kept, inputs.1), (checks.2, same ∙ ap answer_to inputs.2))
+  answer_of_run answer (middle, plan, from, kept, told) same =
+      let checks = checks_of (files_of of old middle) (2 ^ 24) job plan from in
+      let inputs = input_of (files_of of middle new) input (2 ^ 26) plan outcome told in
+      (plan, checks.0, inputs.0, (middle, checks.1, kept, inputs.1), (checks.2, same ∙ ap answer_to inputs.2))
 
 -- an answer to what words and readings come to
 pub answer_of_outcome : (job : Result Job WordsFault) (file read : Reading) (outcome : Result Report Stop) (answer : Answer)
     → IsOutcome job file read outcome → answer ≡ answer_to outcome → IsAnswer job file read answer
-answer_of_outcome job file read outcome answer (program, is, told) same = (program, (is, same ∙ ap answer_to told))
+answer_of_outcome job file read outcome answer (plan, is, told) same = (plan, (is, same ∙ ap answer_to told))

@@ -1,6 +1,6 @@
 -- What a run of filecheck does to the objects that it is given.
 -- Own rule: the check file is read where the words are accepted, and the input where the check file was accepted; with
--- --generate both are made, and nothing is read.
+-- --generate both are made, and nothing is read; with --make-checks no check file is.
 use Rattle.std.specs.Prelude.{◌≡◌, ℕ, ◌^◌, List, codes, Option, Some, None, Result, Ok, Err}
 use Rattle.filecheck_words.specs.Job.{asked_by}
 use Rattle.filecheck_words.specs.declared.checking.Input.{Input}
@@ -11,8 +11,8 @@ use Rattle.tt_outside.specs.declared.files.Files.{Ghosts as OfFiles}
 use Rattle.tt_run.specs.Run.{Answers, Files, FileRead, FilesRest, Source, SourceRead, SourceRests, StaysSteady, Stream, files_of}
 use Rattle.tt_run.specs.declared.answer.Answer.{Answer}
 use Rattle.tt_run.specs.declared.reading.Reading.{Reading}
-use Rattle.filecheck_tool.specs.Answer.{IsAnswerBy, IsProgramOf, checks_asked, found_by, input_asked}
-use Rattle.filecheck_tool.specs.declared.program.Program.{Program}
+use Rattle.filecheck_tool.specs.Answer.{IsAnswerBy, IsPlanOf, checks_asked, found_in, input_asked}
+use Rattle.filecheck_tool.specs.declared.plan.Plan.{Plan}
 use Rattle.filecheck_messages.specs.declared.refusal.Refusal.TheVariants.{Words}
 use Rattle.filecheck_messages.specs.declared.refusal.Stop.{Stop}
 use Rattle.filecheck_messages.specs.declared.refusal.Stop.TheVariants.{Refused}
@@ -44,25 +44,25 @@ InputAsked files input limit (Some Standard) read = FilesRest files × SourceRea
 InputAsked files input limit (Some (Named name)) read = SourceRests input × FileRead files limit name read
 InputAsked files input limit None read = FilesRest files × SourceRests input
 
--- the input was read where the check file came to a program
-abbrev pub InputRead : Files → Source → ℕ → Result Program Stop → Reading → Type 0
-InputRead files input limit (Ok program) read = InputAsked files input limit (input_asked program.file) read
+-- the input was read where the check file came to a plan
+abbrev pub InputRead : Files → Source → ℕ → Result Plan Stop → Reading → Type 0
+InputRead files input limit (Ok plan) read = InputAsked files input limit (input_asked plan) read
 InputRead files input limit (Err stop) read = FilesRest files × SourceRests input
 
 -- the check file was read within its limit, and then the input within its own
-abbrev pub AreRead : {F : Type 0} → OfFiles F → F → F → Source → Result Job WordsFault → Result Program Stop
+abbrev pub AreRead : {F : Type 0} → OfFiles F → F → F → Source → Result Job WordsFault → Result Plan Stop
     → Reading → Reading → Type 0
-AreRead {F} of old new input job program file read =
+AreRead {F} of old new input job plan file read =
     (middle : F) × ChecksRead (files_of of old middle) (2 ^ 24) job file × IsKept of old middle
-    × InputRead (files_of of middle new) input (2 ^ 26) program read
+    × InputRead (files_of of middle new) input (2 ^ 26) plan read
 
 -- ---- what is answered
 
 -- words, and what was read of the check file and the input, come to this answer
 abbrev pub AnswerOf : {F : Type 0} → OfFiles F → F → F → Source → Result Job WordsFault → Answer → Type 0
 AnswerOf of old new input job answer =
-    (program : Result Program Stop) × (file : Reading) × (read : Reading)
-    × AreRead of old new input job program file read × IsAnswerBy program job file read answer
+    (plan : Result Plan Stop) × (file : Reading) × (read : Reading)
+    × AreRead of old new input job plan file read × IsAnswerBy plan job file read answer
 
 -- that answer is told, and gives the status; but for want of memory
 abbrev pub Checks : {F : Type 0} → List (List ℕ) → OfFiles F → F → F → Source → ℕ → Stream → Stream → Type 0
@@ -71,21 +71,19 @@ Checks words of old new input result out err =
 
 -- ---- its steps
 
--- from what the words ask for to the program of the check file
-abbrev pub ProgramFrom : Files → ℕ → Result Job WordsFault → Result Program Stop → Type 0
-ProgramFrom files limit (Ok job) program =
-    (file : Reading) × FileAsked files limit (checks_asked job) file × IsProgramOf (Ok job) file program
-ProgramFrom files limit (Err fault) program = FilesRest files × (program ≡ Err (Refused (Words fault)))
+-- from what the words ask for to what is to be done with the input
+abbrev pub PlanFrom : Files → ℕ → Result Job WordsFault → Result Plan Stop → Type 0
+PlanFrom files limit (Ok job) plan = (file : Reading) × FileAsked files limit (checks_asked job) file × IsPlanOf job file plan
+PlanFrom files limit (Err fault) plan = FilesRest files × (plan ≡ Err (Refused (Words fault)))
 
--- from the program to what is told
-abbrev pub OutcomeFrom : Files → Source → ℕ → Result Program Stop → Result Report Stop → Type 0
-OutcomeFrom files input limit (Ok program) outcome =
-    (read : Reading) × InputAsked files input limit (input_asked program.file) read × (outcome ≡ found_by (Ok program) read)
+-- from there to what is told
+abbrev pub OutcomeFrom : Files → Source → ℕ → Result Plan Stop → Result Report Stop → Type 0
+OutcomeFrom files input limit (Ok plan) outcome =
+    (read : Reading) × InputAsked files input limit (input_asked plan) read × (outcome ≡ found_in plan read)
 OutcomeFrom files input limit (Err stop) outcome = FilesRest files × SourceRests input × (outcome ≡ Err stop)
 
 -- from words to what is told
 abbrev pub OutcomeOf : {F : Type 0} → OfFiles F → F → F → Source → Result Job WordsFault → Result Report Stop → Type 0
 OutcomeOf {F} of old new input job outcome =
-    (middle : F) × (program : Result Program Stop)
-    × ProgramFrom (files_of of old middle) (2 ^ 24) job program × IsKept of old middle
-    × OutcomeFrom (files_of of middle new) input (2 ^ 26) program outcome
+    (middle : F) × (plan : Result Plan Stop) × PlanFrom (files_of of old middle) (2 ^ 24) job plan × IsKept of old middle
+    × OutcomeFrom (files_of of middle new) input (2 ^ 26) plan outcome

@@ -5,8 +5,7 @@ use Rattle.filecheck_words.specs.Checking.{HasNames}
 use Rattle.filecheck_words.specs.Prefixes.{check_names, comment_names}
 use Rattle.filecheck_words.specs.declared.checking.Asked.{Asked}
 use Rattle.filecheck_words.specs.declared.checking.Input.TheVariants.{Standard}
-use Rattle.filecheck_words.specs.declared.job.Job.{Job}
-use Rattle.filecheck_words.specs.declared.job.Job.TheVariants.{Check, Generate}
+use Rattle.filecheck_words.specs.declared.dumping.When.TheVariants.{Never}
 use Rattle.filecheck_tool.specs.declared.start.Start.{Start}
 
 -- what is asked of texts that are made
@@ -24,12 +23,15 @@ made_asked = record {
   may_lack = false;
   implicit = [];
   defines = [];
+  dump = record { when = Never; all = false; context = 5 };
 }
 
--- what a job begins with
-abbrev pub start_of : Job → Start
-start_of (Check asked) = record { asked = asked; made = None }
-start_of (Generate count) = record { asked = made_asked; made = Some count }
+-- what begins where a check file is read, and where one is made
+abbrev pub start_with : Asked → Start
+start_with asked = record { asked = asked; made = None }
+
+abbrev pub start_made : ℕ → Start
+start_made count = record { asked = made_asked; made = Some count }
 
 -- the files that are asked for have names, or no more checks are made than there may be
 abbrev pub CanBegin : Option ℕ → Asked → Type 0

@@ -12,6 +12,7 @@ use Rattle.filecheck_words.specs.declared.checking.Input.TheVariants.{Standard, 
 use Rattle.check_lines.specs.Kind.{row_of}
 use Rattle.check_lines.specs.declared.kind.Kind.{Kind}
 use Rattle.filecheck_tool.specs.CheckFile.{body_spot, kind_of, name_of, whole}
+use Rattle.filecheck_tool.specs.Dump.{dump_due}
 use Rattle.filecheck_messages.specs.Refusal.{◌>>=◌, accepted}
 use Rattle.filecheck_messages.specs.Spot.{spot_at}
 use Rattle.filecheck_tool.specs.declared.check_file.CheckFile.{CheckFile}
@@ -87,7 +88,7 @@ made_of checks bytes faults = record { checks = checks; bytes = bytes; faults = 
 
 abbrev pub report_of : Option ℕ → CheckFile → ℕ → List ℕ → List Fault → Report
 report_of (Some checks) file count input faults = Made (made_of checks count faults)
-report_of None file count input faults = Found (findings_of file input faults)
+report_of None file count input faults = Found (findings_of file input faults) (dump_due file input faults)
 
 -- what is told of an input of so many bytes, by its canonical text
 abbrev pub verdict : Program → ℕ → List ℕ → Report

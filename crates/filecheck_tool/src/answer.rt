@@ -2,21 +2,21 @@
 ghost use Rattle.std.specs.Prelude.{◌≡◌, ◌≤◌, ◌^◌, IfOk, Ok, Some};
 ghost use Rattle.opt_words.specs.Step.{texts};
 ghost use Rattle.filecheck_messages.specs.Answer.{answer_to};
-ghost use Rattle.filecheck_tool.specs.Answer.{IsAnswer, IsOutcome, IsProgramOf, checks_given, file_of, found_by, input_given, names_of};
-ghost use Rattle.filecheck_tool.specs.Program.{IsProgram, IsSound, IsSoundFile};
-ghost use Rattle.filecheck_tool.specs.Start.{IsStart};
-ghost use Rattle.filecheck_tool.specs.Verdict.{verdict_read};
-ghost use Rattle.filecheck_words.specs.Job.{IsSound as IsSoundJob, asked_by};
+ghost use Rattle.filecheck_tool.specs.Answer.{IsAnswer, IsOutcome, IsSoundPlan, file_of, found_by, found_in, input_given, names_of};
+ghost use Rattle.filecheck_tool.specs.Program.{IsSound, IsSoundFile};
+ghost use Rattle.filecheck_tool.specs.declared.plan.Plan.TheVariants.{Check};
+ghost use Rattle.filecheck_words.specs.Job.{asked_by};
 ghost use Rattle.tt_run.specs.Run.{IsShort};
 
 use crate::check_file::CheckFile;
 use crate::file_names::Names;
-use crate::program::{Program, program_read};
-use crate::start::{Start, start_of};
+use crate::making::made_read;
+use crate::plan::{Plan, plan_on};
+use crate::program::Program;
 use crate::verdict::verdict_read;
-use filecheck_messages::{Refusal, Report, Stop, answer_to, settled};
+use filecheck_messages::{Report, Stop, answer_to, settled};
 use filecheck_words::{Input, Job, WordsFail, asked_by};
-use generator::{checks_text, input_text};
+use generator::input_text;
 use std::alloc::Global;
 use std::mem::drop;
 use tt_base::{Bytes, NoMemory};
@@ -51,88 +51,29 @@ pub fn outcome_on(
     requires read { IsShort (2 ^ 30) read }
     ensures { IfOk result (IsOutcome (asked_by (texts words.now)) file read) }
 {
-    let program = match program_on(alloc, words, file) {
-        Ok(program) => program,
+    let plan = match plan_on(alloc, words, file) {
+        Ok(plan) => plan,
         Err(fail) => {
             drop(read);
             return Err(fail);
         }
     };
-    let outcome = found_by(alloc, program, read)?;
+    let outcome = found_by(alloc, plan, read)?;
     Ok(outcome)
 }
 
-/// The program of the check file that words ask for, where this is what reading it gave.
-pub fn program_on(
-    alloc: Global,
-    words: &[String],
-    file: Reading,
-) -> Result<Result<Program, Stop>, NoMemory>
-    requires { IsShort (2 ^ 30) file }
-    ensures value { IfOk result (IsProgramOf (asked_by (texts words.now)) file) }
-    ensures sound { IfOk result (λ program. IfOk program IsSound) }
-{
-    match asked_by(alloc, words) {
-        Ok(job) => program_of(alloc, job, file),
-        Err(WordsFail::Bad(fault)) => Ok(Err(Stop::Refused(Refusal::Words(fault)))),
-        Err(WordsFail::NoMemory) => Err(NoMemory),
-    }
-}
-
-/// The same, where the words are accepted.
-pub(crate) fn program_of(
-    alloc: Global,
-    job: Job,
-    file: Reading,
-) -> Result<Result<Program, Stop>, NoMemory>
-    requires job { IsSoundJob job }
-    requires short { IsShort (2 ^ 30) file }
-    ensures value { IfOk result (IsProgramOf (Ok job) file) }
-    ensures sound { IfOk result (λ program. IfOk program IsSound) }
-{
-    let start = start_of(alloc, job)?;
-    program_by(alloc, start, file)
-}
-
-fn program_by(alloc: Global, start: Start, file: Reading) -> Result<Result<Program, Stop>, NoMemory>
-    requires start { IsStart start }
-    requires short { IsShort (2 ^ 30) file }
-    ensures value { IfOk result (IsProgram start (checks_given start.made file)) }
-    ensures sound { IfOk result (λ program. IfOk program IsSound) }
-{
-    let Ok(file) = checks_given(alloc, &start, file) else {
-        // A call, since a drop in place is proved field by field.
-        drop(start);
-        return Err(NoMemory);
-    };
-    settled(program_read(alloc, start, file))
-}
-
-/// The check file that counts: what reading gave, or the one that is made.
-fn checks_given(alloc: Global, start: &Start, file: Reading) -> Result<Reading, NoMemory>
-    requires start { IsStart start.now }
-    requires short { IsShort (2 ^ 30) file }
-    ensures value { IfOk result (λ given. given ≡ checks_given start.now.made file) }
-    ensures short { IfOk result (IsShort (2 ^ 30)) }
-{
-    match start.made {
-        Some(count) => Ok(Reading::Whole(checks_text(alloc, count)?)),
-        None => Ok(file),
-    }
-}
-
-/// What is told of what reading the input gave, where there is a program.
+/// What is told of what reading the input gave, where there is a plan.
 fn found_by(
     alloc: Global,
-    program: Result<Program, Stop>,
+    plan: Result<Plan, Stop>,
     read: Reading,
 ) -> Result<Result<Report, Stop>, NoMemory>
-    requires sound { IfOk program IsSound }
+    requires sound { IfOk plan IsSoundPlan }
     requires short { IsShort (2 ^ 30) read }
-    ensures { IfOk result (λ outcome. outcome ≡ found_by program read) }
+    ensures { IfOk result (λ outcome. outcome ≡ found_by plan read) }
 {
-    match program {
-        Ok(program) => found_in(alloc, program, read),
+    match plan {
+        Ok(plan) => found_in(alloc, plan, read),
         Err(stop) => Ok(Err(stop)),
     }
 }
@@ -140,14 +81,27 @@ fn found_by(
 /// What is told of what reading the input gave.
 pub(crate) fn found_in(
     alloc: Global,
-    program: Program,
+    plan: Plan,
     read: Reading,
 ) -> Result<Result<Report, Stop>, NoMemory>
+    requires sound { IsSoundPlan plan }
+    requires short { IsShort (2 ^ 30) read }
+    ensures { IfOk result (λ outcome. outcome ≡ found_in plan read) }
+{
+    match plan {
+        Plan::Check(program) => checked(alloc, program, read),
+        Plan::Make(making, old) => settled(made_read(alloc, making, old, read)),
+    }
+}
+
+/// The same, where it is checked.
+fn checked(alloc: Global, program: Program, read: Reading) -> Result<Result<Report, Stop>, NoMemory>
     requires sound { IsSound program }
     requires short { IsShort (2 ^ 30) read }
-    ensures { IfOk result (λ outcome. outcome ≡ found_by (Ok program) read) }
+    ensures { IfOk result (λ outcome. outcome ≡ found_in (Check program) read) }
 {
     let Ok(read) = input_given(alloc, &program.file, read) else {
+        // A call, since a drop in place is proved field by field.
         drop(program);
         return Err(NoMemory);
     };
@@ -209,6 +163,20 @@ fn names_of(alloc: Global, job: &Job) -> Result<Names, NoMemory>
             check: None,
             input: None,
         }),
+        Job::Make(making) => Ok(Names {
+            check: old_of(alloc, &making.old)?,
+            input: file_of(alloc, &making.input)?,
+        }),
+    }
+}
+
+/// The check file that is refreshed, if there is one.
+fn old_of(alloc: Global, old: &Option<Bytes>) -> Result<Option<Bytes>, NoMemory>
+    ensures { IfOk result (λ name. name ≡ old.now) }
+{
+    match old {
+        Some(name) => Ok(Some(Bytes::from_slice(alloc, name.as_slice())?)),
+        None => Ok(None),
     }
 }
 

@@ -1,7 +1,7 @@
 //! A check file: its text and its directives.
-ghost use Rattle.std.specs.Prelude.{◌≡◌, ◌≤◌, ◌-◌, ◌^◌, [], All, Contains, IfOk, IfSome, None, length, slice_get, slice_index_or};
+ghost use Rattle.std.specs.Prelude.{◌≡◌, ◌≤◌, ◌-◌, ◌^◌, [], All, Contains, IfOk, IfSome, None, Some, length, slice_get, slice_index_or};
 ghost use Rattle.check_lines.specs.Checks.{IsPlaced};
-ghost use Rattle.filecheck_tool.specs.CheckFile.{HasBodies, IsNumber, body_spot, check_file_in, check_file_read, implicit_spot, kind_of, name_of, refusal_of, start_behind, whole, with_directives};
+ghost use Rattle.filecheck_tool.specs.CheckFile.{HasBodies, IsNumber, body_spot, check_file_in, check_file_read, implicit_spot, kind_of, name_by, name_of, refusal_of, start_behind, whole, with_directives};
 ghost use Rattle.filecheck_messages.specs.Refusal.{Gives, accepted};
 ghost use Rattle.filecheck_messages.specs.Spot.{spot_at};
 ghost use Rattle.tt_run.specs.Run.{IsShort};
@@ -156,6 +156,21 @@ fn directive_at(directives: &[Directive], number: usize) -> Option<Directive>
     directives.get(number).copied()
 }
 
+/// The name by which a directive of a line is told: its prefix with its suffix.
+pub(crate) fn line_name(
+    alloc: Global,
+    file: &CheckFile,
+    directive: Directive,
+) -> Result<Bytes, NoMemory>
+    requires { IsPlaced file.now.text (length file.now.asked.prefixes.checks) directive }
+    ensures { IfOk result (λ name. name ≡ name_by file.now (Some directive)) }
+{
+    let prefix = &file.asked.prefixes.checks.as_slice()[directive.prefix];
+    let mut name = Bytes::from_slice(alloc, prefix.as_slice())?;
+    name.append(row_of(directive.kind).suffix)?;
+    Ok(name)
+}
+
 /// Where the body of a directive begins.
 fn line_spot(alloc: Global, file: &CheckFile, directive: Directive) -> Result<Spot, NoMemory>
     requires small { length file.now.text ≤ 2 ^ 30 }
@@ -222,12 +237,7 @@ impl CheckFile {
         ensures { IfOk result (λ name. name ≡ name_of self.now number) }
     {
         match directive_at(self.directives.as_slice(), number) {
-            Some(directive) => {
-                let prefix = &self.asked.prefixes.checks.as_slice()[directive.prefix];
-                let mut name = Bytes::from_slice(alloc, prefix.as_slice())?;
-                name.append(row_of(directive.kind).suffix)?;
-                Ok(name)
-            }
+            Some(directive) => line_name(alloc, self, directive),
             None => Bytes::from_slice(alloc, b"IMPLICIT-CHECK-NOT"),
         }
     }

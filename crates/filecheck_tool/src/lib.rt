@@ -4,16 +4,20 @@
 
 mod answer;
 mod check_file;
+mod dumping;
 mod file_names;
+mod making;
+mod plan;
 mod program;
 mod run;
 mod start;
 mod verdict;
 
-pub use answer::{answer_on, names, outcome_on, program_on};
+pub use answer::{answer_on, names, outcome_on};
 pub use check_file::CheckFile;
 pub use file_names::Names;
-pub use filecheck_messages::{Finding, Made, Note, Refusal, Remark, Report, Spot, Stop};
+pub use filecheck_messages::{Dumped, Finding, Made, Note, Refusal, Remark, Report, Spot, Stop};
+pub use plan::{Plan, plan_on};
 pub use program::Program;
 pub use run::{CHECK_LIMIT, FILECHECK, INPUT_LIMIT, filecheck_run};
 pub use start::Start;

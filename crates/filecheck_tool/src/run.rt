@@ -1,18 +1,19 @@
 //! The top call.
-ghost use Rattle.std.specs.Prelude.{◌≡◌, ◌⊎◌, ◌≤◌, ◌<◌, ◌≢◌, ◌+◌, ◌^◌, true, IfOk, IsErr, List, Result, codes};
+ghost use Rattle.std.specs.Prelude.{◌≡◌, ◌⊎◌, ◌≤◌, ◌<◌, ◌≢◌, ◌+◌, ◌^◌, true, IfOk, IsErr, List, Result, Some, codes};
 ghost use Rattle.tt_outside.specs.Transfer.{TakesAtMost};
 ghost use Rattle.tt_run.specs.Run.{Failed, LacksMemory, files_of, source_of, stream_of};
 ghost use Rattle.std.specs.Str.{is_utf8};
 ghost use Rattle.opt_words.specs.Step.{texts};
 ghost use Rattle.tt_run.specs.Run.{FileRead, IsShort};
-ghost use Rattle.filecheck_tool.specs.Program.{IsSound, IsSoundFile};
-ghost use Rattle.filecheck_tool.specs.Answer.{checks_asked, input_asked};
-ghost use Rattle.filecheck_tool.specs.Run.{AnswerOf, AreUnread, Checks, FileAsked, InputAsked, IsKept, OutcomeFrom, OutcomeOf, ProgramFrom};
+ghost use Rattle.filecheck_tool.specs.Program.{IsSoundFile};
+ghost use Rattle.filecheck_tool.specs.Answer.{IsSoundPlan, checks_asked, input_asked, unless_made};
+ghost use Rattle.filecheck_tool.specs.Run.{AnswerOf, AreUnread, Checks, FileAsked, InputAsked, IsKept, OutcomeFrom, OutcomeOf, PlanFrom};
+ghost use Rattle.filecheck_words.specs.Checking.{IsNamed};
 ghost use Rattle.filecheck_words.specs.Job.{IsSound as IsSoundJob, asked_by};
 
-use crate::answer::{answered, found_in, program_of};
+use crate::answer::{answered, found_in};
 use crate::check_file::CheckFile;
-use crate::program::Program;
+use crate::plan::{Plan, plan_of};
 use filecheck_messages::{Refusal, Report, Stop};
 use filecheck_words::{Input, Job, WordsFail, asked_by};
 use std::alloc::Global;
@@ -95,20 +96,20 @@ fn outcome_of<F: Files, I: Source>(
     ensures taken { TakesAtMost (I.left input.old) (I.left input.new) (2 ^ 26 + 1) }
     ensures files_stay { IsKept F.Files from.old from.new }
 {
-    let program = program_from(alloc, words, from)?;
-    let outcome = outcome_from(alloc, program, from, input)?;
+    let plan = plan_from(alloc, words, from)?;
+    let outcome = outcome_from(alloc, plan, from, input)?;
     Ok(outcome)
 }
 
-/// The program of the check file that the words ask for.
-fn program_from<F: Files>(
+/// What the words ask to be done with the input.
+fn plan_from<F: Files>(
     alloc: Global,
     words: &[String],
     from: &mut F,
-) -> Result<Result<Program, Stop>, NoMemory>
-    ensures value { IfOk result (ProgramFrom (files_of F.Files from.old from.new) (2 ^ 24)
+) -> Result<Result<Plan, Stop>, NoMemory>
+    ensures value { IfOk result (PlanFrom (files_of F.Files from.old from.new) (2 ^ 24)
         (asked_by (texts words.now))) }
-    ensures sound { IfOk result (λ program. IfOk program IsSound) }
+    ensures sound { IfOk result (λ plan. IfOk plan IsSoundPlan) }
     ensures unread { IsErr (asked_by (texts words.now)) → from.new ≡ from.old }
     ensures files_stay { IsKept F.Files from.old from.new }
 {
@@ -117,48 +118,44 @@ fn program_from<F: Files>(
         Err(WordsFail::Bad(fault)) => return Ok(Err(Stop::Refused(Refusal::Words(fault)))),
         Err(WordsFail::NoMemory) => return Err(NoMemory),
     };
-    program_by(alloc, job, from)
+    plan_by(alloc, job, from)
 }
 
-/// The program of the check file that a job names.
-fn program_by<F: Files>(
-    alloc: Global,
-    job: Job,
-    from: &mut F,
-) -> Result<Result<Program, Stop>, NoMemory>
+/// What a job asks to be done with the input.
+fn plan_by<F: Files>(alloc: Global, job: Job, from: &mut F) -> Result<Result<Plan, Stop>, NoMemory>
     requires { IsSoundJob job }
-    ensures value { IfOk result (ProgramFrom (files_of F.Files from.old from.new) (2 ^ 24) (Ok job)) }
-    ensures sound { IfOk result (λ program. IfOk program IsSound) }
+    ensures value { IfOk result (PlanFrom (files_of F.Files from.old from.new) (2 ^ 24) (Ok job)) }
+    ensures sound { IfOk result (λ plan. IfOk plan IsSoundPlan) }
     ensures files_stay { IsKept F.Files from.old from.new }
 {
     let Ok(file) = read_checks(alloc, &job, from) else {
         drop(job);
         return Err(NoMemory);
     };
-    program_of(alloc, job, file)
+    plan_of(alloc, job, file)
 }
 
-/// What is found amiss in the input.
+/// What is found amiss in the input, or what is made of it.
 fn outcome_from<F: Files, I: Source>(
     alloc: Global,
-    program: Result<Program, Stop>,
+    plan: Result<Plan, Stop>,
     from: &mut F,
     input: &mut I,
 ) -> Result<Result<Report, Stop>, NoMemory>
-    requires { IfOk program IsSound }
+    requires { IfOk plan IsSoundPlan }
     ensures value { IfOk result (OutcomeFrom (files_of F.Files from.old from.new)
-        (source_of I.Source input.old input.new) (2 ^ 26) program) }
-    ensures unread { IsErr program → AreUnread from.old from.new input.old input.new }
+        (source_of I.Source input.old input.new) (2 ^ 26) plan) }
+    ensures unread { IsErr plan → AreUnread from.old from.new input.old input.new }
     ensures taken { TakesAtMost (I.left input.old) (I.left input.new) (2 ^ 26 + 1) }
     ensures files_stay { IsKept F.Files from.old from.new }
 {
-    match program {
-        Ok(program) => {
-            let Ok(read) = read_input(alloc, &program.file, from, input) else {
-                drop(program);
+    match plan {
+        Ok(plan) => {
+            let Ok(read) = read_input(alloc, &plan, from, input) else {
+                drop(plan);
                 return Err(NoMemory);
             };
-            found_in(alloc, program, read)
+            found_in(alloc, plan, read)
         }
         Err(stop) => Ok(Err(stop)),
     }
@@ -174,29 +171,70 @@ fn read_checks<F: Files>(alloc: Global, job: &Job, from: &mut F) -> Result<Readi
     match job {
         Job::Check(asked) => read_file(alloc, asked.name.as_slice(), CHECK_LIMIT, from),
         Job::Generate(_) => Ok(Reading::Missing),
+        Job::Make(making) => match &making.old {
+            Some(name) => read_file(alloc, name.as_slice(), CHECK_LIMIT, from),
+            None => Ok(Reading::Missing),
+        },
     }
 }
 
 /// What reading the input gave. One that isn't asked for counts as missing.
 fn read_input<F: Files, I: Source>(
     alloc: Global,
+    plan: &Plan,
+    from: &mut F,
+    input: &mut I,
+) -> Result<Reading, NoMemory>
+    requires { IsSoundPlan plan.now }
+    ensures read { IfOk result (InputAsked (files_of F.Files from.old from.new)
+        (source_of I.Source input.old input.new) (2 ^ 26) (input_asked plan.now)) }
+    ensures short { IfOk result (IsShort (2 ^ 26)) }
+    ensures taken { TakesAtMost (I.left input.old) (I.left input.new) (2 ^ 26 + 1) }
+    ensures files_stay { IsKept F.Files from.old from.new }
+{
+    match plan {
+        Plan::Check(program) => read_checked(alloc, &program.file, from, input),
+        Plan::Make(making, _) => read_place(alloc, &making.input, from, input),
+    }
+}
+
+/// The same of an input that is checked.
+fn read_checked<F: Files, I: Source>(
+    alloc: Global,
     file: &CheckFile,
     from: &mut F,
     input: &mut I,
 ) -> Result<Reading, NoMemory>
     requires { IsSoundFile file.now }
-    ensures read { IfOk result (InputAsked (files_of F.Files from.old from.new)
-        (source_of I.Source input.old input.new) (2 ^ 26) (input_asked file.now)) }
+    ensures read { IfOk result (InputAsked (files_of F.Files from.old from.new) (source_of I.Source input.old input.new)
+        (2 ^ 26) (unless_made file.now.made file.now.asked.input)) }
     ensures short { IfOk result (IsShort (2 ^ 26)) }
     ensures taken { TakesAtMost (I.left input.old) (I.left input.new) (2 ^ 26 + 1) }
     ensures files_stay { IsKept F.Files from.old from.new }
 {
     match file.made {
         Some(_) => Ok(Reading::Missing),
-        None => match &file.asked.input {
-            Input::Standard => read_source(alloc, INPUT_LIMIT, input),
-            Input::Named(name) => read_file(alloc, name.as_slice(), INPUT_LIMIT, from),
-        },
+        None => read_place(alloc, &file.asked.input, from, input),
+    }
+}
+
+/// What reading an input gave.
+fn read_place<F: Files, I: Source>(
+    alloc: Global,
+    place: &Input,
+    from: &mut F,
+    input: &mut I,
+) -> Result<Reading, NoMemory>
+    requires { IsNamed place.now }
+    ensures read { IfOk result (InputAsked (files_of F.Files from.old from.new)
+        (source_of I.Source input.old input.new) (2 ^ 26) (Some place.now)) }
+    ensures short { IfOk result (IsShort (2 ^ 26)) }
+    ensures taken { TakesAtMost (I.left input.old) (I.left input.new) (2 ^ 26 + 1) }
+    ensures files_stay { IsKept F.Files from.old from.new }
+{
+    match place {
+        Input::Standard => read_source(alloc, INPUT_LIMIT, input),
+        Input::Named(name) => read_file(alloc, name.as_slice(), INPUT_LIMIT, from),
     }
 }
 

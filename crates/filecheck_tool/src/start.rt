@@ -1,9 +1,8 @@
 //! What a run begins with.
-ghost use Rattle.std.specs.Prelude.{◌≡◌, IfOk};
-ghost use Rattle.filecheck_words.specs.Job.{IsSound};
-ghost use Rattle.filecheck_tool.specs.Start.{IsStart, made_asked, start_of};
+ghost use Rattle.std.specs.Prelude.{◌≡◌, ◌≤◌, IfOk};
+ghost use Rattle.filecheck_tool.specs.Start.{IsStart, made_asked, start_made};
 
-use filecheck_words::{Asked, Input, Job, Prefixes, check_names, comment_names};
+use filecheck_words::{Asked, Dump, Input, Prefixes, When, check_names, comment_names};
 use std::alloc::Global;
 use tt_base::{Bytes, Items, NoMemory};
 
@@ -16,19 +15,17 @@ pub struct Start {
     pub made: Option<u64>,
 }
 
-/// What a job begins with.
-pub fn start_of(alloc: Global, job: Job) -> Result<Start, NoMemory>
-    requires { IsSound job }
-    ensures value { IfOk result (λ start. start ≡ start_of job) }
+/// What begins where both texts are made.
+pub(crate) fn start_made(alloc: Global, count: u64) -> Result<Start, NoMemory>
+    requires least { 1 ≤ count }
+    requires most { count ≤ 20000 }
+    ensures value { IfOk result (λ start. start ≡ start_made count) }
     ensures sound { IfOk result IsStart }
 {
-    match job {
-        Job::Check(asked) => Ok(Start { asked, made: None }),
-        Job::Generate(count) => Ok(Start {
-            asked: made_asked(alloc)?,
-            made: Some(count),
-        }),
-    }
+    Ok(Start {
+        asked: made_asked(alloc)?,
+        made: Some(count),
+    })
 }
 
 /// What is asked of texts that are made.
@@ -50,6 +47,11 @@ fn made_asked(alloc: Global) -> Result<Asked, NoMemory>
         may_lack: false,
         implicit: Items::new(alloc),
         defines: Items::new(alloc),
+        dump: Dump {
+            when: When::Never,
+            all: false,
+            context: 5,
+        },
     })
 }
 

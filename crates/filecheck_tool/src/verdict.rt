@@ -1,22 +1,27 @@
 //! Whether the input has what the check file asks for.
-ghost use Rattle.std.specs.Prelude.{◌≡◌, ◌≤◌, ◌<◌, ◌^◌, ◌∷◌, ◌++◌, [], All, Contains, IfOk, OnOk, length};
+ghost use Rattle.std.specs.Prelude.{◌≡◌, ◌≤◌, ◌<◌, ◌^◌, ◌∷◌, ◌++◌, [], All, Contains, IfOk, IfSome, None, OnOk, length};
 ghost use Rattle.check_group.specs.Changes.{IsReady};
 ghost use Rattle.check_group.specs.Lies.{FaultLies, OffsetsLie, numbers_of};
 ghost use Rattle.check_scan.specs.Verdict.{scan};
 ghost use Rattle.filecheck_tool.specs.CheckFile.{HasBodies, IsNumber};
+ghost use Rattle.filecheck_tool.specs.Dump.{dump_with};
 ghost use Rattle.filecheck_tool.specs.Program.{IsSound};
 ghost use Rattle.filecheck_messages.specs.Refusal.{Gives, accepted};
 ghost use Rattle.filecheck_tool.specs.Verdict.{both_notes, filled, finding_of, findings_of, input_name, made_of, note_at, notes_of, one_note, report_of, told_times, verdict, verdict_read};
 ghost use Rattle.tt_run.specs.Run.{IsShort};
 
 use crate::check_file::{CheckFile, whole};
+use crate::dumping::{marks_due, shown_by};
 use crate::program::Program;
 use check_group::{Check, Fault, FaultKind};
 use check_lines::{Kind, canon_owned, row_of};
 use check_scan::{Subject, scan};
 use ere_auto::Steps;
-use filecheck_messages::{Finding, Made, Note, Refusal, Remark, Report, StepFail, refuse, spot_at};
-use filecheck_words::Input;
+use filecheck_messages::{
+    Dumped, Finding, Made, Note, Refusal, Remark, Report, StepFail, refuse, spot_at,
+};
+use filecheck_words::{Dump, Input};
+use input_dump::Mark;
 use pattern_vars::Vars;
 use std::alloc::Global;
 use std::marker::Brand;
@@ -26,7 +31,7 @@ use tt_base::{Bytes, Items, NoMemory};
 use tt_run::Reading;
 
 /// How the input is named.
-fn input_name(input: &Input) -> &[u8]
+pub(crate) fn input_name(input: &Input) -> &[u8]
     ensures { result.now ≡ input_name input.now }
 {
     match input {
@@ -60,11 +65,16 @@ fn verdict_of(alloc: Global, program: &mut Program, read: Reading) -> Result<Rep
     let bytes = filled(alloc, asked.allow_empty, name, bytes)?;
     let count = bytes.len() as u64;
     let input = canon_owned(bytes, asked.strict);
-    Ok(verdict(alloc, program, count, input.as_slice())?)
+    Ok(verdict(alloc, program, count, input)?)
 }
 
 /// Bytes, of which there may be none or not.
-fn filled(alloc: Global, allow: bool, name: &[u8], bytes: Bytes) -> Result<Bytes, StepFail>
+pub(crate) fn filled(
+    alloc: Global,
+    allow: bool,
+    name: &[u8],
+    bytes: Bytes,
+) -> Result<Bytes, StepFail>
     requires { length bytes ≤ 2 ^ 30 }
     ensures value { Gives (λ same. same) result (accepted (filled allow name.now bytes)) }
     ensures short { IfOk result (λ same. length same ≤ 2 ^ 30) }
@@ -80,15 +90,15 @@ fn verdict(
     alloc: Global,
     program: &mut Program,
     count: u64,
-    input: &[u8],
+    input: Bytes,
 ) -> Result<Report, NoMemory>
     requires sound { IsSound program.old }
-    requires short { length input.now ≤ 2 ^ 30 }
-    ensures { IfOk result (λ report. report ≡ verdict program.old count input.now) }
+    requires short { length input ≤ 2 ^ 30 }
+    ensures { IfOk result (λ report. report ≡ verdict program.old count input) }
 {
     let subject = Subject {
         alloc,
-        text: input,
+        text: input.as_slice(),
         always: program.always.as_slice(),
     };
     let scope = program.file.asked.var_scope;
@@ -106,17 +116,47 @@ fn report_of(
     alloc: Global,
     file: &CheckFile,
     count: u64,
-    input: &[u8],
+    input: Bytes,
     faults: Items<Fault>,
 ) -> Result<Report, NoMemory>
     requires bodies { HasBodies file.now }
-    requires short { length input.now ≤ 2 ^ 30 }
-    requires lie { All (FaultLies (IsNumber file.now) (length input.now)) faults }
-    ensures { IfOk result (λ report. report ≡ report_of file.now.made file.now count input.now faults) }
+    requires short { length input ≤ 2 ^ 30 }
+    requires lie { All (FaultLies (IsNumber file.now) (length input)) faults }
+    ensures { IfOk result (λ report. report ≡ report_of file.now.made file.now count input faults) }
 {
     match file.made {
         Some(checks) => Ok(Report::Made(made_of(checks, count, faults.as_slice()))),
-        None => Ok(Report::Found(findings_of(alloc, file, input, faults)?)),
+        None => found_of(alloc, file, input, faults),
+    }
+}
+
+/// The same of checks and an input that were read.
+fn found_of(
+    alloc: Global,
+    file: &CheckFile,
+    input: Bytes,
+    faults: Items<Fault>,
+) -> Result<Report, NoMemory>
+    requires bodies { HasBodies file.now }
+    requires short { length input ≤ 2 ^ 30 }
+    requires lie { All (FaultLies (IsNumber file.now) (length input)) faults }
+    ensures { IfOk result (λ report. report ≡ report_of None file.now 0 input faults) }
+{
+    let due = marks_due(alloc, file, faults.as_slice())?;
+    let findings = findings_of(alloc, file, input.as_slice(), faults)?;
+    let dumped = dump_with(file.asked.dump, input, due);
+    Ok(Report::Found(findings, dumped))
+}
+
+/// The annotated input with these marks, if there is one.
+fn dump_with(asked: Dump, input: Bytes, due: Option<Items<Mark>>) -> Option<Dumped>
+    requires short { length input ≤ 2 ^ 30 }
+    requires within { IfSome due (All (λ mark. mark.at ≤ length input)) }
+    ensures { result ≡ dump_with asked input due }
+{
+    match due {
+        Some(marks) => Some(Dumped::new(input, marks, shown_by(asked))),
+        None => None,
     }
 }
 

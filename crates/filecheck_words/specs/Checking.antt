@@ -6,6 +6,7 @@ use Rattle.std.specs.Str.{bytes_eq, is_utf8}
 use Rattle.opt_words.specs.Reading.{first, last, times}
 use Rattle.opt_words.specs.Step.{value_of}
 use Rattle.opt_words.specs.declared.step.Given.{Given}
+use Rattle.filecheck_words.specs.Dump.{dump_asked}
 use Rattle.filecheck_words.specs.Fault.{◌>>=◌}
 use Rattle.filecheck_words.specs.Implicit.{patterns_of}
 use Rattle.filecheck_words.specs.Prefixes.{held_prefixes}
@@ -69,12 +70,13 @@ asked_of words all name input prefixes implicit = record {
   may_lack = may_lack all;
   implicit = implicit;
   defines = values 8 words all;
+  dump = dump_asked words all;
 }
 
 -- what is asked for by what the words give, or the first refusal
 abbrev pub checking : List (List ℕ) → List Given → Result Asked WordsFault
 checking words all = do
-  name ← one_file words (times 14 all) (first 14 all)
+  name ← one_file words (times 19 all) (first 19 all)
   input ← input_of words (last 3 all)
   prefixes ← held_prefixes words all
   implicit ← patterns_of (is_given 4 all) (values 13 words all)

@@ -1,12 +1,10 @@
 -- The options, and what the words give.
--- After LLVM Command Guide, FileCheck, 'OPTIONS'. Own rules: the forms of the options, --generate, and that of
--- --dump-input there is `never` alone.
-use Rattle.std.specs.Prelude.{ℕ, ◌-◌, false, ◌==◌, if◌then◌else◌, List, [], ◌∷◌, codes, All, Option, Some, None, Result, Ok, Err}
-use Rattle.std.specs.Str.{bytes_eq}
+-- After LLVM Command Guide, FileCheck, 'OPTIONS'. Own rules: the forms of the options, --generate, --make-checks, --make-lead and
+-- --refresh.
+use Rattle.std.specs.Prelude.{ℕ, ◌-◌, false, ◌==◌, if◌then◌else◌, List, [], ◌∷◌, codes, All, Result, Ok, Err}
 use Rattle.opt_words.specs.Reading.{AllStand, IsTally, givens}
-use Rattle.opt_words.specs.Step.{Stands, value_of}
+use Rattle.opt_words.specs.Step.{Stands}
 use Rattle.opt_words.specs.declared.fault.WordFault.{WordFault}
-use Rattle.opt_words.specs.declared.fault.WordFault.TheVariants.{UnwantedValue}
 use Rattle.opt_words.specs.declared.row.Form.{Form}
 use Rattle.opt_words.specs.declared.row.Form.TheVariants.{Flag, Glued, Many, Number, Once, Switch}
 use Rattle.opt_words.specs.declared.row.Row.{Row}
@@ -25,7 +23,9 @@ rows =
     ∷ row (codes "input-file") Once ∷ row (codes "strict-whitespace") Flag ∷ row (codes "allow-empty") Flag
     ∷ row (codes "allow-unused-prefixes") Switch ∷ row (codes "enable-var-scope") Flag ∷ row (codes "D") Glued
     ∷ row (codes "dump-input") Once ∷ row (codes "generate") (Number 1 20000) ∷ row (codes "match-full-lines") Flag
-    ∷ row (codes "ignore-case") Flag ∷ row (codes "implicit-check-not") Many ∷ []
+    ∷ row (codes "ignore-case") Flag ∷ row (codes "implicit-check-not") Many
+    ∷ row (codes "dump-input-context") (Number 0 1000000) ∷ row (codes "dump-input-filter") Once
+    ∷ row (codes "make-checks") Flag ∷ row (codes "make-lead") Once ∷ row (codes "refresh") Once ∷ []
 
 -- what the words give in order, or the first faulty word
 abbrev pub unless_faulty : List (List ℕ) → Result (List Given) WordFault → Result (List Given) WordsFault
@@ -37,17 +37,10 @@ given_by words = unless_faulty words (givens rows false words)
 
 -- the words were read, and all that they give stands in them
 pub record IsRead (words : List (List ℕ)) (given : GivenWords) : Type 0 where
-  pub tally : IsTally 14 given.all given.settings
-  pub stand : AllStand 14 words given.settings
+  pub tally : IsTally 19 given.all given.settings
+  pub stand : AllStand 19 words given.settings
   pub each : All (Stands words) given.all
 
 -- the word that names the option of a value: its own one, or the one before where the value is a whole word
 abbrev pub named_at : Given → ℕ
 named_at given = if given.at == 0 then given.word - 1 else given.word
-
--- what is wrong with the value of --dump-input
-abbrev pub dump_fault : List (List ℕ) → Option Given → Option WordsFault
-dump_fault words None = None
-dump_fault words (Some given) =
-    if bytes_eq (value_of words given) (codes "never") then None
-    else Some (faulty words (UnwantedValue (named_at given)))

@@ -1,7 +1,9 @@
 pub mod Checking
+pub mod Dump
 pub mod Fault
 pub mod Given
 pub mod Implicit
 pub mod Job
+pub mod Making
 pub mod Prefixes
 pub mod Values

@@ -7,6 +7,7 @@ ghost use Rattle.filecheck_words.specs.Checking.{HasNames, IsNamed, checking, fi
 ghost use Rattle.filecheck_words.specs.Fault.{Gives};
 ghost use Rattle.filecheck_words.specs.Given.{IsRead};
 
+use crate::dumping::{Dump, dump_asked};
 use crate::fault::{WordsFail, WordsFault, refuse};
 use crate::given::GivenWords;
 use crate::implicit::patterns_of;
@@ -50,6 +51,7 @@ pub struct Asked {
     pub implicit: Items<Bytes>,
     /// The values of `-D`, in the order of the words, as `X=text` and `#N=3`.
     pub defines: Items<Bytes>,
+    pub dump: Dump,
 }
 
 /// The row of each option that is looked at.
@@ -57,11 +59,11 @@ const CHECK_PREFIX: usize = 0;
 
 const CHECK_PREFIXES: usize = 1;
 
-const INPUT_FILE: usize = 3;
+pub(crate) const INPUT_FILE: usize = 3;
 
 const STRICT: usize = 4;
 
-const ALLOW_EMPTY: usize = 5;
+pub(crate) const ALLOW_EMPTY: usize = 5;
 
 const ALLOW_UNUSED: usize = 6;
 
@@ -111,13 +113,14 @@ pub(crate) fn checking(
         may_lack: may_lack(given),
         implicit,
         defines,
+        dump: dump_asked(words, given),
     })
 }
 
 /// Whether a row is given.
-fn is_given(given: &GivenWords, row: usize) -> bool
-    requires row { row < 14 }
-    requires tally { IsTally 14 given.now.all given.now.settings }
+pub(crate) fn is_given(given: &GivenWords, row: usize) -> bool
+    requires row { row < 19 }
+    requires tally { IsTally 19 given.now.all given.now.settings }
     ensures { result ≡ is_given row given.now.all }
 {
     given.settings.times[row] > 0
@@ -125,7 +128,7 @@ fn is_given(given: &GivenWords, row: usize) -> bool
 
 /// Whether the check file may have no directive.
 fn may_lack(given: &GivenWords) -> bool
-    requires { IsTally 14 given.now.all given.now.settings }
+    requires { IsTally 19 given.now.all given.now.settings }
     ensures { result ≡ may_lack given.now.all }
 {
     is_given(given, IMPLICIT) && !is_given(given, CHECK_PREFIX) && !is_given(given, CHECK_PREFIXES)
@@ -155,7 +158,7 @@ fn one_file(
 }
 
 /// A value as the name of a file.
-fn file_name(alloc: Global, value: &[u8]) -> Result<Bytes, WordsFail>
+pub(crate) fn file_name(alloc: Global, value: &[u8]) -> Result<Bytes, WordsFail>
     ensures value { Gives (λ name. name) result (file_name value.now) }
     ensures text { IfOk result (λ name. is_utf8 name ≡ true) }
 {
@@ -174,7 +177,11 @@ fn is_text(value: &[u8]) -> bool
 }
 
 /// The input, by what is given last of its option.
-fn input_of(alloc: Global, words: &[String], last: Option<Given>) -> Result<Input, WordsFail>
+pub(crate) fn input_of(
+    alloc: Global,
+    words: &[String],
+    last: Option<Given>,
+) -> Result<Input, WordsFail>
     requires { IfSome last (Stands (texts words.now)) }
     ensures value { Gives (λ input. input) result (input_of (texts words.now) last) }
     ensures named { IfOk result IsNamed }

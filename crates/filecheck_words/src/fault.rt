@@ -12,7 +12,7 @@ pub enum WordsFault {
     NotText,
     /// `--nope`, or an option without its value: what is wrong, and the word that names the option.
     Faulty(WordFault, Bytes),
-    /// `--generate=3` with another option or a plain word.
+    /// `--generate=3` or `--make-checks` with a word that doesn't go with it.
     Misfit,
     /// No plain word, or more than one.
     NotOneFile,

@@ -1,18 +1,18 @@
 //! The options, and what the words give.
-ghost use Rattle.std.specs.Prelude.{◌≡◌, ◌<◌, false, All, IfOk, IfSome, length};
-ghost use Rattle.opt_words.specs.Step.{Stands, texts};
+ghost use Rattle.std.specs.Prelude.{◌≡◌, ◌<◌, false, All, IfOk, length};
+ghost use Rattle.opt_words.specs.Step.{texts};
 ghost use Rattle.filecheck_words.specs.Fault.{Gives};
-ghost use Rattle.filecheck_words.specs.Given.{IsRead, dump_fault, given_by, named_at, rows};
+ghost use Rattle.filecheck_words.specs.Given.{IsRead, given_by, named_at, rows};
 
 use crate::fault::{WordsFail, WordsFault, refuse};
-use opt_words::{Form, Given, Name, Row, Settings, Table, WordFault};
+use opt_words::{Form, Given, Name, Row, Settings, Table};
 use std::alloc::Global;
-use tt_base::{Bytes, Items, NoMemory};
+use tt_base::{Bytes, Items};
 
 /// The words, read by the table.
 #[derive(Drop, Debug)]
 pub(crate) struct GivenWords {
-    pub(crate) settings: Settings<14>,
+    pub(crate) settings: Settings<19>,
     /// All that they give, in order.
     pub(crate) all: Items<Given>,
 }
@@ -28,7 +28,7 @@ macro_rules! rows {
 }
 
 /// The options, in the order of docs/PROFILE.md.
-fn table() -> Table<14>
+fn table() -> Table<19>
     ensures rows { result.rows ≡ rows }
     ensures all { result.stop_at_plain ≡ false }
 {
@@ -47,7 +47,12 @@ fn table() -> Table<14>
             "generate" Form::Number { least: 1, most: 20_000 },
             "match-full-lines" Form::Flag,
             "ignore-case" Form::Flag,
-            "implicit-check-not" Form::Many
+            "implicit-check-not" Form::Many,
+            "dump-input-context" Form::Number { least: 0, most: 1_000_000 },
+            "dump-input-filter" Form::Once,
+            "make-checks" Form::Flag,
+            "make-lead" Form::Once,
+            "refresh" Form::Once
         ),
         stop_at_plain: false,
     }
@@ -78,27 +83,5 @@ pub(crate) fn named_at(given: Given) -> usize
         given.word.saturating_sub(1)
     } else {
         given.word
-    }
-}
-
-/// What is wrong with the value of `--dump-input`.
-pub(crate) fn dump_fault(
-    alloc: Global,
-    words: &[String],
-    last: Option<Given>,
-) -> Result<Option<WordsFault>, NoMemory>
-    requires { IfSome last (Stands (texts words.now)) }
-    ensures { IfOk result (λ fault. fault ≡ dump_fault (texts words.now) last) }
-{
-    match last {
-        Some(given) => {
-            if given.value(words) == b"never".as_slice() {
-                return Ok(None);
-            }
-            let fault = WordFault::UnwantedValue(named_at(given));
-            let word = Bytes::from_slice(alloc, fault.word(words))?;
-            Ok(Some(WordsFault::Faulty(fault, word)))
-        }
-        None => Ok(None),
     }
 }

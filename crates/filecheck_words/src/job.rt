@@ -2,11 +2,14 @@
 ghost use Rattle.std.specs.Prelude.{IfOk};
 ghost use Rattle.opt_words.specs.Step.{Stands, texts};
 ghost use Rattle.filecheck_words.specs.Fault.{Gives};
-ghost use Rattle.filecheck_words.specs.Job.{IsSound, asked_by, bad_number, generated};
+ghost use Rattle.filecheck_words.specs.Given.{IsRead};
+ghost use Rattle.filecheck_words.specs.Job.{IsSound, asked_by, bad_number, generated, job_of};
 
 use crate::checking::{Asked, checking};
+use crate::dumping::{DUMP_FILTER, DUMP_INPUT, dump_fault};
 use crate::fault::{WordsFail, WordsFault, refuse};
-use crate::given::{dump_fault, given_by, named_at};
+use crate::given::{GivenWords, given_by, named_at};
+use crate::making::{Making, is_making, make_asked};
 use opt_words::{Given, WordFault, decimal};
 use std::alloc::Global;
 use tt_base::{Bytes, NoMemory};
@@ -18,11 +21,11 @@ pub enum Job {
     Check(Asked),
     /// The same with a check file and an input of so many lines, which are generated.
     Generate(u64),
+    /// To make a check file from an input.
+    Make(Making),
 }
 
-/// The rows of `--dump-input` and `--generate`.
-const DUMP_INPUT: usize = 9;
-
+/// The row of `--generate`.
 const GENERATE: usize = 10;
 
 /// What the words ask for, which are without the program's name.
@@ -31,13 +34,27 @@ pub fn asked_by(alloc: Global, words: &[String]) -> Result<Job, WordsFail>
     ensures sound { IfOk result IsSound }
 {
     let given = given_by(alloc, words)?;
-    if let Some(fault) = dump_fault(alloc, words, given.settings.last[DUMP_INPUT])? {
+    let when = given.settings.last[DUMP_INPUT];
+    let filter = given.settings.last[DUMP_FILTER];
+    if let Some(fault) = dump_fault(alloc, words, when, filter)? {
         return refuse(fault);
     }
     match given.settings.last[GENERATE] {
         Some(number) => generated(alloc, words, given.all.len(), number),
-        None => Ok(Job::Check(checking(alloc, words, &given)?)),
+        None => job_of(alloc, words, &given),
     }
+}
+
+/// The job of what the words give, without `--generate`.
+fn job_of(alloc: Global, words: &[String], given: &GivenWords) -> Result<Job, WordsFail>
+    requires { IsRead (texts words.now) given.now }
+    ensures value { Gives (λ job. job) result (job_of (texts words.now) given.now.all) }
+    ensures sound { IfOk result IsSound }
+{
+    if is_making(given) {
+        return Ok(Job::Make(make_asked(alloc, words, given)?));
+    }
+    Ok(Job::Check(checking(alloc, words, given)?))
 }
 
 /// The lines that are generated, where nothing else is given.
