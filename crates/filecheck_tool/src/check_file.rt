@@ -175,7 +175,7 @@ pub(crate) fn line_name(
 fn line_spot(alloc: Global, file: &CheckFile, directive: Directive) -> Result<Spot, NoMemory>
     requires small { length file.now.text ≤ 2 ^ 30 }
     requires placed { IsPlaced file.now.text (length file.now.asked.prefixes.checks) directive }
-    ensures { IfOk result (λ spot. spot ≡ spot_at file.now.asked.name file.now.text directive.body.from) }
+    ensures { IfOk result (λ it. it ≡ spot_at file.now.asked.name file.now.text directive.body.from) }
 {
     let place = Place {
         line: directive.line,

@@ -5,14 +5,12 @@ ghost use Rattle.tt_run.specs.Run.{Failed, LacksMemory, files_of, source_of, str
 ghost use Rattle.std.specs.Str.{is_utf8};
 ghost use Rattle.opt_words.specs.Step.{texts};
 ghost use Rattle.tt_run.specs.Run.{FileRead, IsShort};
-ghost use Rattle.filecheck_tool.specs.Program.{IsSoundFile};
-ghost use Rattle.filecheck_tool.specs.Answer.{IsSoundPlan, checks_asked, input_asked, unless_made};
+ghost use Rattle.filecheck_tool.specs.Answer.{IsSoundPlan, checks_asked, input_asked};
 ghost use Rattle.filecheck_tool.specs.Run.{AnswerOf, AreUnread, Checks, FileAsked, InputAsked, IsKept, OutcomeFrom, OutcomeOf, PlanFrom};
 ghost use Rattle.filecheck_words.specs.Checking.{IsNamed};
 ghost use Rattle.filecheck_words.specs.Job.{IsSound as IsSoundJob, asked_by};
 
 use crate::answer::{answered, found_in};
-use crate::check_file::CheckFile;
 use crate::plan::{Plan, plan_of};
 use filecheck_messages::{Refusal, Report, Stop};
 use filecheck_words::{Input, Job, WordsFail, asked_by};
@@ -193,28 +191,11 @@ fn read_input<F: Files, I: Source>(
     ensures files_stay { IsKept F.Files from.old from.new }
 {
     match plan {
-        Plan::Check(program) => read_checked(alloc, &program.file, from, input),
+        Plan::Check(program) => match program.file.made {
+            Some(_) => Ok(Reading::Missing),
+            None => read_place(alloc, &program.file.asked.input, from, input),
+        },
         Plan::Make(making, _) => read_place(alloc, &making.input, from, input),
-    }
-}
-
-/// The same of an input that is checked.
-fn read_checked<F: Files, I: Source>(
-    alloc: Global,
-    file: &CheckFile,
-    from: &mut F,
-    input: &mut I,
-) -> Result<Reading, NoMemory>
-    requires { IsSoundFile file.now }
-    ensures read { IfOk result (InputAsked (files_of F.Files from.old from.new) (source_of I.Source input.old input.new)
-        (2 ^ 26) (unless_made file.now.made file.now.asked.input)) }
-    ensures short { IfOk result (IsShort (2 ^ 26)) }
-    ensures taken { TakesAtMost (I.left input.old) (I.left input.new) (2 ^ 26 + 1) }
-    ensures files_stay { IsKept F.Files from.old from.new }
-{
-    match file.made {
-        Some(_) => Ok(Reading::Missing),
-        None => read_place(alloc, &file.asked.input, from, input),
     }
 }
 
