@@ -1,5 +1,5 @@
 -- A run comes to the answer of its words and of what it read.
-use Rattle.std.proofs.Common.{◌≡◌, ℕ, ◌^◌, Result, Ok, Err, ◌∙◌, ap}
+use Rattle.std.proofs.Common.{◌≡◌, ℕ, ◌^◌, Result, Ok, Err, IsErr, ◌∙◌, ap, refl, subst, sym}
 use Rattle.tt_outside.specs.declared.files.Files.{Ghosts as OfFiles}
 use Rattle.tt_run.specs.Run.{Files, Source, files_of}
 use Rattle.tt_run.specs.declared.answer.Answer.{Answer}
@@ -20,6 +20,12 @@ checks_of : (files : Files) (limit : ℕ) (job : Result Job WordsFault) (plan : 
     → (file : Reading) × ChecksRead files limit job file × IsPlan job file plan
 checks_of files limit (Ok job) plan from = from
 checks_of files limit (Err fault) plan from = (Missing, from.0, from.1)
+
+-- words that are refused come to a refusal
+pub refused_plan : (files : Files) (limit : ℕ) (job : Result Job WordsFault) (plan : Result Plan Stop)
+    → PlanFrom files limit job plan → IsErr job → IsErr plan
+refused_plan files limit (Ok job) plan from is = cc
+refused_plan files limit (Err fault) plan from is = subst IsErr (sym from.1) refl
 
 -- and the input
 input_of : (files : Files) (input : Source) (limit : ℕ) (plan : Result Plan Stop) (outcome : Result Report Stop)

@@ -11,7 +11,7 @@ marks_due-requires-clause-numbers c =
     subst (All (λ fault. IsOne fault.directive)) (sym c.as_slice.ensures)
     (numbers_of_faults IsOne (length c.args.input) c.args.faults c.requires.lie)
 
-pub dump_with-requires-clause-within : goal.dump_with-requires-clause-within
-dump_with-requires-clause-within c =
+pub dump_with-dumped-requires-clause-within : goal.dump_with-dumped-requires-clause-within
+dump_with-dumped-requires-clause-within c =
     due_within c.args.file.now (length c.args.input) c.args.faults c.in_ok-due.due
     (c.in_ok-due.ensures ∙ ap (marks_due c.args.file.now) c.as_slice.ensures) c.requires.lie
