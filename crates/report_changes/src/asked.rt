@@ -25,9 +25,9 @@ pub enum Refusal {
 
 /// The reports that the words ask for.
 pub(crate) fn asked(alloc: Global, words: &[String]) -> Result<Result<Reports, Refusal>, NoMemory>
-    ensures value { IfOk result (λ asked. asked ≡ asked (texts words.now)) }
-    ensures within { IfOk result (λ asked. IfOk asked (AreWithin (length words.now))) }
-    ensures told { IfOk result (λ asked. IfErr asked (IsTold (length words.now))) }
+    ensures value { IfOk result (λ found. found ≡ asked (texts words.now)) }
+    ensures within { IfOk result (λ found. IfOk found (AreWithin (length words.now))) }
+    ensures told { IfOk result (λ found. IfErr found (IsTold (length words.now))) }
 {
     let table = Table {
         rows: [],

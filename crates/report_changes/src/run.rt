@@ -1,8 +1,8 @@
 //! The top call.
-ghost use Rattle.std.specs.Prelude.{◌≡◌, ◌⊎◌, ◌≤◌, ◌≢◌, IfErr, IfOk, codes, length};
+ghost use Rattle.std.specs.Prelude.{◌≡◌, ◌⊎◌, ◌<◌, ◌≤◌, ◌≢◌, IfErr, IfOk, codes, length};
 ghost use Rattle.opt_words.specs.Step.{texts};
 ghost use Rattle.report_changes.specs.Run.{AnswerOf, Compares, IsKept, OutcomeOf, ReportRead};
-ghost use Rattle.report_changes.specs.Stop.{IsToldOf};
+ghost use Rattle.report_changes.specs.Stop.{IsToldOf, word_at};
 ghost use Rattle.tt_run.specs.Run.{Failed, LacksMemory, files_of, stream_of};
 
 use crate::answer::answer_to;
@@ -75,15 +75,23 @@ fn outcome_of<F: Files>(
         Ok(asked) => asked,
         Err(refusal) => return Ok(Err(Stop::Words(refusal))),
     };
-    let old = match report_from(alloc, words[asked.old].as_str(), files)? {
+    let old = match report_from(alloc, word_at(words, asked.old), files)? {
         Ok(lines) => lines,
         Err(unread) => return Ok(Err(Stop::Report(asked.old, unread))),
     };
-    let new = match report_from(alloc, words[asked.new].as_str(), files)? {
+    let new = match report_from(alloc, word_at(words, asked.new), files)? {
         Ok(lines) => lines,
         Err(unread) => return Ok(Err(Stop::Report(asked.new, unread))),
     };
     Ok(Ok(changes(alloc, old.as_slice(), new.as_slice())?))
+}
+
+/// The word of an index.
+fn word_at(words: &[String], index: usize) -> &str
+    requires { index < length words.now }
+    ensures { result.now ≡ word_at (texts words.now) index }
+{
+    words[index].as_str()
 }
 
 /// The tests of the report of a name, or why there are none.

@@ -1,7 +1,8 @@
 //! Why two reports aren't compared.
 ghost use Rattle.std.specs.Prelude.{◌≡◌, ◌≤◌, ◌++◌, IfOk, OnOk, decimal, length};
 ghost use Rattle.opt_words.specs.Step.{texts};
-ghost use Rattle.report_changes.specs.Stop.{IsToldOf, kind_of, status_of, text_of, unread_text};
+ghost use Rattle.report_changes.specs.Asked.{IsTold};
+ghost use Rattle.report_changes.specs.Stop.{IsToldOf, kind_of, reason_of, refusal_text, status_of, text_of, unread_text};
 
 use crate::asked::Refusal;
 use itoa::Buffer;
@@ -46,43 +47,64 @@ pub(crate) fn text_of(alloc: Global, words: &[String], stop: Stop) -> Result<Byt
     requires { IsToldOf (length words.now) stop }
     ensures { IfOk result (λ text. text ≡ text_of (texts words.now) stop) }
 {
+    let reason = reason_of(alloc, words, stop)?;
     let mut text = Bytes::from_slice(alloc, b"lit_changes: error: ")?;
-    match stop {
-        Stop::Words(Refusal::FaultyWord(fault)) => {
-            add_named(
-                &mut text,
-                fault.text_before(),
-                fault.word(words),
-                fault.text_behind(),
-            )?;
-        }
-        Stop::Words(Refusal::NotTwoReports) => text.append(b"two reports are needed")?,
-        Stop::Report(word, unread) => add_unread(&mut text, words[word].as_bytes(), unread)?,
-    }
+    text.append(reason.as_slice())?;
     text.append(b"\n")?;
     Ok(text)
 }
 
-/// Adds a name between two texts.
-fn add_named(text: &mut Bytes, before: &[u8], name: &[u8], behind: &[u8]) -> Result<(), NoMemory>
-    ensures { OnOk result (text.new ≡ text.old ++ before.now ++ name.now ++ behind.now) }
+/// What is amiss.
+fn reason_of(alloc: Global, words: &[String], stop: Stop) -> Result<Bytes, NoMemory>
+    requires { IsToldOf (length words.now) stop }
+    ensures { IfOk result (λ text. text ≡ reason_of (texts words.now) stop) }
 {
-    text.append(before)?;
-    text.append(name)?;
-    text.append(behind)
+    match stop {
+        Stop::Words(refusal) => refusal_text(alloc, words, refusal),
+        Stop::Report(word, unread) => unread_text(alloc, words[word].as_bytes(), unread),
+    }
 }
 
-/// Adds what is amiss with the report of a name.
-fn add_unread(text: &mut Bytes, name: &[u8], unread: Unread) -> Result<(), NoMemory>
-    ensures { OnOk result (text.new ≡ text.old ++ unread_text name.now unread) }
+/// Why the words are refused.
+fn refusal_text(alloc: Global, words: &[String], refusal: Refusal) -> Result<Bytes, NoMemory>
+    requires { IsTold (length words.now) refusal }
+    ensures { IfOk result (λ text. text ≡ refusal_text (texts words.now) refusal) }
+{
+    match refusal {
+        Refusal::FaultyWord(fault) => {
+            named(
+                alloc,
+                fault.text_before(),
+                fault.word(words),
+                fault.text_behind(),
+            )
+        }
+        Refusal::NotTwoReports => Bytes::from_slice(alloc, b"two reports are needed"),
+    }
+}
+
+/// A name between two texts.
+fn named(alloc: Global, before: &[u8], name: &[u8], behind: &[u8]) -> Result<Bytes, NoMemory>
+    ensures { IfOk result (λ text. text ≡ before.now ++ name.now ++ behind.now) }
+{
+    let mut text = Bytes::from_slice(alloc, before)?;
+    text.append(name)?;
+    text.append(behind)?;
+    Ok(text)
+}
+
+/// What is amiss with the report of a name.
+fn unread_text(alloc: Global, name: &[u8], unread: Unread) -> Result<Bytes, NoMemory>
+    ensures { IfOk result (λ text. text ≡ unread_text name.now unread) }
 {
     match unread {
-        Unread::Missing => add_named(text, b"'", name, b"' not found"),
-        Unread::TooLarge => add_named(text, b"'", name, b"' is too large"),
-        Unread::Failed => add_named(text, b"cannot read '", name, b"'"),
+        Unread::Missing => named(alloc, b"'", name, b"' not found"),
+        Unread::TooLarge => named(alloc, b"'", name, b"' is too large"),
+        Unread::Failed => named(alloc, b"cannot read '", name, b"'"),
         Unread::Bad(fault) => {
-            add_named(text, b"bad report '", name, b"': ")?;
-            add_kind(text, fault)
+            let mut text = named(alloc, b"bad report '", name, b"': ")?;
+            add_kind(&mut text, fault)?;
+            Ok(text)
         }
     }
 }
