@@ -1,0 +1,6 @@
+pub mod FloatLemmas
+pub mod LineLemmas
+pub mod PathLemmas
+pub mod ReportLemmas
+pub mod TextLemmas
+pub mod WholeLemmas

@@ -1,0 +1,4 @@
+pub mod Answer
+pub mod Asked
+pub mod Run
+pub mod Stop
