@@ -1,7 +1,7 @@
 #!/usr/bin/env python3
 """Times check files that filecheck makes, and annotated inputs, beside LLVM's FileCheck where that is installed.
 
-    benches/made.py [--mib N] [--rounds N] [PROGRAM]
+    benches/made.py [--mib N] [--rounds N] [--marks N] [PROGRAM]
 
 PROGRAM is the program to time; without it, the one that ./run builds. In each round the commands of a row run in
 alternation. Time is wall time, the best of the rounds; memory is the greatest resident set. Both streams go into files. Reading and
@@ -102,6 +102,7 @@ def main():
     wants = argparse.ArgumentParser(description="Times check files that are made, and annotated inputs.")
     wants.add_argument("--mib", type=int, default=60, help="size of the large inputs (60)")
     wants.add_argument("--rounds", type=int, default=5, help="runs of a case, of which the best counts (5)")
+    wants.add_argument("--marks", type=int, default=200, help="how many marks stand far to the right, of which each message takes 2 MB (200)")
     wants.add_argument("program", nargs="?", help="the program to time")
     given = wants.parse_args()
     ours = os.path.abspath(given.program or filecheck.built("filecheck"))
@@ -127,7 +128,7 @@ def main():
             row(f"{given.mib} MiB with one fault, `always`", best_of(folder, pair, at("faulty"), [1, 1], given.rounds), "1")
 
         write_far(at("far"), 1_000_000)
-        for count in (1, 2000):
+        for count in (1, given.marks):
             with open(at("many"), "w") as out:
                 out.write("CHECK-NOT: b\n" * count)
             pair = [[ours, at("many"), "--dump-input=fail"], [ours, at("many")]]
