@@ -105,9 +105,11 @@ fn is_told(alloc: Global, row: &str) -> Result<bool, NoMemory> {
     Ok(told(alloc, name, loss)?.as_slice() == due.as_bytes())
 }
 
-/// The name of a listed directory, what is lost, and what is told.
+/// The name of a listed directory, what is lost, and what is told. Under a name with a slash nothing stands.
 const LOST: &str = "d => is gone => missing /w/d
 d => is a file => missing /w/d
+d/e => is gone => no tests
+d/e => no suite file => missing /w/lit.suite.toml
 d => no suite file => missing /w/lit.suite.toml";
 
 #[test]
