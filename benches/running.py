@@ -143,7 +143,7 @@ def trees(top, tests, filecheck, path):
     """The same tests for both lits, in folders of their own."""
     for name, file, text in [("ours", "lit.suite.toml", SUITE.format(filecheck=filecheck)), ("llvm", "lit.cfg", PYTHON.format(path=path))]:
         at = os.path.join(top, name)
-        for folder, one in [("true", "RUN: true\n"), ("wide", "RUN: head -c 3900000 %S/../inputs/large\n" * 4),
+        for folder, one in [("true", "RUN: true\n"), ("alone", "RUN: true\n"), ("wide", "RUN: head -c 3900000 %S/../inputs/large\n" * 4),
                             ("piped", "RUN: head -c 2600000 %S/../inputs/large | cat | cat | wc -c\n")]:
             for number in range(tests if folder == "true" else 1):
                 write(os.path.join(at, folder, f"t{number:04}.txt"), one)
@@ -210,7 +210,8 @@ def main():
         case(f"{given.tests:,} tests `RUN: true`", ("0.35", "0.25"), "true", given.tests, ["true"])
         case(f"{given.tests // 2:,} tests with a pipe into FileCheck", ("0.5", ""), "checks", given.tests // 2,
              ["cat", os.path.join("ours", "inputs", "i0000"), "|", filecheck, os.path.join("ours", "checks", "t0000.txt")])
-        case("one test, named directly", ("0.1", ""), os.path.join("true", "t0007.txt"), 1, ["true"])
+        case(f"one test, named directly, among {given.tests:,}", ("0.1", ""), os.path.join("true", "t0007.txt"), 1, ["true"])
+        case("one test, named directly, alone in its folder", ("0.1", ""), os.path.join("alone", "t0000.txt"), 1, ["true"])
         case("a test with an output of 15 MiB", ("1.0", ""), "wide", 4, ["head", "-c", "3900000", large])
         case("a test that hands 15 MiB through three pipes", ("1.0", ""), "piped", 1,
              ["head", "-c", "2600000", large, "|", "cat", "|", "cat", "|", "wc", "-c"])

@@ -27,8 +27,8 @@ abbrev pub past_or : Told → List ℕ → List ℕ → ℕ → Told
 past_or other out err limit =
     if nat_lt limit (length out) then OutPast else if nat_lt limit (length err) then ErrPast else other
 
--- What reading both streams came to, where it ended by a fault, or none, and gave these bytes. There is room for little more than
--- the limit, so that a stream that passes it ends in want of room.
+-- What reading both streams came to, where it ended by a fault, or none, and gave these bytes. It ends without a fault where both
+-- have ended, or where one is past the limit; that counts before a want of memory.
 abbrev pub told_of : Option ErrorKind → List ℕ → List ℕ → ℕ → Told
 told_of None out err limit = past_or Whole out err limit
 told_of (Some OutOfMemory) out err limit = past_or NoMemory out err limit

@@ -1,19 +1,25 @@
-//! A program that is run to its end. Its two streams are read by turns, so that it never waits to be read.
-ghost use Rattle.std.specs.Prelude.{◌≡◌, ◌≤◌, IfOk, length, true};
+//! A program that is run to its end. By turns it is given a piece of its input and a piece of each of its streams is read, so that
+//! neither it nor its hand waits for the other without end.
+ghost use Rattle.std.specs.Prelude.{◌≡◌, ◌++◌, ◌≤◌, List, ℕ, IfOk, OnOk, length, true};
+ghost use Rattle.std.specs.Io.KnownBytes.{Consumes};
 ghost use Rattle.tt_real.specs.Reply.{fits_program};
 
-use crate::input::{Feeder, Input, feed_at_once, input_of};
+use crate::input::Feed;
 use crate::told::{Told, finish_fed, finish_of, refused_reply, reply_of, told_of};
-use bumpalo::Bump;
+use libc::net::{POLLIN, POLLOUT, poll};
+use libc::types::pollfd;
 use std::alloc::Global;
-use std::env::Env;
-use std::fs::File;
-use std::io::{Error, ErrorKind};
-use std::process::{Child, Command, OpenProcess, Processes, SystemProcess};
-use std::rt;
-use std::thread::Threads;
+use std::io::{Error, ErrorKind, Read};
+use std::os::fd::{AsRawFd, RawFd};
+use std::process::{Child, ChildStderr, ChildStdout, Command, Processes, Stdio, SystemProcess};
 use tt_base::{Bytes, NoMemory};
 use tt_outside::{Finish, Reply};
+
+/// How many bytes are read at once: as many as a pipe holds.
+const PIECE: usize = 1 << 16;
+
+/// After how many milliseconds a program is looked at again that reads and doesn't write any more: whether it has ended.
+const PATIENCE: i32 = 10;
 
 /// What was read of a program's output and errors, where they were read whole.
 #[derive(Drop)]
@@ -23,75 +29,192 @@ struct Streams {
     err: Bytes,
 }
 
+/// One of a program's streams: where it is read, up to its end, and what was read.
+#[derive(Drop)]
+struct Drain<R> {
+    reader: Option<R>,
+    bytes: Vec<u8>,
+}
+
 /// Runs a program with an input. Each of its streams may have at most `limit` bytes.
-pub(crate) fn run<R>(
+pub(crate) fn run<R: Processes<Started = SystemProcess>>(
     rt: &R,
     alloc: Global,
     mut command: Command,
     input: &[u8],
     limit: u64,
 ) -> Result<Reply, NoMemory>
-where
-    R: rt::Files<File = File> + Env + Processes<Started = SystemProcess> + Threads,
     ensures { IfOk result (λ reply. fits_program limit reply ≡ true) }
 {
-    let Input { stdin, feeder } = match input_of(rt, alloc, input) {
-        Ok(input) => input,
-        Err(error) => return not_fed(&error),
-    };
-    command.stdin(stdin);
+    command.stdin(Stdio::piped());
     let started = command.spawn(rt);
     drop(command);
     match started {
         Ok(mut child) => {
-            let fault = feed_at_once(child.stdin.take(), input);
-            let streams = drain(alloc, &mut child, limit);
+            let mut feed = Feed::new(child.stdin.take(), input);
+            let streams = streams_of(alloc, &mut child, &mut feed, limit);
+            let fault = feed.end();
             let finish = wait_for(child, streams.told);
-            let fault = ended(rt, feeder).or(fault);
             reply_to(streams, finish_fed(fault, finish), limit)
         }
-        Err(error) => {
-            let _ = ended(rt, feeder);
-            refused_reply(&error)
+        Err(error) => refused_reply(&error),
+    }
+}
+
+/// Reads once, and adds what was read. It tells whether more may come.
+fn add_piece<R: Read>(
+    reader: &mut R,
+    piece: &mut [u8],
+    bytes: &mut Vec<u8>,
+) -> Result<bool, ErrorKind>
+    ensures { OnOk result ((read : List ℕ) × (bytes.new.items ≡ bytes.old.items ++ read)
+        × Consumes (R.remaining reader.old) (R.remaining reader.new) read) }
+{
+    match reader.read(piece) {
+        Ok(count) => match bytes.extend_from_slice(&piece[..count]) {
+            Ok(()) => Ok(count > 0),
+            Err(_) => Err(ErrorKind::OutOfMemory),
+        },
+        Err(error) => match error.kind() {
+            ErrorKind::Interrupted => Ok(true),
+            kind => Err(kind),
+        },
+    }
+}
+
+impl<R: Read + AsRawFd + Drop> Drain<R> {
+    fn new(alloc: Global, reader: R) -> Drain<R> {
+        Drain {
+            reader: Some(reader),
+            bytes: Vec::new(alloc),
         }
     }
-}
 
-/// The kind of the fault with which an input was written, once its program has ended.
-fn ended<R: Threads>(rt: &R, feeder: Option<Feeder>) -> Option<ErrorKind> {
-    feeder?.end(rt)
-}
+    fn is_open(&self) -> bool {
+        self.reader.is_some()
+    }
 
-/// The reply where there is no input to give.
-fn not_fed(error: &Error) -> Result<Reply, NoMemory>
-    ensures { IfOk result (λ reply. reply ≡ Reply.Broken) }
-{
-    match refused_reply(error) {
-        Ok(_) => Ok(Reply::Broken),
-        Err(NoMemory) => Err(NoMemory),
+    /// Whether it has more bytes than there is room for.
+    fn is_past(&self, room: u64) -> bool {
+        self.bytes.len() as u64 > room
+    }
+
+    /// The descriptor that is read, or -1 at its end.
+    fn fd(&self) -> RawFd {
+        match &self.reader {
+            Some(reader) => reader.as_raw_fd(),
+            None => -1,
+        }
+    }
+
+    /// Reads once.
+    fn read(&mut self, piece: &mut [u8]) -> Result<(), ErrorKind> {
+        let Some(reader) = &mut self.reader else {
+            return Ok(());
+        };
+        if !add_piece(reader, piece, &mut self.bytes)? {
+            self.reader = None;
+        }
+        Ok(())
+    }
+
+    /// What was read, without the room behind it.
+    fn end(self) -> Vec<u8> {
+        let mut bytes = self.bytes;
+        bytes.shrink_to_fit();
+        bytes
     }
 }
 
-/// For how many bytes of a stream there is room: its bytes lie in blocks, each of at least twice the last one's length, and where
-/// the limit is passed there is none for more.
-fn room_for(limit: u64) -> usize {
-    limit.saturating_add(1 << 16).saturating_mul(8) as usize
+/// Waits until the first of these can be written, or one of the others read, for at most so many milliseconds, or without end.
+fn ready(fds: [RawFd; 3], milliseconds: i32) -> Result<[bool; 3], ErrorKind> {
+    let ask = |fd, events| pollfd {
+        fd,
+        events,
+        revents: 0,
+    };
+    let [feed, out, err] = fds;
+    let mut asked = [ask(feed, POLLOUT), ask(out, POLLIN), ask(err, POLLIN)];
+    if poll(&mut asked, milliseconds) >= 0 {
+        return Ok([
+            asked[0].revents != 0,
+            asked[1].revents != 0,
+            asked[2].revents != 0,
+        ]);
+    }
+    match Error::from_raw_os_error(os::errno()).kind() {
+        ErrorKind::Interrupted => Ok([false, false, false]),
+        kind => Err(kind),
+    }
 }
 
-/// Reads both streams of a program to their ends, or up to the first fault, and closes them.
-fn drain(alloc: Global, child: &mut Child<SystemProcess>, limit: u64) -> Streams
+/// Waits, and then moves a piece of each that is ready.
+fn turn(
+    feed: &mut Feed<'_>,
+    out: &mut Drain<ChildStdout>,
+    err: &mut Drain<ChildStderr>,
+    piece: &mut [u8],
+    milliseconds: i32,
+) -> Result<(), ErrorKind> {
+    let [takes, has_out, has_err] = ready([feed.fd(), out.fd(), err.fd()], milliseconds)?;
+    if takes {
+        feed.write();
+    }
+    if has_out {
+        out.read(piece)?;
+    }
+    if has_err {
+        err.read(piece)?;
+    }
+    Ok(())
+}
+
+/// Feeds a program and reads its streams to their ends, until one has more bytes than there is room for, or up to the first fault.
+fn exchange(
+    child: &mut Child<SystemProcess>,
+    feed: &mut Feed<'_>,
+    out: &mut Drain<ChildStdout>,
+    err: &mut Drain<ChildStderr>,
+    room: u64,
+) -> Result<(), ErrorKind> {
+    let mut piece = [0u8; PIECE];
+    for _ in 0..u64::MAX {
+        if out.is_past(room) || err.is_past(room) {
+            return Ok(());
+        }
+        match (feed.is_open(), out.is_open(), err.is_open()) {
+            (false, false, false) => return Ok(()),
+            (false, true, false) => out.read(&mut piece)?,
+            (false, false, true) => err.read(&mut piece)?,
+            (true, false, false) => {
+                if !matches!(child.try_wait(), Ok(None)) {
+                    return Ok(());
+                }
+                turn(feed, out, err, &mut piece, PATIENCE)?;
+            }
+            (_, _, _) => turn(feed, out, err, &mut piece, -1)?,
+        }
+    }
+    Err(ErrorKind::TimedOut)
+}
+
+/// Feeds a program, reads both of its streams, and closes them. A stream may pass the limit by a piece, so that it is told of the
+/// output first.
+fn streams_of(
+    alloc: Global,
+    child: &mut Child<SystemProcess>,
+    feed: &mut Feed<'_>,
+    limit: u64,
+) -> Streams
     ensures { result.told ≡ Told.Whole → (length result.out ≤ limit) × (length result.err ≤ limit) }
 {
-    let (Some(mut stdout), Some(mut stderr)) = (child.stdout.take(), child.stderr.take()) else {
+    let (Some(stdout), Some(stderr)) = (child.stdout.take(), child.stderr.take()) else {
         return nothing(alloc, Told::Failed);
     };
-    let (out_room, err_room) = (Bump::new(alloc), Bump::new(alloc));
-    out_room.set_allocation_limit(Some(room_for(limit)));
-    err_room.set_allocation_limit(Some(room_for(limit)));
-    let (mut out, mut err) = (Vec::new(&out_room), Vec::new(&err_room));
-    let ended = SystemProcess::read_both(&mut stdout, &mut out, &mut stderr, &mut err);
-    let fault = ended.err().map(|error| error.kind());
-    kept(alloc, fault, out.as_slice(), err.as_slice(), limit)
+    let (mut out, mut err) = (Drain::new(alloc, stdout), Drain::new(alloc, stderr));
+    let room = limit.saturating_add(PIECE as u64);
+    let fault = exchange(child, feed, &mut out, &mut err, room).err();
+    kept(alloc, fault, out.end(), err.end(), limit)
 }
 
 /// No bytes.
@@ -106,16 +229,17 @@ fn nothing(alloc: Global, told: Told) -> Streams
 }
 
 /// What was read, where both streams were read whole.
-fn kept(alloc: Global, fault: Option<ErrorKind>, out: &[u8], err: &[u8], limit: u64) -> Streams
+fn kept(alloc: Global, fault: Option<ErrorKind>, out: Vec<u8>, err: Vec<u8>, limit: u64) -> Streams
     ensures { result.told ≡ Told.Whole → (length result.out ≤ limit) × (length result.err ≤ limit) }
 {
-    let told = told_of(fault, out, err, limit);
+    let told = told_of(fault, out.as_slice(), err.as_slice(), limit);
     if told != Told::Whole {
         return nothing(alloc, told);
     }
-    match (Bytes::from_slice(alloc, out), Bytes::from_slice(alloc, err)) {
-        (Ok(out), Ok(err)) => Streams { told, out, err },
-        (_, _) => nothing(alloc, Told::NoMemory),
+    Streams {
+        told,
+        out: Bytes::from_vec(out),
+        err: Bytes::from_vec(err),
     }
 }
 

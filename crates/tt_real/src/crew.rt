@@ -5,11 +5,8 @@ use crate::child::run;
 use crate::command::{CommandFault, command_of};
 use crate::disk::{SystemDisk, disk_reply};
 use std::alloc::Global;
-use std::env::Env;
-use std::fs::File;
 use std::process::{Processes, SystemProcess};
 use std::rt;
-use std::thread::Threads;
 use tt_base::NoMemory;
 use tt_outside::{Crew, Entry, Reply, Request, Runner, Seats, Work};
 
@@ -22,7 +19,7 @@ pub struct StdHand<R> {
 
 impl<R> Runner for StdHand<R>
 where
-    R: rt::Files<File = File> + Env + Processes<Started = SystemProcess> + Threads + Sync,
+    R: rt::Files + Processes<Started = SystemProcess> + Sync,
 {
     ghost use Rattle.std.specs.Prelude.{⊤};
     ghost use Rattle.tt_outside.specs.Seats.{begun_by};
@@ -89,7 +86,7 @@ impl<R: Sync> StdCrew<R> {
 
 impl<R> Crew for StdCrew<R>
 where
-    R: rt::Files<File = File> + Env + Processes<Started = SystemProcess> + Threads + Send + Sync,
+    R: rt::Files + Processes<Started = SystemProcess> + Send + Sync,
     R: Clone + Drop,
 {
     ghost use Rattle.std.specs.Prelude.{⊤};

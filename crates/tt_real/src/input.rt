@@ -1,43 +1,33 @@
-//! How a program is given its input, so that it never waits for it while it is waited for: what a new pipe holds is written at
-//! once, and more of it by a thread, or where none can be had it stands in a file.
-ghost use Rattle.std.specs.Prelude.{◌≡◌, IfNone};
+//! How a program is given its input, so that neither waits for the other without end: what a new pipe holds is written at once, and
+//! more of it piece by piece, as the pipe takes it.
+ghost use Rattle.std.specs.Prelude.{◌≡◌, ◌≤◌, ℕ, IfNone, length, take};
 ghost use Rattle.std.specs.Io.KnownBytes.{Appends};
 
-use std::alloc::Global;
-use std::env::{self, Env};
-use std::fs::{self, File};
-use std::io::{self, Error, ErrorKind, PipeReader, Read, Seek, Write};
-use std::os::fd::OwnedFd;
-use std::os::unix::fs::OpenOptionsExt;
-use std::process::{ChildStdin, Stdio};
-use std::rt;
-use std::thread::{Builder, JoinHandle, Threads};
+use std::io::{Error, ErrorKind, Write};
+use std::os::fd::{AsRawFd, RawFd};
+use std::process::ChildStdin;
 
 /// How many bytes a pipe that is empty takes without waiting for a reader.
 const AT_ONCE: usize = 4096;
 
-/// The stack of a thread that writes an input.
-const STACK: usize = 1 << 18;
-
-/// How many names are tried for a file.
-const NAMES: u32 = 1 << 16;
-
-/// What a program gets as its standard input, and what writes it, if it doesn't stand there yet.
+/// The input of a program: where it is written, until all of it is or the program takes no more, and what is left of it.
 #[derive(Drop)]
-pub(crate) struct Input {
-    pub(crate) stdin: Stdio,
-    pub(crate) feeder: Option<Feeder>,
+pub(crate) struct Feed<'a> {
+    stdin: Option<ChildStdin>,
+    left: &'a [u8],
+    fault: Option<ErrorKind>,
 }
 
-/// The thread that writes an input into a pipe, and a second reader of that pipe.
-#[derive(Drop)]
-pub(crate) struct Feeder {
-    thread: JoinHandle<Option<ErrorKind>>,
-    reader: PipeReader,
+/// What was written of what is left of an input.
+#[derive(Clone, Copy)]
+enum Fed {
+    Whole,
+    UpTo(usize),
+    Failed(ErrorKind),
 }
 
 /// Writes the whole input. It tells the kind of the fault, where there is one.
-fn feed<W: Write>(stdin: &mut W, input: &[u8]) -> Option<ErrorKind>
+fn feed_all<W: Write>(stdin: &mut W, input: &[u8]) -> Option<ErrorKind>
     ensures { IfNone result (Appends (W.contents stdin.old) (W.contents stdin.new) input.now) }
 {
     match stdin.write_all(input) {
@@ -46,105 +36,86 @@ fn feed<W: Write>(stdin: &mut W, input: &[u8]) -> Option<ErrorKind>
     }
 }
 
-/// Writes an input that the program's new pipe holds, and closes the pipe.
-pub(crate) fn feed_at_once(stdin: Option<ChildStdin>, input: &[u8]) -> Option<ErrorKind> {
-    match stdin {
-        Some(mut stdin) => feed(&mut stdin, input),
-        None => None,
-    }
-}
-
-impl Feeder {
-    /// Drops what a program that has ended left of its input, and tells the kind of the fault with which it was written. So a
-    /// process that still has the pipe, and doesn't read, isn't waited for.
-    pub(crate) fn end<R: Threads>(mut self, rt: &R) -> Option<ErrorKind> {
-        let mut piece = [0u8; AT_ONCE];
-        for _ in 0..u64::MAX {
-            match self.reader.read(&mut piece) {
-                Ok(0) => break,
-                Ok(_) => {}
-                Err(error) => {
-                    if error.kind() != ErrorKind::Interrupted {
-                        break;
-                    }
-                }
+/// Writes as much of what is left as is taken without waiting.
+#[tactic(auto, using(crate::proofs::RetryLemmas::writes_none))]
+fn feed_piece<W: Write>(stdin: &mut W, left: &[u8]) -> Fed
+    ensures whole { result ≡ Fed.Whole → Appends (W.contents stdin.old) (W.contents stdin.new) left.now }
+    ensures part { (count : ℕ) → result ≡ Fed.UpTo count → (count ≤ length left.now)
+        × Appends (W.contents stdin.old) (W.contents stdin.new) (take count left.now) }
+{
+    match stdin.write(left) {
+        Ok(count) => {
+            if count == left.len() {
+                Fed::Whole
+            } else {
+                Fed::UpTo(count)
             }
         }
-        drop(self.reader);
-        self.thread.join(rt)
+        Err(error) => match error.kind() {
+            ErrorKind::Interrupted | ErrorKind::WouldBlock => Fed::UpTo(0),
+            kind => Fed::Failed(kind),
+        },
     }
 }
 
-/// What a program gets as its standard input.
-pub(crate) fn input_of<R: rt::Files<File = File> + Env + Threads>(
-    rt: &R,
-    alloc: Global,
-    input: &[u8],
-) -> io::Result<Input> {
-    if input.len() <= AT_ONCE {
-        return Ok(Input {
-            stdin: Stdio::piped(),
-            feeder: None,
-        });
-    }
-    match by_thread(rt, alloc, input)? {
-        Some(input) => Ok(input),
-        None => Ok(Input {
-            stdin: Stdio::from(in_file(rt, alloc, input)?),
-            feeder: None,
-        }),
-    }
-}
-
-/// A pipe into which a thread writes, if a thread can be had.
-fn by_thread<R: rt::Files + Threads>(
-    rt: &R,
-    alloc: Global,
-    input: &[u8],
-) -> io::Result<Option<Input>> {
-    let (reader, writer) = io::pipe(rt)?;
-    let other = reader.try_clone()?;
-    let mut stdin = ChildStdin::from(OwnedFd::from(writer));
-    let copy = Vec::from_slice(alloc, input)?;
-    let started = Builder::new()
-        .stack_size(STACK)
-        .spawn(rt, move || feed(&mut stdin, copy.as_slice()));
-    match started {
-        Ok(thread) => Ok(Some(Input {
-            stdin: Stdio::from(reader),
-            feeder: Some(Feeder {
-                thread,
-                reader: other,
-            }),
-        })),
-        Err(_) => Ok(None),
-    }
-}
-
-/// A file without a name that has the input.
-fn in_file<R: rt::Files<File = File> + Env>(
-    rt: &R,
-    alloc: Global,
-    input: &[u8],
-) -> io::Result<File> {
-    let folder = env::temp_dir(&(rt, alloc))?;
-    for number in 0..NAMES {
-        let path = format!(in alloc; "{}/input-{number}", folder.as_str())?;
-        match new_file(rt, path.as_str(), input) {
-            Err(error) if error.kind() == ErrorKind::AlreadyExists => {}
-            ended => return ended,
+impl<'a> Feed<'a> {
+    /// An input of which nothing is left to be written.
+    fn ended(fault: Option<ErrorKind>) -> Feed<'a> {
+        Feed {
+            stdin: None,
+            left: b"".as_slice(),
+            fault,
         }
     }
-    Err(Error::from(ErrorKind::AlreadyExists))
-}
 
-/// Makes a file that has the input, and takes its name away.
-fn new_file<R: rt::Files<File = File>>(rt: &R, path: &str, input: &[u8]) -> io::Result<File> {
-    let mut how = File::options();
-    how.read(true).write(true).create_new(true).mode(0o600);
-    let mut file = how.open(rt, path)?;
-    fs::remove_file(rt, path)?;
-    file.write_all(input)?;
-    file.rewind()?;
-    Ok(file)
+    /// The input of a program that has just begun. What its pipe holds is written.
+    pub(crate) fn new(stdin: Option<ChildStdin>, input: &'a [u8]) -> Feed<'a> {
+        let Some(mut stdin) = stdin else {
+            return Feed::ended(Some(ErrorKind::NotConnected));
+        };
+        if input.len() <= AT_ONCE {
+            return Feed::ended(feed_all(&mut stdin, input));
+        }
+        if os::set_nonblocking(stdin.as_raw_fd(), true) != 0 {
+            return Feed::ended(Some(Error::from_raw_os_error(os::errno()).kind()));
+        }
+        Feed {
+            stdin: Some(stdin),
+            left: input,
+            fault: None,
+        }
+    }
+
+    /// Whether more is to be written.
+    pub(crate) fn is_open(&self) -> bool {
+        self.stdin.is_some()
+    }
+
+    /// The descriptor on which more is to be written, or -1.
+    pub(crate) fn fd(&self) -> RawFd {
+        match &self.stdin {
+            Some(stdin) => stdin.as_raw_fd(),
+            None => -1,
+        }
+    }
+
+    /// Writes as much as is taken without waiting.
+    pub(crate) fn write(&mut self) {
+        let Some(stdin) = &mut self.stdin else {
+            return;
+        };
+        match feed_piece(stdin, self.left) {
+            Fed::Whole => self.stdin = None,
+            Fed::UpTo(count) => self.left = &self.left[count..],
+            Fed::Failed(kind) => {
+                self.stdin = None;
+                self.fault = Some(kind);
+            }
+        }
+    }
+
+    /// The kind of the fault with which it was written, where there is one. What a program that has ended left of it is no fault.
+    pub(crate) fn end(self) -> Option<ErrorKind> {
+        self.fault
+    }
 }

@@ -130,6 +130,8 @@ sh, -c, head -c 4096 => 4096 => 4096 => code 0 4096 0
 sh, -c, cat >&2; echo a => 4097 => 4097 => code 0 2 4097
 sh, -c, head -c 200000 /dev/zero >&2; cat => 200000 => 200000 => code 0 200000 200000
 sh, -c, exec 3<&0; sleep 99 <&3 3<&- >&- 2>&- & echo a => 200000 => 10 => code 0 2 0
+sh, -c, exec >&- 2>&-; sleep 0.1; test $(wc -c) = 200000 => 200000 => 0 => code 0 0 0
+sh, -c, head -c 70000; exec >&-; sleep 0.1; wc -c >&2 => 200000 => 70000 => code 0 70000 7
 sh, -c, head -c 11 /dev/zero >&2; head -c 11 /dev/zero => 0 => 10 => too much output 0 0 0
 sh, -c, test $(pwd) = / -a -n \"$PATH\" -a \"$A\" = 'b c' => 0 => 0 => code 0 0 0
 no-such-program => 0 => 10 => missing 0 0 0";
