@@ -1,4 +1,6 @@
 -- Counts are whole numbers, and whole numbers are no floats: so the text of counts is the one that definitions give.
+-- By induction over the results that are counted and over the members of an object, which hold whole numbers before and after one is put.
+-- `put_whole` is the hard one: a member is put in order, so it stands before, in place of, or behind the first one.
 use Rattle.std.proofs.Common.{◌≡◌, ℕ, ◌==◌, Bool, true, false, true≢false, ◌&&◌, ◌||◌, if◌then◌else◌, is_some, List, [], ◌∷◌, refl, sym}
 use Rattle.std.specs.Option.{option_and_then}
 use Rattle.std.specs.Cmp.Lexicographic.{slice_cmp}

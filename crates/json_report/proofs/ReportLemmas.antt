@@ -1,4 +1,6 @@
 -- Bytes that are no text or no JSON are refused at once, and a value is read as its keys say; which paths were seen.
+-- By cases of whether the bytes are text; paths that were seen stand in an ordered map, one more of which is seen where it was put or stood
+-- before. `seen_more` is the hard one: by induction over the entries, and by where the path lies to each.
 use Rattle.std.proofs.Common.{◌≡◌, ℕ, suc, ◌+◌, ◌<◌, add-one, drop, drop-cons, get_or, length, Bool, true, false, ◌||◌, cond, if◌then◌else◌, is_some, List, [], ◌∷◌, Option, None, Some, Err, ap, refl, sym, ◌∙◌}
 use Rattle.std.proofs.lemmas.Str.{IsUtf8-from_is_utf8, is_utf8-from_IsUtf8}
 use Rattle.std.proofs.lemmas.Map.Lookups.{exact_bytes}
