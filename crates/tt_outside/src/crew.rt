@@ -104,10 +104,9 @@ pub trait Crew {
         ensures hands { hands self.new ≡ hands self.old }
         ensures gave { SameGave (gave self.new) (gave self.old) };
 
-    /// Keeps what one of its hands leaves. It takes no memory.
+    /// Keeps what a hand leaves. It takes no memory.
     fn dismiss(&mut self, hand: Self::Hand)
         requires seat { 0 < seats self.old }
-        requires own { SameGave (Self.Hand.gave hand) (gave self.old) }
         ensures ready { ready self.old → ready self.new }
         ensures hands { hands self.new ≡ hands self.old
             ++ (record { begun = Self.Hand.begun hand; asked = Self.Hand.asked hand; faults = Self.Hand.faults hand }) ∷ [] }
