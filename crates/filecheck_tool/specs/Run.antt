@@ -8,7 +8,7 @@ use Rattle.filecheck_words.specs.declared.checking.Input.TheVariants.{Standard, 
 use Rattle.filecheck_words.specs.declared.fault.WordsFault.{WordsFault}
 use Rattle.filecheck_words.specs.declared.job.Job.{Job}
 use Rattle.tt_outside.specs.declared.files.Files.{Ghosts as OfFiles}
-use Rattle.tt_run.specs.Run.{Answers, Files, FileRead, FilesRest, Source, SourceRead, SourceRests, StaysSteady, Stream, files_of}
+use Rattle.tt_run.specs.Run.{Answers, Files, FileRead, FilesRest, IsKept, Source, SourceRead, SourceRests, Stream, files_of}
 use Rattle.tt_run.specs.declared.answer.Answer.{Answer}
 use Rattle.tt_run.specs.declared.reading.Reading.{Reading}
 use Rattle.filecheck_tool.specs.Answer.{IsAnswerBy, IsPlanOf, checks_asked, found_in, input_asked}
@@ -17,10 +17,6 @@ use Rattle.filecheck_messages.specs.declared.refusal.Refusal.TheVariants.{Words}
 use Rattle.filecheck_messages.specs.declared.refusal.Stop.{Stop}
 use Rattle.filecheck_messages.specs.declared.refusal.Stop.TheVariants.{Refused}
 use Rattle.filecheck_messages.specs.declared.report.Report.{Report}
-
--- files behind a run hold what they held, and are steady where they were
-abbrev pub IsKept : {F : Type 0} → OfFiles F → F → F → Type 0
-IsKept of old new = (of.held new ≡ of.held old) × StaysSteady of.steady old new
 
 -- nobody touched the files and the input
 abbrev pub AreUnread : {F I : Type 0} → F → F → I → I → Type 0

@@ -1,12 +1,12 @@
 //! The top call.
 ghost use Rattle.std.specs.Prelude.{◌≡◌, ◌⊎◌, ◌≤◌, ◌<◌, ◌≢◌, ◌+◌, ◌^◌, true, IfOk, IsErr, List, Result, Some, codes};
 ghost use Rattle.tt_outside.specs.Transfer.{TakesAtMost};
-ghost use Rattle.tt_run.specs.Run.{Failed, LacksMemory, files_of, source_of, stream_of};
+ghost use Rattle.tt_run.specs.Run.{Failed, IsKept, LacksMemory, files_of, source_of, stream_of};
 ghost use Rattle.std.specs.Str.{is_utf8};
 ghost use Rattle.opt_words.specs.Step.{texts};
 ghost use Rattle.tt_run.specs.Run.{FileRead, IsShort};
 ghost use Rattle.filecheck_tool.specs.Answer.{IsSoundPlan, checks_asked, input_asked};
-ghost use Rattle.filecheck_tool.specs.Run.{AnswerOf, AreUnread, Checks, FileAsked, InputAsked, IsKept, OutcomeFrom, OutcomeOf, PlanFrom};
+ghost use Rattle.filecheck_tool.specs.Run.{AnswerOf, AreUnread, Checks, FileAsked, InputAsked, OutcomeFrom, OutcomeOf, PlanFrom};
 ghost use Rattle.filecheck_words.specs.Checking.{IsNamed};
 ghost use Rattle.filecheck_words.specs.Job.{IsSound as IsSoundJob, asked_by};
 

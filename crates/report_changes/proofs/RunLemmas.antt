@@ -8,12 +8,12 @@ use Rattle.json_report.specs.declared.line.Line.{Line}
 use Rattle.json_report.specs.declared.line.ReportFault.{ReportFault}
 use Rattle.tt_outside.specs.Faults.{Rose}
 use Rattle.tt_outside.specs.declared.files.Files.{Ghosts as OfFiles}
-use Rattle.tt_run.specs.Run.{Failed as Counted, Files, files_of}
+use Rattle.tt_run.specs.Run.{Failed as Counted, Files, IsKept, files_of}
 use Rattle.tt_run.specs.declared.answer.Answer.{Answer}
 use Rattle.tt_run.specs.declared.reading.Reading.TheVariants as reading
 use Rattle.report_changes.specs.Answer.{answer_to, changed_status}
 use Rattle.report_changes.specs.Asked.{asked}
-use Rattle.report_changes.specs.Run.{BehindOld, IsKept, OutcomeBy, OutcomeOf, ReportRead, compared, or_bad}
+use Rattle.report_changes.specs.Run.{BehindOld, OutcomeBy, OutcomeOf, ReportRead, compared, or_bad}
 use Rattle.report_changes.specs.Stop.{word_at}
 use Rattle.report_changes.specs.declared.asked.Refusal.{Refusal}
 use Rattle.report_changes.specs.declared.asked.Reports.{Reports}

@@ -7,7 +7,7 @@ use Rattle.json_report.specs.declared.changed.Change.{Change}
 use Rattle.json_report.specs.declared.line.Line.{Line}
 use Rattle.json_report.specs.declared.line.ReportFault.{ReportFault}
 use Rattle.tt_outside.specs.declared.files.Files.{Ghosts as OfFiles}
-use Rattle.tt_run.specs.Run.{Answers, Files, FileRead, FilesRest, StaysSteady, Stream, files_of}
+use Rattle.tt_run.specs.Run.{Answers, Files, FileRead, FilesRest, IsKept, Stream, files_of}
 use Rattle.tt_run.specs.declared.answer.Answer.{Answer}
 use Rattle.tt_run.specs.declared.reading.Reading.{Reading}
 use Rattle.tt_run.specs.declared.reading.Reading.TheVariants as reading
@@ -20,10 +20,6 @@ use Rattle.report_changes.specs.declared.stop.Stop.{Stop}
 use Rattle.report_changes.specs.declared.stop.Stop.TheVariants.{Words, Report}
 use Rattle.report_changes.specs.declared.stop.Unread.{Unread}
 use Rattle.report_changes.specs.declared.stop.Unread.TheVariants.{Missing, TooLarge, Failed, Bad}
-
--- files behind a run hold what they held, and are steady where they were
-abbrev pub IsKept : {F : Type 0} → OfFiles F → F → F → Type 0
-IsKept of old new = (of.held new ≡ of.held old) × StaysSteady of.steady old new
 
 -- ---- one report
 

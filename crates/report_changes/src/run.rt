@@ -1,9 +1,9 @@
 //! The top call.
 ghost use Rattle.std.specs.Prelude.{◌≡◌, ◌⊎◌, ◌<◌, ◌≤◌, ◌≢◌, IfErr, IfOk, codes, length};
 ghost use Rattle.opt_words.specs.Step.{texts};
-ghost use Rattle.report_changes.specs.Run.{AnswerOf, Compares, IsKept, OutcomeOf, ReportRead};
+ghost use Rattle.report_changes.specs.Run.{AnswerOf, Compares, OutcomeOf, ReportRead};
 ghost use Rattle.report_changes.specs.Stop.{IsToldOf, word_at};
-ghost use Rattle.tt_run.specs.Run.{Failed, LacksMemory, files_of, stream_of};
+ghost use Rattle.tt_run.specs.Run.{Failed, IsKept, LacksMemory, files_of, stream_of};
 
 use crate::answer::answer_to;
 use crate::asked::asked;

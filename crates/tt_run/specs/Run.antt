@@ -123,6 +123,10 @@ SourceRests s = (s.new ≡ s.old) × (s.now ≡ s.before) × s.untouched
 abbrev pub StaysSteady : {S : Type 0} → (S → Type 0) → S → S → Type 0
 StaysSteady steady old new = steady old → steady new
 
+-- files behind a run hold what they held, and are steady where they were
+abbrev pub IsKept : {F : Type 0} → OfFiles F → F → F → Type 0
+IsKept of old new = (of.held new ≡ of.held old) × StaysSteady of.steady old new
+
 -- ---- writing
 
 -- the bytes were written, and no fault was counted
