@@ -8,17 +8,18 @@ use Rattle.std.specs.Ordering.{nat_cmp, match_ordering}
 use Rattle.std.specs.declared.cmp.Ordering.TheVariants.{Less, Equal, Greater}
 use Rattle.serde_json.specs.Data.{Data, null, boolean, number, string, array, object, unsigned, negative, float, Members, no_members, member, put}
 use Rattle.serde_json.specs.Find.{as_number, as_object, as_u64}
-use Rattle.serde_json.specs.Written.{has_float, members_have_float}
+use Rattle.serde_json.specs.Written.{has_float, items_have_float, members_have_float}
 use Rattle.test_outcome.specs.Outcome.{name_of}
 use Rattle.test_outcome.specs.declared.outcome.Outcome.{Outcome}
 use Rattle.json_report.specs.Reading.{are_whole, has_whole}
-use Rattle.json_report.specs.Report.{count_of, counts_of, outcomes, with_count, with_counts}
+use Rattle.json_report.specs.Report.{count_of, counts_of, entries_of, outcomes, report_data, results_of, with_count, with_counts}
+use Rattle.json_report.specs.declared.line.Line.{Line}
 
 join : (a b : Bool) → a ≡ false → b ≡ false → (a || b) ≡ false
 join true b e f = absurd (true≢false e)
 join false b e f = f
 
-both : (a b : Bool) → (a && b) ≡ true → (a ≡ true) × (b ≡ true)
+pub both : (a b : Bool) → (a && b) ≡ true → (a ≡ true) × (b ≡ true)
 both true b e = (refl, e)
 both false b e = absurd (true≢false (sym e))
 
@@ -88,3 +89,15 @@ whole_has_none (object ms) e = members_have_none ms e
 
 pub counts_have_none : (results : List Outcome) → has_float (object (counts_of results)) ≡ false
 counts_have_none results = members_have_none (counts_of results) (counts_are_whole results)
+
+-- ---- a report
+
+entries_have_none : (lines : List Line) → items_have_float (entries_of lines) ≡ false
+entries_have_none [] = refl
+entries_have_none (line ∷ more) = entries_have_none more
+
+pub report_has_none : (lines : List Line) → has_float (report_data lines) ≡ false
+report_has_none lines =
+    let counts = object (counts_of (results_of lines)) in
+    join (has_float counts) (items_have_float (entries_of lines) || false) (counts_have_none (results_of lines))
+    (join (items_have_float (entries_of lines)) false (entries_have_none lines) refl)

@@ -1,3 +1,5 @@
+pub mod BackLemmas
+pub mod DepthLemmas
 pub mod FloatLemmas
 pub mod LineLemmas
 pub mod PathLemmas

@@ -1,7 +1,8 @@
 //! How many tests have each result, and the text of a value.
 ghost use Rattle.std.specs.Prelude.{◌≡◌, IfOk, false};
-ghost use Rattle.std.specs.Str.{bytes_eq};
+ghost use Rattle.std.specs.Str.{IsUtf8, bytes_eq};
 ghost use Rattle.json_report.specs.Report.{count_of, counts_of, outcomes};
+ghost use Rattle.json_report.specs.Texts.{IsCompact, ReadsAs};
 ghost use Rattle.serde_json.specs.Data.{object};
 ghost use Rattle.serde_json.specs.View.{view};
 ghost use Rattle.serde_json.specs.Written.{compact_text, has_float};
@@ -29,7 +30,7 @@ pub(crate) fn outcomes() -> &'static [Outcome]
 }
 
 /// The name of a result.
-fn outcome_text(outcome: Outcome) -> &'static str
+pub fn outcome_text(outcome: Outcome) -> &'static str
     ensures { result.now ≡ name_of outcome }
 {
     match from_utf8(outcome.name()) {
@@ -70,7 +71,9 @@ pub fn counts_of(alloc: Global, results: &[Outcome]) -> Result<Value, NoMemory>
 
 /// The text of a value on one line.
 pub fn text_of(alloc: Global, value: &Value) -> Result<Bytes, NoMemory>
-    ensures text { IfOk result (λ text. has_float (view value.now) ≡ false → text ≡ compact_text (view value.now)) }
+    ensures text { IfOk result (IsCompact (view value.now)) }
+    ensures utf8 { IfOk result IsUtf8 }
+    ensures read { IfOk result (ReadsAs (view value.now)) }
 {
     match value.to_vec(alloc) {
         Ok(text) => Ok(Bytes::from_vec(text)),

@@ -9,7 +9,7 @@ mod reading;
 mod results;
 
 pub use changed::{Change, changes};
-pub use counts::{counts_of, text_of};
+pub use counts::{counts_of, outcome_text, text_of};
 pub use laws::law_of_reports;
 pub use line::{Line, ReportFail, ReportFault};
 pub use reading::read_report;
