@@ -43,9 +43,11 @@ fn no_base<E: Sink>(error: &io::Error, err: &mut E) -> u8 {
     }
 }
 
-/// Whether the words ask for failures alone.
+/// Whether the words ask for failures alone, or for a report in JSON.
 fn is_quiet(words: &[String]) -> bool {
-    words.iter().any(|word| word.as_str() == "-q")
+    words
+        .iter()
+        .any(|word| matches!(word.as_str(), "-q" | "--json" | "-json"))
 }
 
 /// A line of progress for each part of a run: its output, its errors, its crew and its end.

@@ -20,6 +20,7 @@ Options:
   --num-shards=N              split the tests into N parts
   --run-shard=N               and run part N of them, from 1 on
   --show-tests                show the names of the tests, and run none
+  --json                      write the report in JSON, at the end of the run
   -h, --help                  print this, where it is the only word
   --version                   print the version, where it is the only word
 

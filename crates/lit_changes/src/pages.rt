@@ -4,9 +4,9 @@
 pub(crate) const HELP: &str = "usage: lit_changes OLD NEW
 
 Tells what changed between two JSON reports of lit. OLD and NEW are files, each
-with a JSON report. For each test whose result differs, or that one of them
-lacks, a line with the path of the test and both results is written to standard
-output, and behind these how many there are.
+with a report of lit --json. For each test whose result differs, or that one of
+them lacks, a line with the path of the test and both results is written to
+standard output, and behind these how many there are.
 
 Options:
   -h, --help                  print this, where it is the only word
@@ -21,7 +21,7 @@ Statuses:
   4  out of memory
 
 Examples:
-  lit_changes old.json new.json
+  lit --json tests > new.json; lit_changes old.json new.json
       what changed since the last run
   lit_changes old.json new.json > /dev/null && echo same
       ask whether it is the same

@@ -1,10 +1,10 @@
 -- The end of a report: the names of the tests that failed, and how many tests had each result.
 -- After LLVM Command Guide, lit, 'TEST STATUS RESULTS', for what fails a run. Own rules: the texts, their order, and that a
--- result that no test had is left out.
+-- result that no test had is left out. The end of a report in JSON is none of this: `lit_json` has it.
 use Rattle.std.specs.Prelude.{ℕ, ◌==◌, if◌then◌else◌, List, [], ◌∷◌, ◌++◌, codes, decimal, length}
 use Rattle.std.specs.List.{filter, flat_map, list_any}
 use Rattle.lit_words.specs.declared.asked.Detail.{Detail}
-use Rattle.lit_words.specs.declared.asked.Detail.TheVariants.{Quiet, Whole, Verbose, Plain}
+use Rattle.lit_words.specs.declared.asked.Detail.TheVariants.{Quiet, Whole, Verbose, Plain, Json}
 use Rattle.test_outcome.specs.Outcome.{is_failure, is_same, label_of}
 use Rattle.test_outcome.specs.declared.outcome.Outcome.{Outcome}
 use Rattle.test_outcome.specs.declared.outcome.Outcome.TheVariants.{Pass, Flakypass, Fail, Xfail, Xpass, Unsupported, Unresolved}
@@ -59,6 +59,7 @@ counts Quiet tests told = []
 counts Whole tests told = codes "Testing done: " ++ decimal tests ++ codes " tests" ++ newline ++ count_lines told
 counts Verbose tests told = codes "Testing done: " ++ decimal tests ++ codes " tests" ++ newline ++ count_lines told
 counts Plain tests told = codes "Testing done: " ++ decimal tests ++ codes " tests" ++ newline ++ count_lines told
+counts Json tests told = []
 
 -- ---- a whole report
 

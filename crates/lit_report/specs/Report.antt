@@ -1,9 +1,9 @@
 -- The report of a run: its header, and a part for each test.
 -- After LLVM Command Guide, lit, '-q', '-v' and '-a', for what is shown. Own rules: the texts, and that a part knows only its
--- own test, its place and the number of tests, so that a report grows part by part.
+-- own test, its place and the number of tests, so that a report grows part by part. One in JSON has neither header nor parts.
 use Rattle.std.specs.Prelude.{ℕ, ◌+◌, Bool, true, false, if◌then◌else◌, List, [], ◌∷◌, ◌++◌, codes, decimal}
 use Rattle.lit_words.specs.declared.asked.Detail.{Detail}
-use Rattle.lit_words.specs.declared.asked.Detail.TheVariants.{Quiet, Whole, Verbose, Plain}
+use Rattle.lit_words.specs.declared.asked.Detail.TheVariants.{Quiet, Whole, Verbose, Plain, Json}
 use Rattle.test_outcome.specs.Outcome as outcome
 use Rattle.test_outcome.specs.Outcome.{is_failure}
 use Rattle.test_outcome.specs.declared.outcome.Outcome.{Outcome}
@@ -29,6 +29,7 @@ has_line Quiet result = is_failure result
 has_line Whole result = true
 has_line Verbose result = true
 has_line Plain result = true
+has_line Json result = false
 
 -- its transcript is shown: with -a, and with -v for a failure
 abbrev pub has_transcript : Detail → Outcome → Bool
@@ -36,6 +37,7 @@ has_transcript Quiet result = false
 has_transcript Whole result = true
 has_transcript Verbose result = is_failure result
 has_transcript Plain result = false
+has_transcript Json result = false
 
 -- places count from 0 here, and from 1 in the text
 abbrev pub line_of : ℕ → ℕ → TestReport → List ℕ
@@ -64,6 +66,7 @@ header Quiet tests = []
 header Whole tests = codes "-- Testing: " ++ decimal tests ++ codes " tests --" ++ newline
 header Verbose tests = codes "-- Testing: " ++ decimal tests ++ codes " tests --" ++ newline
 header Plain tests = codes "-- Testing: " ++ decimal tests ++ codes " tests --" ++ newline
+header Json tests = []
 
 -- the parts of tests, from a place on
 abbrev pub parts_from : Detail → ℕ → ℕ → List TestReport → List ℕ

@@ -129,7 +129,7 @@ fn add_numbers<T: Reported>(
     ensures { OnOk result (text.new ≡ text.old ++ counts detail count (map T.told tests.now)) }
 {
     match detail {
-        Detail::Quiet => Ok(()),
+        Detail::Quiet | Detail::Json => Ok(()),
         Detail::Whole | Detail::Verbose | Detail::Plain => {
             text.append(b"Testing done: ")?;
             add_number(text, count)?;
@@ -139,7 +139,7 @@ fn add_numbers<T: Reported>(
     }
 }
 
-/// The end of a report of so many tests.
+/// The end of a report of so many tests, which isn't in JSON.
 pub fn end_of<T: Reported>(
     alloc: Global,
     detail: Detail,

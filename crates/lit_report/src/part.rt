@@ -15,6 +15,7 @@ fn has_line(detail: Detail, outcome: Outcome) -> bool
 {
     match detail {
         Detail::Quiet => outcome.is_failure(),
+        Detail::Json => false,
         Detail::Whole | Detail::Verbose | Detail::Plain => true,
     }
 }
@@ -26,7 +27,7 @@ fn has_transcript(detail: Detail, outcome: Outcome) -> bool
     match detail {
         Detail::Whole => true,
         Detail::Verbose => outcome.is_failure(),
-        Detail::Quiet | Detail::Plain => false,
+        Detail::Quiet | Detail::Plain | Detail::Json => false,
     }
 }
 
@@ -97,7 +98,7 @@ pub fn header(alloc: Global, detail: Detail, tests: u64) -> Result<Bytes, NoMemo
 {
     let mut text = Bytes::new(alloc);
     match detail {
-        Detail::Quiet => {}
+        Detail::Quiet | Detail::Json => {}
         Detail::Whole | Detail::Verbose | Detail::Plain => {
             text.append(b"-- Testing: ")?;
             add_number(&mut text, tests)?;

@@ -4,12 +4,13 @@
 use Rattle.std.proofs.Common.{◌≡◌, ℕ, true, false, List, Ok, Err, sym, ◌∙◌, ap, subst, inl, inr}
 use Rattle.lit_words.specs.Asked.{Wanted, asked_by}
 use Rattle.lit_words.specs.declared.fault.WordsFault.{WordsFault}
-use Rattle.run_report.specs.Run.{Around, NoHand, Rests, untried}
+use Rattle.run_report.specs.Run.{Around, NoHand, Rests, RunEnds, are_told, untried}
 use Rattle.run_report.specs.declared.ending.LitEnd.{LitEnd}
 use Rattle.lit_tool.specs.Answer.{LacksMemory, TellsNames, TellsStop}
-use Rattle.lit_tool.specs.Run.{AskedEnds, Call, LitEnds, NothingRan, RunsFrom, ShowsFrom, ShowsOrRuns, TestsFrom, TreeRests}
+use Rattle.lit_tool.specs.Run.{AskedEnds, Call, LitEnds, NothingRan, Refuses, RunsFrom, RunsTold, ShowsFrom, ShowsOrRuns, TestsFrom, TreeRests}
 use Rattle.lit_tool.specs.declared.stop.Stop.{Stop}
-use Rattle.lit_tool.specs.declared.stop.Stop.TheVariants.{Words}
+use Rattle.lit_tool.specs.declared.stop.Stop.TheVariants.{Words, NotText}
+use Rattle.tt_outside.specs.declared.test_data.Test.{Test}
 
 -- the status of a run that left its status alone
 status_is : (status : ℕ) (end : LitEnd) → end ≡ untried status → end.status ≡ status
@@ -60,6 +61,26 @@ ran words wanted c end is show (inl lack) = inl lack
 ran words wanted c end is show (inr (outcome, from, runs)) =
     inr (subst (λ asked. AskedEnds asked c.searched c.around end) (sym is)
     (outcome, from, subst (λ b. ShowsOrRuns b wanted.detail wanted.workers outcome c.around end) (sym show) runs))
+
+-- tests of which the report can tell are run
+pub told_run : (wanted : Wanted) (tests : List Test) (c : Call) (end : LitEnd) → TestsFrom c.searched wanted (Ok tests)
+    → are_told wanted.detail tests ≡ true → RunEnds wanted.detail wanted.workers tests c.around end → RunsFrom wanted c end
+told_run wanted tests c end from told ends =
+    let runs = subst (λ all. RunsTold all wanted.detail wanted.workers tests c.around end) (sym told) ends in
+    inr (Ok tests, from, runs)
+
+-- and where there is one of which it can't, that is told
+pub untold_run : (status : ℕ) (wanted : Wanted) (tests : List Test) (c : Call) (end : LitEnd) → end ≡ untried status
+    → NoHand c.around.hired → Rests c.around.out → TestsFrom c.searched wanted (Ok tests)
+    → are_told wanted.detail tests ≡ false → TellsStop NotText status c.around.err → RunsFrom wanted c end
+untold_run status wanted tests c end same nobody rests from untold told =
+    let refuses : Refuses NotText c.around end = (
+      nothing_ran status c.around end same nobody,
+      rests,
+      subst (λ n. TellsStop NotText n c.around.err) (sym (status_is status end same)) told,
+    ) in
+    let runs = subst (λ all. RunsTold all wanted.detail wanted.workers tests c.around end) (sym untold) refuses in
+    inr (Ok tests, from, runs)
 
 -- why no test is run
 pub refused_run : (status : ℕ) (wanted : Wanted) (stop : Stop) (c : Call) (end : LitEnd) → end ≡ untried status

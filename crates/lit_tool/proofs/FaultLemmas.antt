@@ -12,14 +12,14 @@ use Rattle.lit_words.specs.Asked.{Wanted, asked_by}
 use Rattle.lit_words.specs.declared.asked.Detail.{Detail}
 use Rattle.lit_words.specs.declared.fault.WordsFault.{WordsFault}
 use Rattle.lit_words.specs.declared.number.Shard.{Shard}
-use Rattle.run_report.specs.Run.{Around}
+use Rattle.run_report.specs.Run.{Around, are_told}
 use Rattle.run_report.specs.declared.ending.LitEnd.{LitEnd}
 use Rattle.run_report.proofs.FaultLemmas.{StreamFailed, run_fault}
 use Rattle.lit_tool.specs.Answer.{TellsNames, TellsStop, status_of}
 use Rattle.lit_tool.specs.Kept.{unless_none}
-use Rattle.lit_tool.specs.Run.{AskedEnds, Call, LitEnds, ShowsOrRuns, TestsFrom, TreeRun}
+use Rattle.lit_tool.specs.Run.{AskedEnds, Call, LitEnds, RunsTold, ShowsOrRuns, TestsFrom, TreeRun}
 use Rattle.lit_tool.specs.declared.stop.Stop.{Stop}
-use Rattle.lit_tool.specs.declared.stop.Stop.TheVariants.{Words, Discovery, NoneSelected}
+use Rattle.lit_tool.specs.declared.stop.Stop.TheVariants.{Words, Discovery, NoneSelected, NotText}
 
 -- the tree failed
 abbrev pub IsFault : Result (List Test) Stop → Type 0
@@ -41,6 +41,7 @@ found_fault NoMemory is = cc
 stop_fault : (stop : Stop) → status_of stop ≡ 3 → IsFault (Err stop)
 stop_fault (Words fault) is = cc
 stop_fault NoneSelected is = cc
+stop_fault NotText is = cc
 stop_fault (Discovery fault) is = found_fault fault is
 
 -- keeping tests makes none
@@ -83,10 +84,20 @@ names_three (Err stop) status out err (rests, told) is =
       | inr rose ↦ inr (inr rose)
     ]
 
+tests_three : (all : Bool) (detail : Detail) (workers : ℕ) (tests : List Test) (a : Around) (end : LitEnd)
+    → RunsTold all detail workers tests a end → end.status ≡ 3 → StreamFailed a.out a.err
+tests_three true detail workers tests a end runs is = run_fault detail workers tests a end runs is
+tests_three false detail workers tests a end (nothing, rests, told) is =
+    elim (told_three NotText end.status a.err told is) [
+      | inl fault_is ↦ absurd (let no = fault_is in cc)
+      | inr rose ↦ inr rose
+    ]
+
 ends_three : (show : Bool) (detail : Detail) (workers : ℕ) (outcome : Result (List Test) Stop) (a : Around) (end : LitEnd)
     → ShowsOrRuns show detail workers outcome a end → end.status ≡ 3 → IsFault outcome ⊎ StreamFailed a.out a.err
 ends_three true detail workers outcome a end (nothing, tells) is = names_three outcome end.status a.out a.err tells is
-ends_three false detail workers (Ok tests) a end runs is = inr (run_fault detail workers tests a end runs is)
+ends_three false detail workers (Ok tests) a end runs is =
+    inr (tests_three (are_told detail tests) detail workers tests a end runs is)
 ends_three false detail workers (Err stop) a end (nothing, rests, told) is =
     elim (told_three stop end.status a.err told is) [
       | inl fault ↦ inl fault

@@ -7,7 +7,7 @@ use Rattle.lit_suite.specs.declared.suite_file.SuiteFault.TheVariants.{NotToml, 
 use Rattle.lit_words.specs.declared.fault.WordsFault.{WordsFault}
 use Rattle.lit_words.specs.declared.fault.WordsFault.TheVariants.{Faulty, NoPath, Misfit, BadRegex}
 use Rattle.lit_tool.specs.declared.stop.Stop.{Stop}
-use Rattle.lit_tool.specs.declared.stop.Stop.TheVariants.{Words, Discovery, NoneSelected}
+use Rattle.lit_tool.specs.declared.stop.Stop.TheVariants.{Words, Discovery, NoneSelected, NotText}
 use Rattle.opt_words.specs.Fault.{text_before, text_behind}
 
 abbrev pub words_text : WordsFault → List ℕ
@@ -41,3 +41,4 @@ abbrev pub text_of : Stop → List ℕ
 text_of (Words fault) = words_text fault
 text_of (Discovery fault) = discovery_text fault
 text_of NoneSelected = codes "no tests selected"
+text_of NotText = codes "name isn't text"

@@ -14,12 +14,12 @@ use Rattle.lit_dirs.specs.declared.fault.DiscoverFault.TheVariants.{TreeFault, N
 use Rattle.lit_words.specs.Asked.{Wanted, asked_by}
 use Rattle.lit_words.specs.declared.asked.Detail.{Detail}
 use Rattle.lit_words.specs.declared.fault.WordsFault.{WordsFault}
-use Rattle.run_report.specs.Run.{Around, NoHand, Rests, RunEnds, around, untried}
+use Rattle.run_report.specs.Run.{Around, NoHand, Rests, RunEnds, are_told, around, untried}
 use Rattle.run_report.specs.declared.ending.LitEnd.{LitEnd}
 use Rattle.lit_tool.specs.Answer.{LacksMemory, TellsNames, TellsStop}
 use Rattle.lit_tool.specs.Kept.{kept_of, names_in}
 use Rattle.lit_tool.specs.declared.stop.Stop.{Stop}
-use Rattle.lit_tool.specs.declared.stop.Stop.TheVariants.{Words, Discovery}
+use Rattle.lit_tool.specs.declared.stop.Stop.TheVariants.{Words, Discovery, NotText}
 
 -- ---- the tree
 
@@ -88,9 +88,14 @@ NothingRan a end = (end ≡ untried end.status) × NoHand a.hired
 abbrev pub Refuses : Stop → Around → LitEnd → Type 0
 Refuses stop a end = NothingRan a end × Rests a.out × TellsStop stop end.status a.err
 
+-- tests are run, unless there is one of which the report can't tell
+abbrev pub RunsTold : Bool → Detail → ℕ → List Test → Around → LitEnd → Type 0
+RunsTold true detail workers tests a end = RunEnds detail workers tests a end
+RunsTold false detail workers tests a end = Refuses NotText a end
+
 -- tests are run, or why there are none is told
 abbrev pub RunsTests : Detail → ℕ → Result (List Test) Stop → Around → LitEnd → Type 0
-RunsTests detail workers (Ok tests) a end = RunEnds detail workers tests a end
+RunsTests detail workers (Ok tests) a end = RunsTold (are_told detail tests) detail workers tests a end
 RunsTests detail workers (Err stop) a end = Refuses stop a end
 
 -- their names are shown where that is asked, and else they are run

@@ -39,6 +39,7 @@ fn text_of(alloc: Global, stop: &Stop) -> Result<Bytes, NoMemory>
         Stop::Words(fault) => words_text(alloc, fault),
         Stop::Discovery(fault) => discovery_text(alloc, fault),
         Stop::NoneSelected => Bytes::from_slice(alloc, b"no tests selected"),
+        Stop::NotText => Bytes::from_slice(alloc, b"name isn't text"),
     }
 }
 

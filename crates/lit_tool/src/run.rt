@@ -11,7 +11,7 @@ use crate::answer::{refuse, write_names};
 use crate::stop::Stop;
 use crate::tests::{names_from, tests_from};
 use lit_words::{Asked, WordsFail, asked_by};
-use run_report::{LIT, LitEnd, run_and_report};
+use run_report::{LIT, LitEnd, are_told, run_and_report};
 use std::alloc::Global;
 use std::sync::Wait;
 use std::thread::Threads;
@@ -123,7 +123,12 @@ fn run<R: Threads + Wait + Sync, T: Tree, C: Crew, O: Sink, E: Sink>(
     ensures ready { C.ready crew.new }
 {
     match tests_from(alloc, asked, from) {
-        Ok(Ok(tests)) => run_and_report(rt, alloc, asked, &tests, crew, out, err),
+        Ok(Ok(tests)) => {
+            if !are_told(asked.detail, tests.as_slice()) {
+                return LitEnd::untried(alloc, refuse(alloc, &Stop::NotText, err));
+            }
+            run_and_report(rt, alloc, asked, &tests, crew, out, err)
+        }
         Ok(Err(stop)) => LitEnd::untried(alloc, refuse(alloc, &stop, err)),
         Err(NoMemory) => LitEnd::untried(alloc, LIT.out_of_memory(err)),
     }

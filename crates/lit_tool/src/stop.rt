@@ -12,4 +12,6 @@ pub enum Stop {
     Discovery(DiscoverFault),
     /// `--select zz`: no test is kept of those that were found.
     NoneSelected,
+    /// `--json`: the name or the file of a test that is to be run isn't text.
+    NotText,
 }

@@ -1,6 +1,6 @@
 -- The options, and what the words give.
 -- After LLVM Command Guide, lit, 'OPTIONS': -v, -a, -q, -j, --workers, --num-shards, --run-shard and --show-tests.
--- Own rules: --select and --drop, the bounds of the numbers, and which options are given once.
+-- Own rules: --select, --drop and --json, the bounds of the numbers, and which options are given once.
 use Rattle.std.specs.Prelude.{ℕ, ◌-◌, Bool, false, ◌==◌, nat_lt, if◌then◌else◌, List, [], ◌∷◌, codes, All, Result, Ok, Err}
 use Rattle.opt_words.specs.Reading.{AllStand, IsTally, givens, times}
 use Rattle.opt_words.specs.Step.{Stands}
@@ -22,7 +22,7 @@ rows =
     row (codes "v") Flag ∷ row (codes "a") Flag ∷ row (codes "q") Flag ∷ row (codes "j") (Number 1 64)
     ∷ row (codes "workers") (Number 1 64) ∷ row (codes "select") Once ∷ row (codes "drop") Once
     ∷ row (codes "num-shards") (Number 1 20000) ∷ row (codes "run-shard") (Number 1 20000)
-    ∷ row (codes "show-tests") Flag ∷ []
+    ∷ row (codes "show-tests") Flag ∷ row (codes "json") Flag ∷ []
 
 -- what the words give in order, or the first faulty word
 abbrev pub unless_faulty : List (List ℕ) → Result (List Given) WordFault → Result (List Given) WordsFault
@@ -34,8 +34,8 @@ given_by words = unless_faulty words (givens rows false words)
 
 -- the words were read, and all that they give stands in them
 pub record IsRead (words : List (List ℕ)) (given : GivenWords) : Type 0 where
-  pub tally : IsTally 10 given.all given.settings
-  pub stand : AllStand 10 words given.settings
+  pub tally : IsTally 11 given.all given.settings
+  pub stand : AllStand 11 words given.settings
   pub each : All (Stands words) given.all
 
 -- whether a row is given

@@ -9,7 +9,7 @@ use Rattle.lit_words.specs.declared.fault.WordsFault.TheVariants.{NoPath}
 
 -- the value, where it is a plain word
 abbrev pub path_of : List (List ℕ) → Given → List (List ℕ)
-path_of words given = if given.row == 10 then value_of words given ∷ [] else []
+path_of words given = if given.row == 11 then value_of words given ∷ [] else []
 
 -- the plain words, in order
 abbrev pub paths_of : List (List ℕ) → List Given → List (List ℕ)

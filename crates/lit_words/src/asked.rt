@@ -2,12 +2,12 @@
 ghost use Rattle.std.specs.Prelude.{◌≡◌, IfOk};
 ghost use Rattle.opt_words.specs.Reading.{IsTally};
 ghost use Rattle.opt_words.specs.Step.{texts};
-ghost use Rattle.lit_words.specs.Asked.{IsSound, asked_by, detail_of, wanted, wanted_by};
+ghost use Rattle.lit_words.specs.Asked.{IsSound, asked_by, detail_of, is_text_asked, text_detail_of, wanted, wanted_by};
 ghost use Rattle.lit_words.specs.Fault.{Gives};
 ghost use Rattle.lit_words.specs.Given.{IsRead};
 
 use crate::expression::expression_of;
-use crate::fault::WordsFail;
+use crate::fault::{WordsFail, WordsFault, refuse};
 use crate::given::{GivenWords, given_by};
 use crate::number::{Shard, shard_of, workers_of};
 use crate::paths::some_paths;
@@ -26,6 +26,8 @@ pub enum Detail {
     Verbose,
     /// Each result.
     Plain,
+    /// `--json`: each result, as JSON.
+    Json,
 }
 
 /// What the words ask for.
@@ -67,10 +69,34 @@ const RUN_SHARD: usize = 8;
 
 const SHOW_TESTS: usize = 9;
 
-/// What is shown: of several, `-q` counts before `-a`, and `-a` before `-v`.
-fn detail_of(given: &GivenWords) -> Detail
-    requires { IsTally 10 given.now.all given.now.settings }
-    ensures { result ≡ detail_of given.now.all }
+const JSON: usize = 10;
+
+/// Whether an option is given that says what is shown of a text.
+fn is_text_asked(given: &GivenWords) -> bool
+    requires { IsTally 11 given.now.all given.now.settings }
+    ensures { result ≡ is_text_asked given.now.all }
+{
+    given.has(VERBOSE) || given.has(ALL) || given.has(QUIET) || given.has(SHOW_TESTS)
+}
+
+/// What is shown.
+fn detail_of(given: &GivenWords) -> Result<Detail, WordsFail>
+    requires { IsTally 11 given.now.all given.now.settings }
+    ensures { Gives (λ detail. detail) result (detail_of given.now.all) }
+{
+    if !given.has(JSON) {
+        return Ok(text_detail_of(given));
+    }
+    if is_text_asked(given) {
+        return refuse(WordsFault::Misfit);
+    }
+    Ok(Detail::Json)
+}
+
+/// What is shown in a text: of several, `-q` counts before `-a`, and `-a` before `-v`.
+fn text_detail_of(given: &GivenWords) -> Detail
+    requires { IsTally 11 given.now.all given.now.settings }
+    ensures { result ≡ text_detail_of given.now.all }
 {
     if given.has(QUIET) {
         Detail::Quiet
@@ -91,6 +117,7 @@ fn wanted_by(alloc: Global, words: &[String], given: &GivenWords) -> Result<Aske
 {
     let last = given.settings.last;
     let paths = some_paths(alloc, words, given.all.as_slice())?;
+    let detail = detail_of(given)?;
     let workers = workers_of(alloc, words, last[LETTER], last[WORKERS])?;
     let shard = shard_of(alloc, words, last[NUM_SHARDS], last[RUN_SHARD])?;
     let select = expression_of(alloc, words, last[SELECT])?;
@@ -98,7 +125,7 @@ fn wanted_by(alloc: Global, words: &[String], given: &GivenWords) -> Result<Aske
     Ok(Asked {
         paths,
         show: given.has(SHOW_TESTS),
-        detail: detail_of(given),
+        detail,
         workers,
         select,
         drop,

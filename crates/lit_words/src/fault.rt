@@ -16,7 +16,7 @@ pub enum WordsFault {
     Faulty(WordFault, Bytes),
     /// No plain word.
     NoPath,
-    /// `-j 2 --workers=2`; one of `--num-shards` and `--run-shard` without the other; `--num-shards=2 --run-shard=3`.
+    /// `-j 2 --workers=2`; `--json` beside `-q`, `-a`, `-v` or `--show-tests`; one of `--num-shards` and `--run-shard` without the other; `--num-shards=2 --run-shard=3`.
     Misfit,
     /// `--select 'a('`: no regular expression.
     BadRegex(Bytes),

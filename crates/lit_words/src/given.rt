@@ -13,7 +13,7 @@ use tt_base::Items;
 /// The words, read by the table.
 #[derive(Drop, Debug)]
 pub(crate) struct GivenWords {
-    pub(crate) settings: Settings<10>,
+    pub(crate) settings: Settings<11>,
     /// All that they give, in order.
     pub(crate) all: Items<Given>,
 }
@@ -29,7 +29,7 @@ macro_rules! rows {
 }
 
 /// The options, in the order of docs/PROFILE.md.
-fn table() -> Table<10>
+fn table() -> Table<11>
     ensures rows { result.rows ≡ rows }
     ensures all { result.stop_at_plain ≡ false }
 {
@@ -44,7 +44,8 @@ fn table() -> Table<10>
             "drop" Form::Once,
             "num-shards" Form::Number { least: 1, most: 20_000 },
             "run-shard" Form::Number { least: 1, most: 20_000 },
-            "show-tests" Form::Flag
+            "show-tests" Form::Flag,
+            "json" Form::Flag
         ),
         stop_at_plain: false,
     }
@@ -78,8 +79,8 @@ pub(crate) fn named_at(given: Given) -> usize
 impl GivenWords {
     /// Whether a row is given.
     pub(crate) fn has(&self, row: usize) -> bool
-        requires row { row < 10 }
-        requires tally { IsTally 10 self.now.all self.now.settings }
+        requires row { row < 11 }
+        requires tally { IsTally 11 self.now.all self.now.settings }
         ensures { result ≡ is_given row self.now.all }
     {
         self.settings.times[row] > 0

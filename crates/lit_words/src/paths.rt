@@ -10,7 +10,7 @@ use std::alloc::Global;
 use tt_base::{Bytes, Items, NoMemory};
 
 /// The row of plain words.
-const PLAIN: usize = 10;
+const PLAIN: usize = 11;
 
 /// The plain words, in order.
 fn paths_of(alloc: Global, words: &[String], all: &[Given]) -> Result<Items<Bytes>, NoMemory>

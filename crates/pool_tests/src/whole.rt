@@ -255,3 +255,53 @@ fn faults_have_status_3(rt: HostRuntime) -> Result<(), NoMemory> {
     }
     Ok(())
 }
+
+/// The same of reports in JSON, each whole or as far as there is room.
+const IN_JSON: &str =
+    "- 4096 => --json demo => 1 1 11 {\"counts\":{\"FAIL\":1,\"PASS\":1,\"UNRESOLVED\":1,\"UNSUPPORTED\":1,\"XFAIL\":1},\"tests\":[{\"name\":\"demo :: a.txt\",\"path\":\"/w/demo/a.txt\",\"result\":\"PASS\"},{\"name\":\"demo :: b.txt\",\"path\":\"/w/demo/b.txt\",\"result\":\"FAIL\"},{\"name\":\"demo :: c.txt\",\"path\":\"/w/demo/c.txt\",\"result\":\"XFAIL\"},{\"name\":\"demo :: d.txt\",\"path\":\"/w/demo/d.txt\",\"result\":\"UNSUPPORTED\"},{\"name\":\"demo :: e.txt\",\"path\":\"/w/demo/e.txt\",\"result\":\"UNRESOLVED\"}],\"version\":1}~
+- 4096 => demo -j 8 --json => 1 8 11 {\"counts\":{\"FAIL\":1,\"PASS\":1,\"UNRESOLVED\":1,\"UNSUPPORTED\":1,\"XFAIL\":1},\"tests\":[{\"name\":\"demo :: a.txt\",\"path\":\"/w/demo/a.txt\",\"result\":\"PASS\"},{\"name\":\"demo :: b.txt\",\"path\":\"/w/demo/b.txt\",\"result\":\"FAIL\"},{\"name\":\"demo :: c.txt\",\"path\":\"/w/demo/c.txt\",\"result\":\"XFAIL\"},{\"name\":\"demo :: d.txt\",\"path\":\"/w/demo/d.txt\",\"result\":\"UNSUPPORTED\"},{\"name\":\"demo :: e.txt\",\"path\":\"/w/demo/e.txt\",\"result\":\"UNRESOLVED\"}],\"version\":1}~
+- 5 => demo --json => 3 1 11 lit: error: cannot write~{\"cou
+- 0 => demo --json -j 2 => 3 2 11 lit: error: cannot write~
+- 4096 => demo --json -v => 2 0 0 lit: error: these options don't fit together~";
+
+#[test]
+fn a_report_in_json_is_written_at_the_end(rt: HostRuntime) -> Result<(), NoMemory> {
+    for row in IN_JSON.lines() {
+        assert!(rt; is_told(&rt, rt.alloc(), row)?, "{row}");
+    }
+    Ok(())
+}
+
+/// The tree of the suite, with a test more, whose name isn't text.
+fn odd_tree(alloc: Global) -> Result<MemTree, NoMemory> {
+    let mut nodes = nodes(alloc)?;
+    nodes.push(Node {
+        path: Bytes::from_slice(alloc, b"/w/demo/\xff.txt")?,
+        kind: ItemKind::File,
+        bytes: Bytes::new(alloc),
+    })?;
+    if !are_nested(alloc, nodes.as_slice())? {
+        return Err(NoMemory);
+    }
+    MemTree::new(alloc, b"/w".as_slice(), nodes, &[NEVER])
+}
+
+/// Whether this is told of a line over it.
+fn is_odd<R: Threads + Wait + Sync>(
+    rt: &R,
+    alloc: Global,
+    line: &str,
+    due: &[u8],
+) -> Result<bool, NoMemory> {
+    let words = words(alloc, line)?;
+    let mut tree = odd_tree(alloc)?;
+    let told = told_on(rt, alloc, words.as_slice(), &mut tree, AMPLE)?;
+    Ok(told.as_slice() == due)
+}
+
+#[test]
+fn a_name_that_is_no_text_is_refused_before_the_run(rt: HostRuntime) -> Result<(), NoMemory> {
+    let due = b"2 0 0 lit: error: name isn't text\n";
+    assert!(rt; is_odd(&rt, rt.alloc(), "--json demo", due)?);
+    Ok(())
+}

@@ -1,7 +1,7 @@
 -- Calls that ask for the same, but for the number of workers, end alike where each test is reported.
 -- Idea: a call that ends with 0 or 1 and shows no names ran the tests that the tree and the words tell; so two of them ran the same,
 -- and what is known of runs holds of them. The hard one is `ran_call`.
-use Rattle.std.proofs.Common.{◌≡◌, ℕ, ◌≤◌, false, List, map, Some, Result, Ok, Err, sym, ap, ◌∙◌, subst, arith, inl, inr}
+use Rattle.std.proofs.Common.{◌≡◌, ℕ, ◌≤◌, Bool, true, false, List, map, Some, Result, Ok, Err, sym, ap, ◌∙◌, subst, arith, inl, inr}
 use Rattle.tt_outside.specs.declared.test_data.Test.{Test}
 use Rattle.tt_outside.specs.declared.tree.Node.{Node}
 use Rattle.tt_run.specs.Run.{Stream}
@@ -12,10 +12,10 @@ use Rattle.lit_paths.specs.Paths.{joined, parts_of}
 use Rattle.lit_words.specs.Asked.{Wanted, asked_by}
 use Rattle.lit_tool.specs.Answer.{TellsStop, status_of}
 use Rattle.lit_tool.specs.Kept.{kept_of}
-use Rattle.lit_tool.specs.Run.{AskedEnds, Call, LitEnds, RunsTests, ShowsOrRuns, TestsFrom, TreeRun}
+use Rattle.lit_tool.specs.Run.{AskedEnds, Call, LitEnds, RunsTests, RunsTold, ShowsOrRuns, TestsFrom, TreeRun}
 use Rattle.lit_tool.specs.declared.stop.Stop.{Stop}
-use Rattle.lit_tool.specs.declared.stop.Stop.TheVariants.{Words, Discovery, NoneSelected}
-use Rattle.run_report.specs.Run.{Around, RunEnds}
+use Rattle.lit_tool.specs.declared.stop.Stop.TheVariants.{Words, Discovery, NoneSelected, NotText}
+use Rattle.run_report.specs.Run.{Around, RunEnds, are_told}
 use Rattle.run_report.specs.declared.ending.LitEnd.{LitEnd}
 use Rattle.run_laws.proofs.ListLemmas.{one_list}
 use Rattle.run_laws.proofs.WorkerLemmas.{ends_alike}
@@ -38,6 +38,7 @@ found_high NoMemory low = omega (arith, low)
 stop_high : (stop : Stop) → status_of stop ≤ 1 → ⊥
 stop_high (Words fault) low = omega (arith, low)
 stop_high NoneSelected low = omega (arith, low)
+stop_high NotText low = omega (arith, low)
 stop_high (Discovery fault) low = found_high fault low
 
 -- no stop was told
@@ -52,9 +53,14 @@ pub record Ran (t : TreeRun) (wanted : Wanted) (a : Around) (end : LitEnd) : Typ
   pub from : TestsFrom t wanted (Ok tests)
   pub ends : RunEnds wanted.detail wanted.workers tests a end
 
+told_tests : (t : TreeRun) (wanted : Wanted) (tests : List Test) (all : Bool) (a : Around) (end : LitEnd)
+    → TestsFrom t wanted (Ok tests) → RunsTold all wanted.detail wanted.workers tests a end → end.status ≤ 1 → Ran t wanted a end
+told_tests t wanted tests true a end from runs low = record { tests = tests; from = from; ends = runs }
+told_tests t wanted tests false a end from (nothing, rests, told) low = absurd (told_high NotText end.status a.err told low)
+
 ran_tests : (t : TreeRun) (wanted : Wanted) (outcome : Result (List Test) Stop) (a : Around) (end : LitEnd) → TestsFrom t wanted outcome
     → RunsTests wanted.detail wanted.workers outcome a end → end.status ≤ 1 → Ran t wanted a end
-ran_tests t wanted (Ok tests) a end from runs low = record { tests = tests; from = from; ends = runs }
+ran_tests t wanted (Ok tests) a end from runs low = told_tests t wanted tests (are_told wanted.detail tests) a end from runs low
 ran_tests t wanted (Err stop) a end from (nothing, rests, told) low = absurd (told_high stop end.status a.err told low)
 
 ran_asked : (t : TreeRun) (wanted : Wanted) (a : Around) (end : LitEnd) → AskedEnds (Ok wanted) t a end → wanted.show ≡ false

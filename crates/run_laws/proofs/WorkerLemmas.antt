@@ -10,7 +10,7 @@ use Rattle.tt_outside.specs.declared.test_data.Test.{Test}
 use Rattle.tt_run.specs.Run.{Stream, Taken}
 use Rattle.lit_words.specs.declared.asked.Detail.{Detail}
 use Rattle.lit_test.specs.declared.trial.Trial.{Trial}
-use Rattle.lit_report.specs.Ending.{end_of, status_of}
+use Rattle.lit_report.specs.Ending.{status_of}
 use Rattle.lit_report.specs.Report.{header, running}
 use Rattle.lit_round.specs.Trials.{AreTrials, sum_entries}
 use Rattle.lit_pool.proofs.LawLemmas.{one_run}
@@ -18,7 +18,7 @@ use Rattle.lit_pool.proofs.RunLemmas.{trials_same, trials_take}
 use Rattle.lit_pool.specs.Pool.{returned, told_of}
 use Rattle.lit_pool.specs.declared.stop.PoolWhy.{PoolWhy}
 use Rattle.lit_pool.specs.declared.stop.PoolWhy.TheVariants.{SinkFault, TooMuch, NoMemory}
-use Rattle.run_report.specs.Run.{Around, EndWrites, LacksHeader, Rests, RunEnds, RunsAll, StopTells, StopsRun}
+use Rattle.run_report.specs.Run.{Around, EndWrites, LacksHeader, Rests, RunEnds, RunsAll, StopTells, StopsRun, end_text}
 use Rattle.run_report.specs.declared.ending.LitEnd.{LitEnd}
 use Rattle.run_laws.specs.Workers.{EndsAlike, trials_of}
 
@@ -53,7 +53,7 @@ wrote_all before text own status out err (inr (inr lacks)) low = absurd (omega (
 -- ---- two of them
 
 abbrev report_of : Detail → ℕ → List Trial → List ℕ
-report_of detail tests trials = running detail tests (map told_of trials) ++ end_of detail tests (map told_of trials)
+report_of detail tests trials = running detail tests (map told_of trials) ++ end_text detail tests trials
 
 same_ends : (one other : LitEnd) → one.status ≡ other.status → one.trials ≡ other.trials → one.other ≡ other.other → one ≡ other
 same_ends one other status trials next = λ i. record { status = status i; trials = trials i; other = next i }

@@ -7,12 +7,12 @@ use Rattle.tt_run.specs.Run.{Stream}
 use Rattle.test_outcome.specs.Outcome.{is_failure}
 use Rattle.lit_words.specs.declared.asked.Detail.{Detail}
 use Rattle.lit_test.specs.declared.trial.Trial.{Trial}
-use Rattle.lit_report.specs.Ending.{end_of, status_of}
+use Rattle.lit_report.specs.Ending.{status_of}
 use Rattle.lit_report.specs.Report.{TestReport, header, running}
 use Rattle.lit_pool.specs.Pool.{told_of}
 use Rattle.lit_pool.specs.declared.stop.PoolWhy.{PoolWhy}
 use Rattle.lit_pool.specs.declared.stop.PoolWhy.TheVariants.{SinkFault, TooMuch, NoMemory}
-use Rattle.run_report.specs.Run.{Around, EndWrites, HeaderFails, RunEnds, StopTells, StopWrites}
+use Rattle.run_report.specs.Run.{Around, EndWrites, HeaderFails, RunEnds, StopTells, StopWrites, end_text}
 use Rattle.run_report.specs.declared.ending.LitEnd.{LitEnd}
 
 -- a stream of a run counted a fault
@@ -52,4 +52,4 @@ run_fault detail workers tests a end (inr (inl stops)) is =
     a.out a.err stops.stopped.wrote stops.told is
 run_fault detail workers tests a end (inr (inr all)) is =
     end_three (running detail (length tests) (map told_of end.trials))
-    (end_of detail (length tests) (map told_of end.trials)) (map told_of end.trials) end.status a.out a.err all.wrote is
+    (end_text detail (length tests) end.trials) (map told_of end.trials) end.status a.out a.err all.wrote is

@@ -1,8 +1,8 @@
 -- A run of tests with its report, by where it stopped.
 -- After LLVM Command Guide, lit, for the report and its status. Own rules: the header goes before a hand is hired, a fault of the
 -- report is told once on the other stream, and hands are dismissed however the run ends.
-use Rattle.std.specs.Prelude.{◌≡◌, ◌≢◌, ◌⊎◌, ℕ, ◌+◌, ◌<◌, ◌≤◌, List, [], ◌++◌, codes, length, map, Option, None, Some, Ok, Err}
-use Rattle.std.specs.List.{sum_by}
+use Rattle.std.specs.Prelude.{◌≡◌, ◌≢◌, ◌⊎◌, ℕ, ◌+◌, ◌<◌, ◌≤◌, Bool, true, List, [], ◌++◌, codes, length, map, Option, None, Some, Ok, Err}
+use Rattle.std.specs.List.{list_all, sum_by}
 use Rattle.std.specs.Io.KnownBytes.{Appends}
 use Rattle.tt_outside.specs.Faults.{Rose}
 use Rattle.tt_outside.specs.Gave.{Gave}
@@ -10,10 +10,12 @@ use Rattle.tt_outside.specs.declared.test_data.Test.{Test}
 use Rattle.tt_run.specs.Frame.{cannot_write, out_of_memory}
 use Rattle.tt_run.specs.Run.{Answered, Crew, Stream, Taken, Told}
 use Rattle.lit_words.specs.declared.asked.Detail.{Detail}
+use Rattle.lit_words.specs.declared.asked.Detail.TheVariants.{Quiet, Whole, Verbose, Plain, Json}
 use Rattle.lit_test.specs.declared.trial.Trial.{Trial}
 use Rattle.lit_report.specs.Ending.{end_of, status_of}
 use Rattle.lit_report.specs.Report.{header, part_of, parts_from, running}
 use Rattle.lit_desk.specs.Desk.{MAX_KEPT}
+use Rattle.lit_json.specs.Trials.{is_text, json_text}
 use Rattle.lit_round.specs.Trials.{AreTrials}
 use Rattle.lit_pool.specs.Crew.{LeavesHands}
 use Rattle.lit_pool.specs.Pool.{kept_of, returned, told_of}
@@ -61,6 +63,24 @@ untried status = record { status = status; trials = []; other = None }
 -- how many bytes trials keep
 abbrev pub kept_by : List Trial → ℕ
 kept_by trials = sum_by (λ kept. kept.kept) (map kept_of trials)
+
+-- ---- a report in JSON
+
+-- a report of this detail can tell of all tests: one in JSON needs names and paths that are text
+abbrev pub are_told : Detail → List Test → Bool
+are_told Json tests = list_all is_text tests
+are_told Quiet tests = true
+are_told Whole tests = true
+are_told Verbose tests = true
+are_told Plain tests = true
+
+-- the end of a report of so many tests: in JSON it is the whole report
+abbrev pub end_text : Detail → ℕ → List Trial → List ℕ
+end_text Json tests trials = json_text trials
+end_text Quiet tests trials = end_of Quiet tests (map told_of trials)
+end_text Whole tests trials = end_of Whole tests (map told_of trials)
+end_text Verbose tests trials = end_of Verbose tests (map told_of trials)
+end_text Plain tests trials = end_of Plain tests (map told_of trials)
 
 -- ---- a run that stops before its first test
 
@@ -124,7 +144,7 @@ EndWrites before text own status out err =
 -- the same, of a report whose trials were put: what is written of its end
 abbrev pub ReportEnds : Detail → ℕ → List Trial → ℕ → Stream → Stream → Type 0
 ReportEnds detail tests trials status out err =
-    EndWrites [] (end_of detail tests (map told_of trials)) (status_of (map told_of trials)) status out err
+    EndWrites [] (end_text detail tests trials) (status_of (map told_of trials)) status out err
 
 -- the parts of trials were written, which keep no more than they may; so much room is left
 abbrev pub PartsWrite : Detail → ℕ → Stream → ℕ → List Trial → Type 0
@@ -138,7 +158,7 @@ pub record RunsAll (detail : Detail) (workers : ℕ) (tests : List Test) (a : Ar
   pub other : end.other ≡ None
   pub within : kept_by end.trials ≤ MAX_KEPT
   pub wrote : EndWrites (running detail (length tests) (map told_of end.trials))
-      (end_of detail (length tests) (map told_of end.trials)) (status_of (map told_of end.trials)) end.status a.out a.err
+      (end_text detail (length tests) end.trials) (status_of (map told_of end.trials)) end.status a.out a.err
   pub hands : LeavesHands workers (length tests) (Ok end.trials) a.hired.old a.hired.new
 
 -- ---- a run

@@ -8,6 +8,6 @@ mod message;
 mod parts;
 mod running;
 
-pub use ending::LitEnd;
+pub use ending::{LitEnd, are_told};
 pub use message::LIT;
 pub use running::run_and_report;

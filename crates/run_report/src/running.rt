@@ -1,9 +1,9 @@
 //! A run of tests.
-ghost use Rattle.std.specs.Prelude.{◌≡◌, ◌<◌, ◌≤◌, ◌+◌, IfErr, OnOk, length};
+ghost use Rattle.std.specs.Prelude.{◌≡◌, ◌<◌, ◌≤◌, ◌+◌, IfErr, OnOk, length, true};
 ghost use Rattle.tt_outside.specs.Gave.{SameGave};
 ghost use Rattle.tt_run.specs.Run.{Taken, crew_of, stream_of};
 ghost use Rattle.lit_report.specs.Report.{header};
-ghost use Rattle.run_report.specs.Run.{HeaderFails, RunEnds, around};
+ghost use Rattle.run_report.specs.Run.{HeaderFails, RunEnds, are_told, around};
 
 use crate::ending::{LitEnd, write_end};
 use crate::message::{LIT, tell_stop};
@@ -53,6 +53,7 @@ pub fn run_and_report<R: Threads + Wait + Sync, C: Crew, O: Sink, E: Sink>(
     requires few { length tests.now ≤ 100000 }
     requires workers { (0 < asked.now.workers) × (asked.now.workers ≤ 64) }
     requires ready { C.ready from.old }
+    requires told { are_told asked.now.detail tests.now ≡ true }
     ensures ends { RunEnds asked.now.detail asked.now.workers tests.now (around (crew_of C.Crew from.old from.new)
         (stream_of O.Sink out.old out.new) (stream_of E.Sink err.old err.new)) result }
     ensures gave { SameGave (C.gave from.new) (C.gave from.old) }

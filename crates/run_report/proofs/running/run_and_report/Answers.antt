@@ -1,8 +1,18 @@
-use Rattle.std.proofs.Common.{inl, inr}
+use Rattle.std.proofs.Common.{◌≡◌, true, List, map, inl, inr, sym, subst}
 use Rattle.tt_run.specs.Run.{stream_of}
+use Rattle.lit_json.specs.Trials.{test_of}
+use Rattle.lit_test.specs.declared.trial.Trial.{Trial}
+use Rattle.run_report.specs.Run.{are_told}
 use Rattle.run_report.proofs.PieceLemmas.{moment}
 use Rattle.run_report.proofs.RunLemmas.{runs_all, stops_run}
+use Rattle.run_report.proofs.TextLemmas.{trials_told}
 use Rattle.run_report.proofs.running.run_and_report.Goals as goal
+
+pub write_end-requires : goal.write_end-requires
+write_end-requires g c =
+    let detail = c.args.asked.now.detail in
+    subst (λ (ts : List Trial). are_told detail (map test_of ts) ≡ true) (sym c.as_slice.ensures)
+    (trials_told (g.C.Crew.gave c.args.from.now) detail c.args.tests.now c.in-Ok.trials c.in-Ok.ensures.trials c.requires.told)
 
 pub returns-in-Ok-clause-ends : goal.returns-in-Ok-clause-ends
 returns-in-Ok-clause-ends g c =
