@@ -1,7 +1,8 @@
 //! How a run of lit ends.
 ghost use Rattle.std.specs.Prelude.{◌≡◌, IfOk, map, true};
 ghost use Rattle.tt_run.specs.Run.{stream_of};
-ghost use Rattle.lit_json.specs.Trials.{test_of};
+ghost use Rattle.std.specs.List.{list_all};
+ghost use Rattle.lit_json.specs.Trials.{is_text, test_of};
 ghost use Rattle.lit_pool.specs.Pool.{told_of};
 ghost use Rattle.run_report.specs.Run.{ReportEnds, are_told, end_text, untried};
 
@@ -38,12 +39,19 @@ impl LitEnd {
     }
 }
 
+/// Whether all names and paths are UTF-8.
+fn are_text(tests: &[Test]) -> bool
+    ensures { result ≡ list_all is_text tests.now }
+{
+    tests.iter().all(|test| is_text(test))
+}
+
 /// Whether a report of this detail can tell of all tests: one in JSON needs names and paths that are UTF-8. It takes no memory.
 pub fn are_told(detail: Detail, tests: &[Test]) -> bool
     ensures { result ≡ are_told detail tests.now }
 {
     match detail {
-        Detail::Json => tests.iter().all(|test| is_text(test)),
+        Detail::Json => are_text(tests),
         Detail::Quiet | Detail::Whole | Detail::Verbose | Detail::Plain => true,
     }
 }
