@@ -1,5 +1,5 @@
 //! Tests of runs: reports, what comes to a desk of a run, the numbers that workers draw, tests that are run by one hand and by several
-//! workers, and whole runs of `lit` of which a call fails.
+//! workers, and whole runs of `lit`: of which a call fails, and by hands that answer FileCheck, `count` and `not` by themselves.
 #![tactic(auto)]
 
 #[cfg(test)]
@@ -10,6 +10,8 @@ mod demo;
 mod desks;
 #[cfg(test)]
 mod gates;
+#[cfg(test)]
+mod inside;
 #[cfg(test)]
 mod pools;
 #[cfg(test)]

@@ -15,14 +15,14 @@ const NEVER: u64 = 99_999;
 const AMPLE: usize = 1 << 12;
 
 /// The files of a suite, apart from its tests.
-const SUITE: &str = "version = 1~name = \"demo\"~suffixes = [\".txt\"]~";
+pub(crate) const SUITE: &str = "version = 1~name = \"demo\"~suffixes = [\".txt\"]~";
 
 /// Tests, each with the code of its program, as their files have them and as they are answered.
 const TESTS: &str =
     "0 a.txt: RUN: true; 1 b.txt: RUN: false; 1 c.txt: RUN: false~XFAIL: *; 0 d.txt: RUN: true~REQUIRES: gpu; 0 e.txt: hello";
 
 /// What is told of them.
-const REPORT: &str = "-- Testing: 5 tests --
+pub(crate) const REPORT: &str = "-- Testing: 5 tests --
 PASS: demo :: a.txt (1 of 5)
 FAIL: demo :: b.txt (2 of 5)
 XFAIL: demo :: c.txt (3 of 5)
@@ -46,7 +46,7 @@ Testing done: 5 tests
 /// How many bytes of it come before the first test's.
 const HEADER: usize = 23;
 
-fn node(alloc: Global, file: &str, text: &str) -> Result<Node, NoMemory> {
+pub(crate) fn node(alloc: Global, file: &str, text: &str) -> Result<Node, NoMemory> {
     let path = both(alloc, "/w/demo/", file)?;
     let bytes = both(alloc, text, "")?;
     Ok(Node {
@@ -69,7 +69,7 @@ fn nodes(alloc: Global) -> Result<Items<Node>, NoMemory> {
 }
 
 /// The tree of the suite, of which this call fails.
-fn tree_of(alloc: Global, call: u64) -> Result<MemTree, NoMemory> {
+pub(crate) fn tree_of(alloc: Global, call: u64) -> Result<MemTree, NoMemory> {
     let nodes = nodes(alloc)?;
     if !are_nested(alloc, nodes.as_slice())? {
         return Err(NoMemory);
@@ -78,14 +78,14 @@ fn tree_of(alloc: Global, call: u64) -> Result<MemTree, NoMemory> {
 }
 
 /// A crew that answers as its tests' programs do.
-fn crew_of(alloc: Global) -> Result<MemCrew, NoMemory> {
+pub(crate) fn crew_of(alloc: Global) -> Result<MemCrew, NoMemory> {
     let Demo { tests, plan } = demo_of(alloc, TESTS)?;
     drop(tests);
     Ok(MemCrew::new(alloc, plan))
 }
 
 /// The words of a line, with a blank between them.
-fn words(alloc: Global, line: &str) -> Result<Vec<String>, NoMemory> {
+pub(crate) fn words(alloc: Global, line: &str) -> Result<Vec<String>, NoMemory> {
     let mut words = Vec::new(alloc);
     for word in line.split(" ") {
         let word = String::from_str(alloc, word).or(Err(NoMemory))?;
@@ -96,13 +96,13 @@ fn words(alloc: Global, line: &str) -> Result<Vec<String>, NoMemory> {
 
 /// What lit writes on.
 #[derive(Drop)]
-struct Streams {
-    out: MemSink,
-    err: MemSink,
+pub(crate) struct Streams {
+    pub out: MemSink,
+    pub err: MemSink,
 }
 
 /// Two of them, of which `out` has so much room.
-fn sinks_of(alloc: Global, room: usize) -> Result<Streams, NoMemory> {
+pub(crate) fn sinks_of(alloc: Global, room: usize) -> Result<Streams, NoMemory> {
     let out = MemSink::new(alloc, room)?;
     let err = MemSink::new(alloc, AMPLE)?;
     Ok(Streams { out, err })

@@ -1,0 +1,11 @@
+//! A crew inside lit: its hands answer FileCheck, `count` and `not` by themselves, over files that another crew's hands read, and hand
+//! every other request on. Own form. The program `lit_in` stands above.
+#![tactic(auto)]
+
+mod crew;
+mod hand;
+mod laws;
+
+pub use crew::InCrew;
+pub use hand::InHand;
+pub use laws::law_of_steadiness;
