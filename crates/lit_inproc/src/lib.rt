@@ -4,8 +4,6 @@
 
 mod crew;
 mod hand;
-mod laws;
 
 pub use crew::InCrew;
 pub use hand::InHand;
-pub use laws::law_of_steadiness;

@@ -1,0 +1,35 @@
+//! The line of progress of a run.
+
+use lit_progress::Line;
+use std::alloc::Global;
+use std::io::Write;
+use tt_base::NoMemory;
+
+/// Whether the words ask for failures alone, or for a report in JSON: then no line is shown.
+pub fn is_quiet(words: &[String]) -> bool {
+    words
+        .iter()
+        .any(|word| matches!(word.as_str(), "-q" | "--json" | "-json"))
+}
+
+/// A line of progress for each part of a run.
+#[derive(Drop)]
+pub struct Lines<W> {
+    pub out: Line<W>,
+    pub err: Line<W>,
+    pub crew: Line<W>,
+    pub end: Line<W>,
+}
+
+impl<W: Write + Copy> Lines<W> {
+    /// The same line for each, which is written to a writer, if it is to be shown at all.
+    pub fn new(alloc: Global, writer: W, is_shown: bool) -> Result<Lines<W>, NoMemory> {
+        let end = Line::new(alloc, writer, is_shown)?;
+        Ok(Lines {
+            out: end.another()?,
+            err: end.another()?,
+            crew: end.another()?,
+            end,
+        })
+    }
+}
