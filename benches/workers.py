@@ -8,7 +8,7 @@ their names. LIT is LLVM's lit.py; without it, one is looked for (apt-get instal
 many workers (4), LLVM's in as many processes; memory is the greatest resident set of a process. The floor is a C program that starts
 the same commands in as many threads, and reads their streams to the end; without a C compiler there is none, and no tests of a stated
 time. Wall time, the best of the rounds, in which the three run in alternation. --scale 10 runs a tenth of the tests. A goal is the
-greatest ratio that is wanted. Behind the first table stand: one, four and 64 workers beside each other, and a suite in which each 256th
+greatest ratio that is wanted. Behind the first table stand: lit_in, which answers FileCheck inside; one, four and 64 workers beside each other, and a suite in which each 256th
 test takes 3 s, first of its 256 or last, which tells what it costs that a round waits for its slowest test.
 """
 import argparse
@@ -21,6 +21,9 @@ import tempfile
 
 from filecheck import best_of, built, other_programs, peak
 from running import PYTHON, SUITE, checks, floor_program, write
+
+# A suite without tools: FileCheck is answered inside.
+BARE = 'version = 1\nname = "bench"\nsuffixes = [".txt"]\n'
 
 # Takes so many milliseconds of a processor.
 BUSY = r"""
@@ -52,7 +55,8 @@ def slow(count, place):
 class Bench:
     def __init__(self, top, given):
         self.top, self.given = top, given
-        self.lit, self.filecheck = [os.path.join(os.path.abspath(given.programs), it) if given.programs else built(it) for it in ("lit", "filecheck")]
+        self.lit, self.lit_in, self.filecheck = [os.path.join(os.path.abspath(given.programs), it) if given.programs else built(it)
+                                                 for it in ("lit", "lit_in", "filecheck")]
         found = [os.path.abspath(given.lit)] if given.lit else sorted(glob.glob("/usr/lib/llvm-*/build/utils/lit/lit.py"))[-1:]
         self.other, self.floor = found[0] if found else None, floor_program(top)
         self.busy = busy_program(top) if self.floor else None
@@ -116,6 +120,21 @@ class Bench:
         self.suite("wide", ["RUN: true\n"] * wide)
         self.row(f"{wide:,} tests `RUN: true`, 64 workers", ("", "0.5"), self.commands("wide", 64, wide, ["true"]))
 
+    def inside(self):
+        """FileCheck answered inside, beside lit with programs."""
+        few, workers = 500 // self.given.scale, self.given.workers
+        write(os.path.join(self.top, "bare", "lit.suite.toml"), BARE)
+        for number in range(few):
+            text, given = checks(number)
+            write(os.path.join(self.top, "bare", "inputs", f"i{number:05}"), given)
+            write(os.path.join(self.top, "bare", "checks", f"t{number:05}.txt"), f"RUN: cat %S/../inputs/i{number:05} | FileCheck %s\n{text}")
+        ours, llvm, _ = self.commands("checks", workers)
+        (inside, memory), (outside, _), (other, _) = self.measured([[self.lit_in, "-q", "-j", str(workers), os.path.join("bare", "checks")], ours, llvm])
+        print(f"\n| {few:,} tests with a pipe into FileCheck, {workers} workers | lit_in | memory | lit | LLVM | lit_in / lit | lit_in / LLVM |")
+        print("|---|---|---|---|---|---|---|")
+        print(f"| FileCheck inside | {inside * 1000:.0f} ms | {memory / 1024:.1f} MiB | {outside * 1000:.0f} ms | {f'{other * 1000:.0f} ms' if other else '?'} "
+              f"| {inside / outside:.2f} (goal 0.7) | {f'{inside / other:.2f}' if other else '?'} (goal 0.3) |", flush=True)
+
     def widths(self):
         """One, four and 64 workers, each beside the one before."""
         many = 1000 // self.given.scale
@@ -147,12 +166,13 @@ def main():
     wants.add_argument("--workers", type=int, default=4, help="workers of most cases (4)")
     wants.add_argument("--scale", type=int, default=1, help="divides the numbers of tests (1)")
     wants.add_argument("--lit", default=None, help="LLVM's lit.py")
-    wants.add_argument("--programs", help="the folder in which lit and filecheck stand")
+    wants.add_argument("--programs", help="the folder in which lit, lit_in and filecheck stand")
     given = wants.parse_args()
     with tempfile.TemporaryDirectory() as top:
         bench = Bench(top, given)
         os.chdir(top)
         bench.table()
+        bench.inside()
         bench.widths()
         bench.rounds()
 

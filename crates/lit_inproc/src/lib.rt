@@ -6,4 +6,4 @@ mod crew;
 mod hand;
 
 pub use crew::InCrew;
-pub use hand::InHand;
+pub use hand::{InHand, answer};
