@@ -50,9 +50,12 @@ is_short input = nat_le (length input) (2 ^ 26)
 abbrev pub command_below : Bool → List ℕ → List (List ℕ) → Option Command
 command_below short name words = if short && bytes_eq name (codes "not") then accepted (command_in words) else None
 
--- an index among the words behind so many is one among all
+-- a command among the words behind so many, by its index among all
+abbrev pub moved : ℕ → Command → Command
+moved at command = record { crash = command.crash; first = at + command.first }
+
 abbrev pub placed : ℕ → Option Command → Option Command
-placed at (Some command) = Some (record { crash = command.crash; first = at + command.first })
+placed at (Some command) = Some (moved at command)
 placed at None = None
 
 -- words are peeled behind so many of them, with an input that may be short

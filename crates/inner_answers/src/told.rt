@@ -90,12 +90,12 @@ pub(crate) fn inverse_all(
     words: &[String],
     levels: &[Command],
     limit: u64,
-    reply: Reply,
+    core: Reply,
 ) -> Result<Reply, NoMemory>
     requires { All (λ command. command.first < length words.now) levels.now }
-    ensures { IfOk result (λ inverse. inverse ≡ inverse_all limit (map (level_in (texts words.now)) levels.now) reply) }
+    ensures { IfOk result (λ inverse. inverse ≡ inverse_all limit (map (level_in (texts words.now)) levels.now) core) }
 {
-    let mut reply = reply;
+    let mut reply = core;
     let mut at = levels.len();
     while at > 0 {
         at -= 1;
