@@ -56,9 +56,9 @@ module _ (untouched steady : Type 0) (input rest : List ℕ) (before now : ℕ) 
 -- an outcome over bytes in memory is no fault
 calm_status : (wanted : Result ℕ Refusal) (input : List ℕ) → status_of (compared wanted input) ≢ 3
 calm_status (Err refusal) input is = omega (arith, is)
-calm_status (Ok wanted) input = each (nat_le (length input) (2 ^ 40))
+calm_status (Ok wanted) input is = each (nat_le (length input) (2 ^ 40)) is
   where
-    lines : (b : Bool) → (if b then 0 else 1) ≢ 3
+    lines : (b : Bool) → ◌≢◌ {A = ℕ} (if b then 0 else 1) 3
     lines true is = omega (arith, is)
     lines false is = omega (arith, is)
 
@@ -73,26 +73,26 @@ out_fits limit err status =
     ap (λ b. if b then (if nat_le (length err) limit then Status (Code status) [] err else TooLarge ErrStream) else TooLarge Out)
     (leb-zero limit)
 
-module _ (words : List (List ℕ)) (input held told : List ℕ) (status before now limit : ℕ) (outcome : Outcome) where
+module _ (words : List (List ℕ)) (input held told : List ℕ) (status before now room limit : ℕ) (outcome : Outcome) where
   abbrev stream : Stream
-  stream = record { old = Some held; new = Some told; before = before; now = now; room = limit }
+  stream = record { old = Some held; new = Some told; before = before; now = now; room = room }
 
   -- a status that isn't that of a fault comes with the whole message
   pub told_whole : outcome ≡ compared (asked words) input → held ≡ [] → status ≢ 3
       → Answered (text_of words outcome) (status_of outcome) status stream
       → record { out = []; err = told; status = status } ≡ count_answer words input
-  told_whole is none calm (inl (same, appends, still)) =
-      let text : told ≡ text_of words outcome = appends ∙ ap (λ (front : List ℕ). front ++ text_of words outcome) none in
+  told_whole is none calm (inl (same, taken)) =
+      let text : told ≡ text_of words outcome = taken.0 ∙ ap (λ (front : List ℕ). front ++ text_of words outcome) none in
       (λ i. record { out = []; err = text i; status = same i }) ∙ ap (told_of words) is
   told_whole is none calm (inr (three, stopped)) = absurd (calm three)
 
   -- and that of a fault where the message is longer than the limit
-  pub told_large : outcome ≡ compared (asked words) input → status ≡ 3
+  pub told_large : outcome ≡ compared (asked words) input → room ≡ limit → status ≡ 3
       → Answered (text_of words outcome) (status_of outcome) status stream
       → TooLarge ErrStream ≡ reply_within limit (count_answer words input)
-  told_large is three (inl (same, taken)) =
+  told_large is all three (inl (same, taken)) =
       absurd (calm_status (asked words) input (sym (ap status_of is) ∙ sym same ∙ three))
-  told_large is three (inr (same, appends, rose, large)) =
+  told_large is all three (inr (same, stopped)) =
       sym (ap (reply_within limit) (sym (ap (told_of words) is)) ∙ out_fits limit (text_of words outcome) (status_of outcome)
       ∙ ap (λ b. if b then Status (Code (status_of outcome)) [] (text_of words outcome) else TooLarge ErrStream)
-      (lt-leb (length (text_of words outcome)) limit large))
+      (lt-leb (length (text_of words outcome)) limit (omega (arith, all, stopped.2))))

@@ -1,11 +1,13 @@
 -- Words are peeled a `not` at a time: done, and then what is left is peeled, is the whole peeled. A command is known by its index among
 -- all words; behind so many words it is the same command of the words that are left. The hard one is peel_at, which takes one `not` off.
-use Rattle.std.proofs.Common.{◌≡◌, ℕ, zero, suc, ◌+◌, ◌<◌, Bool, List, [], ◌∷◌, ◌++◌, map, length, drop, get_or, Option, Some, None, refl, sym, ap, subst, ◌∙◌, append_assoc, arith}
+use Rattle.std.proofs.Common.{◌≡◌, ℕ, zero, suc, ◌+◌, ◌<◌, ◌&&◌, Bool, true, if◌then◌else◌, codes, List, [], ◌∷◌, ◌++◌, map, length, drop, get_or, Option, Some, None, refl, sym, ap, subst, ◌∙◌, append_assoc, arith}
 use Rattle.std.proofs.lemmas.List.{append-nil, drop-drop, drop_more, get_or-drop, map-append}
 use Rattle.std.proofs.lemmas.List.Elements.{All-nil, All-push}
 use Rattle.std.specs.List.{All}
+use Rattle.std.specs.Str.{bytes_eq}
+use Rattle.not_count.specs.Command.{command_in}
 use Rattle.not_count.specs.declared.command.Command.{Command}
-use Rattle.inner_answers.specs.Peeled.{Level, Peeled, beneath, command_below, level_in, moved, peel, placed}
+use Rattle.inner_answers.specs.Peeled.{Level, Peeled, accepted, beneath, command_below, level_in, moved, peel, placed}
 use Rattle.inner_answers.specs.Peeling.{IsPeeling}
 use Rattle.inner_answers.specs.declared.peeling.Peeling.{Peeling}
 
@@ -40,6 +42,14 @@ pub peel_more : (short : Bool) (name : List ℕ) (words : List (List ℕ)) (comm
 peel_more short name words command some =
     peel_first short name words ∙ ap (peel_by short name words) some
     ∙ ap (beneath (level_in words command)) (peel_skips short command.first words)
+
+-- a `not` with a short input has the command that its words ask for
+pub below_is : (short : Bool) (name : List ℕ) (words : List (List ℕ)) (found : Option Command) → short ≡ true
+    → bytes_eq name (codes "not") ≡ true → found ≡ accepted (command_in words) → found ≡ command_below short name words
+below_is short name words found is_short is_not is =
+    let asked = accepted (command_in words) in
+    is ∙ sym (ap (λ b. if b && bytes_eq name (codes "not") then asked else None) is_short
+    ∙ ap (λ b. if b then asked else None) is_not)
 
 -- ---- indices among all words
 
@@ -81,11 +91,11 @@ peel_at short words at command within is =
 
 -- ---- words that are peeled so far
 
-pub record Front (short : Bool) (words : List (List ℕ)) (levels : List Command) (core : ℕ) : Type 0 where
-  pub levels : (peel short 0 words).levels ≡ map (level_in words) levels ++ (peel short 0 (drop core words)).levels
-  pub core : (peel short 0 words).core ≡ (peel short 0 (drop core words)).core
-  pub within : core < length words
-  pub programs : All (λ command. command.first < length words) levels
+pub record Front (short : Bool) (words : List (List ℕ)) (done : List Command) (at : ℕ) : Type 0 where
+  pub levels : (peel short 0 words).levels ≡ map (level_in words) done ++ (peel short 0 (drop at words)).levels
+  pub core : (peel short 0 words).core ≡ (peel short 0 (drop at words)).core
+  pub within : at < length words
+  pub programs : All (λ command. command.first < length words) done
 
 pub front_begins : (short : Bool) (words : List (List ℕ)) → 0 < length words → Front short words [] 0
 front_begins short words some = record { levels = refl; core = refl; within = some; programs = All-nil _ }

@@ -1,9 +1,10 @@
 //! Words without the `not`s in front of them.
-ghost use Rattle.std.specs.Prelude.{◌≡◌, ◌<◌, ◌+◌, IfOk, IfSome, [], drop, is_some, length, slice_index_or};
+ghost use Rattle.std.specs.Prelude.{◌≡◌, ◌<◌, ◌≤◌, ◌+◌, IfOk, IfSome, [], codes, drop, is_some, length, slice_index_or, take};
 ghost use Rattle.std.specs.List.{list_all};
-ghost use Rattle.std.specs.Str.{is_utf8};
+ghost use Rattle.std.specs.Str.{bytes_eq, is_utf8};
 ghost use Rattle.opt_words.specs.Step.{texts};
-ghost use Rattle.inner_answers.specs.Peeled.{command_below, placed};
+ghost use Rattle.not_count.specs.Command.{command_in};
+ghost use Rattle.inner_answers.specs.Peeled.{accepted, command_below, placed};
 ghost use Rattle.inner_answers.specs.Peeling.{IsPeeling};
 
 use not_count::{Command, command_in};
@@ -36,6 +37,37 @@ pub(crate) fn texts_of(alloc: Global, words: &[Bytes]) -> Result<Option<Items<St
     Ok(Some(list))
 }
 
+/// How many words there are up to the first that doesn't begin with a dash, with that one. The command of a `not` is known from these.
+fn front_len(words: &[String]) -> usize
+    ensures within { result ≤ length words.now }
+    ensures same { command_in (take result (texts words.now)) ≡ command_in (texts words.now) }
+{
+    for (at, word) in words.iter().enumerate() {
+        if !word.as_bytes().starts_with(b"-") {
+            return at + 1;
+        }
+    }
+    words.len()
+}
+
+/// The command that words of a `not` ask for, in the time of the words in front of it.
+fn front_command(words: &[String]) -> Option<Command>
+    ensures value { result ≡ accepted (command_in (texts words.now)) }
+    ensures within { IfSome result (λ command. command.first < length words.now) }
+{
+    match command_in(&words[..front_len(words)]) {
+        Ok(command) => Some(command),
+        Err(_) => None,
+    }
+}
+
+/// Whether a word is the name of `not`.
+fn is_not(word: &[u8]) -> bool
+    ensures { result ≡ bytes_eq word.now (codes "not") }
+{
+    word == b"not".as_slice()
+}
+
 /// The command of a `not` that stands at an index, by its index among all words, where the `not` accepts it and an input that may be
 /// short.
 fn command_below(words: &[String], at: usize, short: bool) -> Option<Command>
@@ -45,15 +77,15 @@ fn command_below(words: &[String], at: usize, short: bool) -> Option<Command>
     ensures onward { IfSome result (λ command. at < command.first) }
     ensures within { IfSome result (λ command. command.first < length words.now) }
 {
-    if !short || words[at].as_bytes() != b"not".as_slice() {
+    if !short || !is_not(words[at].as_bytes()) {
         return None;
     }
-    match command_in(&words[at + 1..]) {
-        Ok(command) => Some(Command {
+    match front_command(&words[at + 1..]) {
+        Some(command) => Some(Command {
             crash: command.crash,
             first: at + 1 + command.first,
         }),
-        Err(_) => None,
+        None => None,
     }
 }
 

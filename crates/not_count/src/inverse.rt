@@ -207,7 +207,12 @@ fn word_text(alloc: Global, before: &[u8], word: &[u8], behind: &[u8]) -> Result
 }
 
 /// What is told of a reply to the program of a name.
-pub fn reply_answer(alloc: Global, name: &[u8], crash: bool, reply: Reply) -> Result<Answer, NoMemory>
+pub fn reply_answer(
+    alloc: Global,
+    name: &[u8],
+    crash: bool,
+    reply: Reply,
+) -> Result<Answer, NoMemory>
     ensures value { IfOk result (λ answer. answer ≡ reply_answer name.now crash reply) }
     ensures small { IfOk result (λ answer. answer.status ≤ 3) }
 {
