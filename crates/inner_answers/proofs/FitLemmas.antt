@@ -1,18 +1,22 @@
--- Replies that fit what is asked inside tell only files that FileCheck takes.
-use Rattle.std.proofs.Common.{◌≡◌, ◌^◌, ◌≤◌, ◌+◌, ℕ, Bool, true, false, if◌then◌else◌, List, [], ◌∷◌, ◌++◌, length, drop, Option, Some, None, lit≤, arith}
+-- Shown: replies that fit what is asked inside tell only files that FileCheck takes, and so is the input. Idea: each file is asked for within
+-- its limit, which is below that of FileCheck's answer; an input is a file, or else the request's own within its limit. The hard one is
+-- all_short, request by request.
+use Rattle.std.proofs.Common.{◌≡◌, ◌^◌, ◌≤◌, ℕ, suc, Bool, true, false, if◌then◌else◌, nat_le, List, [], ◌∷◌, length, drop, Option, Some, None, refl, lit≤, arith}
 use Rattle.std.proofs.lemmas.Bool.{leb-true}
 use Rattle.std.proofs.lemmas.List.Elements.{All-append, All-cons, All-nil}
 use Rattle.std.specs.List.{All}
+use Rattle.filecheck_tool.specs.declared.file_names.Names.{Names}
 use Rattle.shell_play.specs.Places.{joined}
 use Rattle.tt_outside.specs.Fits.{fits}
 use Rattle.tt_outside.specs.declared.request.Pair.{Pair}
 use Rattle.tt_outside.specs.declared.request.Reply.{Reply}
-use Rattle.tt_outside.specs.declared.request.Reply.TheVariants as replies
+use Rattle.tt_outside.specs.declared.request.Reply.TheVariants as kinds
 use Rattle.tt_outside.specs.declared.request.Request.{Request}
 use Rattle.tt_outside.specs.declared.request.Request.TheVariants.{ReadFile, MakeDir, WriteFile, Spawn}
 use Rattle.tt_run.specs.Run.{IsShort}
+use Rattle.tt_run.specs.declared.reading.Reading.TheVariants.{Whole, TooLarge}
 use Rattle.inner_answers.specs.Below.{core_asks, names_in, tool_asks}
-use Rattle.inner_answers.specs.Files.{AreShort, check_asked, input_asked, is_shared, reading_of}
+use Rattle.inner_answers.specs.Files.{AreShort, check_asked, input_asked, input_read, is_shared, last_or, last_reply, reading_of, standard_read}
 use Rattle.inner_answers.specs.Inside.{AreFit}
 use Rattle.inner_answers.specs.Peeled.{tool_in}
 use Rattle.inner_answers.specs.declared.tool.Tool.{Tool}
@@ -25,22 +29,22 @@ IsSmall request = Unit {0}
 
 fit_short : (request : Request) (reply : Reply) → IsSmall request → fits request reply ≡ true
     → IsShort (2 ^ 30) (reading_of reply)
-fit_short (ReadFile path limit) (replies.Bytes bytes) small fit = omega (arith, small, leb-true (length bytes) limit fit)
-fit_short (MakeDir path) (replies.Bytes bytes) small fit = cc
-fit_short (WriteFile path bytes append) (replies.Bytes read) small fit = cc
-fit_short (Spawn words dir env input limit) (replies.Bytes bytes) small fit = cc
-fit_short request replies.Written small fit = tt
-fit_short request replies.Missing small fit = tt
-fit_short request (replies.Status finish out err) small fit = tt
-fit_short request (replies.TooLarge stream) small fit = tt
-fit_short request replies.Broken small fit = tt
+fit_short (ReadFile path limit) (kinds.Bytes bytes) small fit = omega (arith, small, leb-true (length bytes) limit fit)
+fit_short (MakeDir path) (kinds.Bytes bytes) small fit = cc
+fit_short (WriteFile path bytes append) (kinds.Bytes read) small fit = cc
+fit_short (Spawn words dir env input limit) (kinds.Bytes bytes) small fit = cc
+fit_short request kinds.Written small fit = tt
+fit_short request kinds.Missing small fit = tt
+fit_short request (kinds.Status finish out err) small fit = tt
+fit_short request (kinds.TooLarge stream) small fit = tt
+fit_short request kinds.Broken small fit = tt
 
 all_short : (requests : List Request) (replies : List Reply) → All IsSmall requests → AreFit requests replies → AreShort replies
 all_short [] [] small fit = All-nil _
 all_short (request ∷ requests) (reply ∷ replies) small fit =
     All-cons (λ (one : Reply). IsShort (2 ^ 30) (reading_of one)) reply replies
     (fit_short request reply (small 0 request (omega arith)) fit.0)
-    (all_short requests replies (λ k d within. small (k + 1) d (omega (arith, within))) fit.1)
+    (all_short requests replies (λ k d within. small (suc k) d (omega (arith, within))) fit.1)
 all_short [] (reply ∷ replies) small fit = absurd fit
 all_short (request ∷ requests) [] small fit = absurd fit
 
@@ -70,3 +74,27 @@ pub fit_are_short : (core : List (List ℕ)) (dir : List ℕ) (env : List Pair) 
     → AreFit (core_asks core dir env input limit) replies → AreShort replies
 fit_are_short core dir env input limit replies =
     all_short (core_asks core dir env input limit) replies (tool_small (tool_in core) core dir env input limit)
+
+-- ---- the input
+
+last_short : (other : Reply) (replies : List Reply) → IsShort (2 ^ 30) (reading_of other) → AreShort replies
+    → IsShort (2 ^ 30) (reading_of (last_or other replies))
+last_short other [] one all = one
+last_short other (reply ∷ replies) one all =
+    last_short reply replies (all 0 reply (omega arith)) (λ k d within. all (suc k) d (omega (arith, within)))
+
+standard_short : (input : List ℕ) → IsShort (2 ^ 30) (standard_read input)
+standard_short input = each (nat_le (length input) (2 ^ 26)) refl
+  where
+    each : (b : Bool) → nat_le (length input) (2 ^ 26) ≡ b → IsShort (2 ^ 30) (if b then Whole input else TooLarge)
+    each true is = omega (arith, leb-true (length input) (2 ^ 26) is)
+    each false is = tt
+
+either_short : (name : Option (List ℕ)) (input : List ℕ) (replies : List Reply) → AreShort replies
+    → IsShort (2 ^ 30) (elim name [ Some one ↦ reading_of (last_reply replies) | None ↦ standard_read input ])
+either_short (Some one) input replies all = last_short kinds.Missing replies tt all
+either_short None input replies all = standard_short input
+
+pub input_short : (names : Names) (input : List ℕ) (replies : List Reply) → AreShort replies
+    → IsShort (2 ^ 30) (input_read names input replies)
+input_short names input replies all = either_short names.input input replies all

@@ -1,6 +1,6 @@
 -- Shown: what is kept of a request asks what the request asks, and has its reply. Idea: its words are those of the request, so what is
 -- below the `not`s and the `not`s themselves are the same. The hard one is reply_kept.
-use Rattle.std.proofs.Common.{◌≡◌, ℕ, ◌<◌, Bool, true, false, List, length, drop, map, sym, ap, subst, ◌∙◌}
+use Rattle.std.proofs.Common.{◌≡◌, ℕ, ◌<◌, true, false, List, length, drop, map, sym, ap, subst, ◌∙◌}
 use Rattle.std.proofs.lemmas.List.{drop-map, length-map}
 use Rattle.std.specs.List.{All, list_any}
 use Rattle.std.specs.Prelude.{String, string_bytes}
@@ -82,3 +82,22 @@ module _ (words : List (List ℕ)) (dir : List ℕ) (env : List Pair) (input : L
         ) in
         subst (λ b. IsReplyUnless b request replies all) (sym sound)
         (subst (λ b. IsReplyOver b request replies all) (sym of.inside) over)
+
+  -- the same of a request that is known to be one
+  module _ (one : Request) (is : one ≡ request) (kept : Inside) (of : IsOf one kept) where
+    as_it_is : IsOf request kept
+    as_it_is = subst (λ (r : Request). IsOf r kept) is of
+
+    pub asked_as : core_asks (texts (drop kept.peeling.core kept.words)) dir env input limit ≡ asked_inside one
+    asked_as = asked_kept kept as_it_is ∙ ap asked_inside (sym is)
+
+    pub short_as : (replies : List Reply) → AreFit (asked_inside one) replies → AreShort replies
+    short_as replies fit =
+        short_kept kept as_it_is replies (subst (λ (r : Request). AreFit (asked_inside r) replies) is fit)
+
+    pub reply_as : (replies : List Reply) (reply : Reply) → list_any is_broken replies ≡ false
+        → IsCoreReply (texts (drop kept.peeling.core kept.words)) input limit replies reply
+        → IsReplyInside one replies (inverse_all limit (map (level_in (texts kept.words)) kept.peeling.levels) reply)
+    reply_as replies reply sound from =
+        subst (λ (r : Request). IsReplyInside r replies (inverse_all limit (map (level_in (texts kept.words)) kept.peeling.levels) reply))
+        (sym is) (reply_kept kept as_it_is replies reply sound from)

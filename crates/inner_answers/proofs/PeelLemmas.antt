@@ -1,6 +1,6 @@
 -- Words are peeled a `not` at a time: done, and then what is left is peeled, is the whole peeled. A command is known by its index among
 -- all words; behind so many words it is the same command of the words that are left. The hard one is peel_at, which takes one `not` off.
-use Rattle.std.proofs.Common.{◌≡◌, ℕ, zero, suc, ◌+◌, ◌<◌, ◌&&◌, Bool, true, if◌then◌else◌, codes, List, [], ◌∷◌, ◌++◌, map, length, drop, get_or, Option, Some, None, refl, sym, ap, subst, ◌∙◌, append_assoc, arith}
+use Rattle.std.proofs.Common.{◌≡◌, ℕ, zero, suc, ◌+◌, ◌<◌, ◌&&◌, Bool, true, if◌then◌else◌, codes, List, [], ◌∷◌, ◌++◌, map, length, drop, get_or, Option, Some, None, refl, sym, ap, subst, ◌∙◌, append_assoc}
 use Rattle.std.proofs.lemmas.List.{append-nil, drop-drop, drop_more, get_or-drop, map-append}
 use Rattle.std.proofs.lemmas.List.Elements.{All-nil, All-push}
 use Rattle.std.specs.List.{All}
@@ -9,7 +9,6 @@ use Rattle.not_count.specs.Command.{command_in}
 use Rattle.not_count.specs.declared.command.Command.{Command}
 use Rattle.inner_answers.specs.Peeled.{Level, Peeled, accepted, beneath, command_below, level_in, moved, peel, placed}
 use Rattle.inner_answers.specs.Peeling.{IsPeeling}
-use Rattle.inner_answers.specs.declared.peeling.Peeling.{Peeling}
 
 -- ---- one `not`
 

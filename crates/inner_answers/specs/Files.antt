@@ -5,7 +5,7 @@ use Rattle.std.specs.Str.{bytes_eq}
 use Rattle.filecheck_tool.specs.declared.file_names.Names.{Names}
 use Rattle.shell_play.specs.Places.{joined}
 use Rattle.tt_outside.specs.declared.request.Reply.{Reply}
-use Rattle.tt_outside.specs.declared.request.Reply.TheVariants as replies
+use Rattle.tt_outside.specs.declared.request.Reply.TheVariants as kinds
 use Rattle.tt_outside.specs.declared.request.Request.{Request}
 use Rattle.tt_outside.specs.declared.request.Request.TheVariants.{ReadFile}
 use Rattle.tt_run.specs.Run.{IsShort}
@@ -40,13 +40,13 @@ files_asked dir names = check_asked dir names.check ++ input_asked dir names.che
 
 -- what a reply to such a request says of the file
 abbrev pub reading_of : Reply → Reading
-reading_of (replies.Bytes bytes) = Whole bytes
-reading_of replies.Missing = Missing
-reading_of (replies.TooLarge stream) = TooLarge
+reading_of (kinds.Bytes bytes) = Whole bytes
+reading_of kinds.Missing = Missing
+reading_of (kinds.TooLarge stream) = TooLarge
 reading_of reply = Failed
 
 abbrev pub first_reply : List Reply → Reply
-first_reply [] = replies.Missing
+first_reply [] = kinds.Missing
 first_reply (reply ∷ replies) = reply
 
 -- the last of replies, or what stands for it
@@ -55,7 +55,7 @@ last_or other [] = other
 last_or other (reply ∷ replies) = last_or reply replies
 
 abbrev pub last_reply : List Reply → Reply
-last_reply replies = last_or replies.Missing replies
+last_reply replies = last_or kinds.Missing replies
 
 -- the check file is told by the first reply
 abbrev pub check_read : Names → List Reply → Reading

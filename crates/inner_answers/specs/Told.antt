@@ -1,6 +1,6 @@
 -- What is answered, as a reply to a request. Own rule: a stream that is longer than the request's limit is told in place of the answer,
 -- out before err.
-use Rattle.std.specs.Prelude.{ℕ, ◌^◌, nat_le, Bool, if◌then◌else◌, List, [], ◌∷◌, length, Result, Ok, Err}
+use Rattle.std.specs.Prelude.{ℕ, ◌^◌, nat_le, if◌then◌else◌, List, [], ◌∷◌, length, Result, Ok, Err}
 use Rattle.not_count.specs.Asked.{asked}
 use Rattle.not_count.specs.Command.{command_in}
 use Rattle.not_count.specs.Count.{status_of, text_of}

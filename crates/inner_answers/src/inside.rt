@@ -1,5 +1,6 @@
 //! Requests that are answered inside.
 ghost use Rattle.std.specs.Prelude.{◌≡◌, ◌<◌, IfOk, IfSome, is_some, length};
+ghost use Rattle.std.specs.List.{list_any};
 ghost use Rattle.inner_answers.specs.Inside.{AreFit, IsOf, IsReplyInside, asked_inside, is_broken, is_inside};
 
 use crate::below::{core_asks, core_reply};
@@ -26,6 +27,13 @@ fn is_broken(reply: &Reply) -> bool
         Reply::Broken => true,
         _ => false,
     }
+}
+
+/// Whether one of replies is a fault.
+fn has_fault(replies: &[Reply]) -> bool
+    ensures { result ≡ list_any is_broken replies.now }
+{
+    replies.iter().any(is_broken)
 }
 
 impl Inside {
@@ -64,14 +72,9 @@ impl Inside {
             unreachable!()
         };
         let core = &self.words.as_slice()[self.peeling.core..];
-        core_asks(
-            alloc,
-            core,
-            dir.as_slice(),
-            env.as_slice(),
-            input.as_slice(),
-            *limit,
-        )
+        let (dir, env, input) = (dir.as_slice(), env.as_slice(), input.as_slice());
+        let requests = core_asks(alloc, core, dir, env, input, *limit)?;
+        Ok(requests)
     }
 
     /// The reply to the request, over the replies to what it asks.
@@ -85,7 +88,7 @@ impl Inside {
         requires fit { AreFit (asked_inside request.now) replies }
         ensures { IfOk result (IsReplyInside request.now replies) }
     {
-        if replies.as_slice().iter().any(is_broken) {
+        if has_fault(replies.as_slice()) {
             return Ok(Reply::Broken);
         }
         let Request::Spawn { input, limit, .. } = request else {
@@ -94,6 +97,8 @@ impl Inside {
         let words = self.words.as_slice();
         let core = &words[self.peeling.core..];
         let reply = core_reply(alloc, core, input.as_slice(), *limit, replies)?;
-        inverse_all(alloc, words, self.peeling.levels.as_slice(), *limit, reply)
+        let levels = self.peeling.levels.as_slice();
+        let inverse = inverse_all(alloc, words, levels, *limit, reply)?;
+        Ok(inverse)
     }
 }

@@ -16,7 +16,7 @@ use Rattle.inner_answers.specs.declared.tool.Tool.TheVariants.{FileCheck, Count,
 
 tool_one : (tool : Option Tool) (core : List (List ℕ)) (input : List ℕ) (limit : ℕ) (replies : List Reply) (one other : Reply)
     → IsToolReply tool core input limit replies one → IsToolReply tool core input limit replies other → one ≡ other
-tool_one (Some FileCheck) core input limit replies one other (answer, (is, told)) (another, (also, told_too)) =
+tool_one (Some FileCheck) core input limit replies one other (answer, is, told) (another, also, told_too) =
     let names = names_in (drop 1 core) in
     let same = answer_is_one (asked_by (drop 1 core)) (check_read names replies) (input_read names input replies) answer another
     is also in
@@ -28,7 +28,7 @@ tool_one None core input limit replies one other told told_too = told ∙ sym to
 one_over : (inside : Bool) (request : Request) (replies : List Reply) (one other : Reply)
     → IsReplyOver inside request replies one → IsReplyOver inside request replies other → one ≡ other
 one_over false request replies one other told told_too = told ∙ sym told_too
-one_over true (Spawn words dir env input limit) replies one other (a, (is, told)) (b, (also, told_too)) =
+one_over true (Spawn words dir env input limit) replies one other (a, is, told) (b, also, told_too) =
     let peeled = peel (is_short input) 0 words in
     told ∙ ap (inverse_all limit peeled.levels) (tool_one (tool_in peeled.core) peeled.core input limit replies a b is also)
     ∙ sym told_too
@@ -39,7 +39,8 @@ one_over true (WriteFile path bytes append) replies one other told told_too = to
 one_unless : (broken : Bool) (request : Request) (replies : List Reply) (one other : Reply)
     → IsReplyUnless broken request replies one → IsReplyUnless broken request replies other → one ≡ other
 one_unless true request replies one other told told_too = told ∙ sym told_too
-one_unless false request replies one other = one_over (is_inside request) request replies one other
+one_unless false request replies one other told told_too =
+    one_over (is_inside request) request replies one other told told_too
 
 pub one_reply : (request : Request) (replies : List Reply) (one other : Reply) → IsReplyInside request replies one
     → IsReplyInside request replies other → one ≡ other

@@ -9,7 +9,7 @@ use Rattle.not_count.specs.Command.{command_in}
 use Rattle.not_count.specs.declared.command.Command.{Command}
 use Rattle.tt_outside.specs.declared.request.Pair.{Pair}
 use Rattle.tt_outside.specs.declared.request.Reply.{Reply}
-use Rattle.tt_outside.specs.declared.request.Reply.TheVariants as replies
+use Rattle.tt_outside.specs.declared.request.Reply.TheVariants as kinds
 use Rattle.tt_outside.specs.declared.request.Request.{Request}
 use Rattle.tt_outside.specs.declared.request.Request.TheVariants.{Spawn}
 use Rattle.inner_answers.specs.Below.{IsToolReply, core_asks, tool_asks}
@@ -143,7 +143,7 @@ module _ (words : List (List ℕ)) (dir : List ℕ) (env : List Pair) (input : L
 
   inverse_to : (broken : Bool) (replies : List Reply) (reply : Reply) → IsReplyUnless broken outer replies reply
       → Inverse broken replies reply
-  inverse_to true replies reply told = (replies.Broken, refl, told)
+  inverse_to true replies reply told = (kinds.Broken, refl, told)
   inverse_to false replies reply told =
       let over : IsReplyOver true outer replies reply = subst (λ b. IsReplyOver b outer replies reply) inside told in
       let parts : IsPeeledReply (beneath level below) input limit replies reply =
@@ -156,8 +156,8 @@ module _ (words : List (List ℕ)) (dir : List ℕ) (env : List Pair) (input : L
 
   inverse_from : (broken : Bool) (replies : List Reply) (reply : Reply) → Inverse broken replies reply
       → IsReplyUnless broken outer replies reply
-  inverse_from true replies reply (one, (is, told)) = told ∙ ap (inverse_reply limit level) is
-  inverse_from false replies reply (one, (is, told)) =
+  inverse_from true replies reply (one, is, told) = told ∙ ap (inverse_reply limit level) is
+  inverse_from false replies reply (one, is, told) =
       let parts = texts_to rest dir env input limit are_texts (is_inside inner) replies one refl is in
       let over : IsPeeledReply (beneath level below) input limit replies reply =
       (parts.0, parts.1, told ∙ ap (inverse_reply limit level) parts.2) in

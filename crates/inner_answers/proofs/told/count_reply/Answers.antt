@@ -1,7 +1,6 @@
 use Rattle.std.proofs.Common.{◌≡◌, ◌≢◌, ◌∙◌, ap, arith}
 use Rattle.opt_words.specs.Step.{texts}
 use Rattle.not_count.specs.Asked.{asked}
-use Rattle.not_count.specs.declared.count.Outcome.{Outcome}
 use Rattle.tt_outside.specs.Memory.{sink_bytes, source_left}
 use Rattle.tt_outside.specs.declared.plan.Plan.{Plan}
 use Rattle.inner_answers.specs.Told.{compared, reply_within}
