@@ -60,7 +60,7 @@ pub fn not_run<C: Crew, I: Source, O: Sink, E: Sink>(
     let Ok(outcome) = outcome_from(alloc, words, crew, input) else {
         return NOT.out_of_memory(err);
     };
-    let Ok(answer) = answer_to(alloc, words, outcome) else {
+    let Ok(answer) = inverse_answer(alloc, words, outcome) else {
         return NOT.out_of_memory(err);
     };
     answer.write(NOT, out, err)
@@ -143,7 +143,7 @@ fn ask_once<C: Crew>(alloc: Global, crew: &mut C, request: &Request) -> Result<R
 }
 
 /// What is told of a run.
-fn answer_to(alloc: Global, words: &[String], outcome: Inverse) -> Result<Answer, NoMemory>
+pub fn inverse_answer(alloc: Global, words: &[String], outcome: Inverse) -> Result<Answer, NoMemory>
     requires { IsToldInverse (length words.now) outcome }
     ensures value { IfOk result (λ answer. answer ≡ inverse_answer (texts words.now) outcome) }
     ensures small { IfOk result (λ answer. answer.status ≤ 3) }
@@ -207,7 +207,12 @@ fn word_text(alloc: Global, before: &[u8], word: &[u8], behind: &[u8]) -> Result
 }
 
 /// What is told of a reply to the program of a name.
-fn reply_answer(alloc: Global, name: &[u8], crash: bool, reply: Reply) -> Result<Answer, NoMemory>
+pub fn reply_answer(
+    alloc: Global,
+    name: &[u8],
+    crash: bool,
+    reply: Reply,
+) -> Result<Answer, NoMemory>
     ensures value { IfOk result (λ answer. answer ≡ reply_answer name.now crash reply) }
     ensures small { IfOk result (λ answer. answer.status ≤ 3) }
 {

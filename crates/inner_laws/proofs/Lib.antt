@@ -1,0 +1,3 @@
+pub mod InsideLemmas
+pub mod NotLemmas
+pub mod SteadyLemmas
