@@ -1,5 +1,6 @@
--- Shown: what is kept of a request asks what the request asks, and has its reply. Idea: its words are those of the request, so what is
--- below the `not`s and the `not`s themselves are the same. The hard one is reply_kept.
+-- Shown: what is kept of a request asks what the request asks, and has its reply.
+-- Idea: its words are those of the request, so what is below the `not`s and the `not`s themselves are the same.
+-- The hard one is `reply_kept`.
 use Rattle.std.proofs.Common.{◌≡◌, ℕ, ◌<◌, true, false, List, length, drop, map, sym, ap, subst, ◌∙◌}
 use Rattle.std.proofs.lemmas.List.{drop-map, length-map}
 use Rattle.std.specs.List.{All, list_any}

@@ -1,5 +1,6 @@
--- Words are peeled a `not` at a time: done, and then what is left is peeled, is the whole peeled. A command is known by its index among
--- all words; behind so many words it is the same command of the words that are left. The hard one is peel_at, which takes one `not` off.
+-- Shown: words are peeled a `not` at a time, and a command is known by its index among all words.
+-- Idea: done, and then what is left is peeled, is the whole peeled; behind so many words it is the same command of the words that are left.
+-- The hard one is `peel_at`, which takes one `not` off.
 use Rattle.std.proofs.Common.{◌≡◌, ℕ, zero, suc, ◌+◌, ◌<◌, ◌&&◌, Bool, true, if◌then◌else◌, codes, List, [], ◌∷◌, ◌++◌, map, length, drop, get_or, Option, Some, None, refl, sym, ap, subst, ◌∙◌, append_assoc}
 use Rattle.std.proofs.lemmas.List.{append-nil, drop-drop, drop_more, get_or-drop, map-append}
 use Rattle.std.proofs.lemmas.List.Elements.{All-nil, All-push}
