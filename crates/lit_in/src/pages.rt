@@ -1,12 +1,12 @@
 //! What the program tells of itself. Made by tools/pages of docs/help.txt.
 
 /// What `--help` writes.
-pub(crate) const HELP: &str = "usage: lit PATH.. [OPTION..]
+pub(crate) const HELP: &str = "usage: lit_in PATH.. [OPTION..]
 
-Finds the tests of suites, runs their commands, and reports. A test is a file
-with RUN: lines, below a directory with a suite file lit.suite.toml. PATH is a
-directory or a test. The report is written to standard output. Words in the
-variable LIT_OPTS come before those of the command line.
+Does what lit does, but answers FileCheck, count and not by itself. A command
+whose first word is FileCheck, filecheck, count or not is answered without a
+program of that name; all others are run as lit runs them. The report is that of
+lit. Words in the variable LIT_OPTS come before those of the command line.
 
 Options:
   -q                          show only what failed, without transcripts
@@ -32,13 +32,13 @@ Statuses:
   4  out of memory
 
 Examples:
-  lit -v tests
-      run a suite, and show what failed
-  lit tests/calls/puts.test
-      run one test
+  lit_in -j 8 tests
+      run a suite whose tests pipe into FileCheck
+  lit_in -v tests/calls/puts.test
+      run one test, and show what failed
 
-More: man lit
+More: man lit_in
 ";
 
 /// What `--version` writes.
-pub(crate) const VERSION: &str = "lit 0.1.0 (Lubyarko, rattle-kit-13f)\n";
+pub(crate) const VERSION: &str = "lit_in 0.1.0 (Lubyarko, rattle-kit-13f)\n";

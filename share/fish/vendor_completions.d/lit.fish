@@ -8,5 +8,6 @@ complete -c lit -l drop -x -d 'of those, drop the tests in whose name REGEX is f
 complete -c lit -l num-shards -x -d 'split the tests into N parts'
 complete -c lit -l run-shard -x -d 'and run part N of them, from 1 on'
 complete -c lit -l show-tests -d 'show the names of the tests, and run none'
+complete -c lit -l json -d 'write the report in JSON, at the end of the run'
 complete -c lit -s h -l help -d 'print this, where it is the only word'
 complete -c lit -l version -d 'print the version, where it is the only word'

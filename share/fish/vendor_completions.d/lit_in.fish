@@ -1,0 +1,13 @@
+# Completion of lit_in for fish. Made by tools/pages.
+complete -c lit_in -s q -d 'show only what failed, without transcripts'
+complete -c lit_in -s v -d 'show the transcripts of tests that failed'
+complete -c lit_in -s a -d 'show all transcripts'
+complete -c lit_in -s j -l workers -x -d 'how many tests may run side by side, 1 to 64; 1 by default'
+complete -c lit_in -l select -x -d 'keep the tests in whose name REGEX is found'
+complete -c lit_in -l drop -x -d 'of those, drop the tests in whose name REGEX is found'
+complete -c lit_in -l num-shards -x -d 'split the tests into N parts'
+complete -c lit_in -l run-shard -x -d 'and run part N of them, from 1 on'
+complete -c lit_in -l show-tests -d 'show the names of the tests, and run none'
+complete -c lit_in -l json -d 'write the report in JSON, at the end of the run'
+complete -c lit_in -s h -l help -d 'print this, where it is the only word'
+complete -c lit_in -l version -d 'print the version, where it is the only word'
