@@ -1,5 +1,5 @@
 -- Counts of a hand that is asked more than once, and what hands leave with other numbers of requests.
-use Rattle.std.proofs.Common.{◌≡◌, ◌≢◌, ◌∙◌, ◌+◌, ◌-◌, ◌≤◌, ◌||◌, ◌^◌, ℕ, suc, Bool, true, false, List, [], ◌∷◌, ◌++◌, ap, arith, drop, length, length-append, length-drop, refl, subst, sym, true≢false}
+use Rattle.std.proofs.Common.{◌≡◌, ◌≢◌, ◌∙◌, ◌+◌, ◌-◌, ◌≤◌, ◌||◌, ℕ, suc, Bool, true, false, List, [], ◌∷◌, ◌++◌, ap, arith, drop, length, length-append, length-drop, refl, subst, sym, true≢false}
 use Rattle.std.proofs.lemmas.List.{drop-append-le}
 use Rattle.std.proofs.lemmas.List.Folds.{list_any-append}
 use Rattle.std.specs.List.{list_any}
@@ -42,7 +42,7 @@ rose_behind replies reply before between now one other up on =
     let last : RoseIf (list_any is_broken (reply ∷ [])) between now =
     subst (λ b. RoseIf b between now) (sym (or_none (is_broken reply))) other in
     rw (list_any-append is_broken replies (reply ∷ []))
-        (rose_more (list_any is_broken replies) (list_any is_broken (reply ∷ [])) before between now one last up on)
+    (rose_more (list_any is_broken replies) (list_any is_broken (reply ∷ [])) before between now one last up on)
 
 -- and of requests
 pub more_behind : (before between now count next : ℕ) → between ≡ more before count → now ≡ one_more between → next ≡ count + 1

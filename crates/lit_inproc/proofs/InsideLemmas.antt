@@ -1,12 +1,12 @@
 -- What a hand gives that answers some requests by itself: the same where the hand in it gives the same; and what it asks, one request more.
 -- By induction over what is asked, a reply to each.
-use Rattle.std.proofs.Common.{◌≡◌, ◌∙◌, Bool, true, false, List, [], ◌∷◌, ◌++◌, ap, refl, subst, sym}
-use Rattle.inner_answers.specs.Inside.{AreFit, IsReplyInside, asked_inside, is_inside}
+use Rattle.std.proofs.Common.{◌≡◌, Bool, true, false, List, [], ◌∷◌, ◌++◌, refl}
+use Rattle.inner_answers.specs.Inside.{AreFit, asked_inside, is_inside}
 use Rattle.tt_outside.specs.Fits.{fits}
-use Rattle.tt_outside.specs.Gave.{Gave, IsSteady, SameGave}
+use Rattle.tt_outside.specs.Gave.{Gave, SameGave}
 use Rattle.tt_outside.specs.declared.request.Reply.{Reply}
 use Rattle.tt_outside.specs.declared.request.Request.{Request}
-use Rattle.lit_inproc.specs.Inside.{AreGiven, GivenIf, Gives, StaysSteady, in_gave}
+use Rattle.lit_inproc.specs.Inside.{AreGiven, GivenIf, Gives, in_gave}
 
 -- what one gives, the other gives too
 abbrev Goes : Gives → Gives → Type 0

@@ -51,7 +51,8 @@ pub fn answer<H: Runner>(
     };
     let asked = inside.asked(alloc, request)?;
     let replies = replies(alloc, hand, earlier, asked.as_slice())?;
-    inside.reply(alloc, request, replies)
+    let reply = inside.reply(alloc, request, replies)?;
+    Ok(reply)
 }
 
 /// What a hand answers to requests, to each behind the same entries.

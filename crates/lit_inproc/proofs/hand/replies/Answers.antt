@@ -1,4 +1,4 @@
-use Rattle.std.proofs.Common.{rules, ◌≡◌, ◌≤◌, ◌+◌, ◌∙◌, Ok, [], ◌∷◌, ◌++◌, ap, arith, refl, sym, take}
+use Rattle.std.proofs.Common.{rules, ◌≡◌, ◌+◌, ◌∙◌, Ok, [], ◌∷◌, ◌++◌, ap, arith, refl, sym, take}
 use Rattle.std.proofs.lemmas.List.{take_more}
 use Rattle.tt_outside.specs.Gave.{last_of}
 use Rattle.test_course.proofs.PlayedLemmas.{SameGave-trans}
