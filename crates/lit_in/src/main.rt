@@ -43,7 +43,7 @@ fn main(rt: HostRuntime) -> ExitCode {
         mut end,
     } = lines;
     let mut tree = StdTree::current(rt, base);
-    let mut crew = InCrew::new(alloc, ProgressCrew::new(StdCrew::new(alloc, rt), for_crew));
+    let mut crew = ProgressCrew::new(InCrew::new(alloc, StdCrew::new(alloc, rt)), for_crew);
     let run = lit_run(
         &rt,
         alloc,

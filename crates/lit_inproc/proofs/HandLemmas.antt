@@ -1,6 +1,6 @@
 -- Counts of a hand that is asked more than once, and what hands leave with other numbers of requests.
-use Rattle.std.proofs.Common.{◌≡◌, ◌≢◌, ◌∙◌, ◌+◌, ◌-◌, ◌≤◌, ◌||◌, ℕ, suc, Bool, true, false, List, [], ◌∷◌, ◌++◌, ap, arith, drop, length, length-append, length-drop, refl, subst, sym, true≢false}
-use Rattle.std.proofs.lemmas.List.{drop-append-le}
+use Rattle.std.proofs.Common.{◌≡◌, ◌≢◌, ◌∙◌, ◌+◌, ◌≤◌, ◌||◌, ℕ, suc, Bool, true, false, List, [], ◌∷◌, ◌++◌, ap, arith, refl, reverse, subst, sym, true≢false}
+use Rattle.std.proofs.lemmas.List.{reverse-append}
 use Rattle.std.proofs.lemmas.List.Folds.{list_any-append}
 use Rattle.std.specs.List.{list_any}
 use Rattle.inner_answers.specs.Inside.{is_broken}
@@ -53,22 +53,9 @@ more_behind before between now count next one other is =
 
 -- ---- what hands leave
 
-each_behind : (lefts : List Left) (counts : List ℕ) (left : Left) (asked : ℕ) → length lefts ≡ length counts
-    → each_with (lefts ++ left ∷ []) (counts ++ asked ∷ []) ≡ each_with lefts counts ++ with_asked left asked ∷ []
-each_behind [] [] left asked same = refl
-each_behind [] (count ∷ counts) left asked same = absurd (omega (arith, same))
-each_behind (x ∷ lefts) [] left asked same = absurd (omega (arith, same))
-each_behind (x ∷ lefts) (count ∷ counts) left asked same =
-    ap (λ rest. with_asked x count ∷ rest) (each_behind lefts counts left asked (omega (arith, same)))
-
 -- one hand more
-pub recounted_behind : (lefts : List Left) (counts : List ℕ) (left : Left) (asked : ℕ) → length counts ≤ length lefts
+pub recounted_behind : (lefts : List Left) (counts : List ℕ) (left : Left) (asked : ℕ)
     → recounted (lefts ++ left ∷ []) (counts ++ asked ∷ []) ≡ recounted lefts counts ++ with_asked left asked ∷ []
-recounted_behind lefts counts left asked few =
-    let one : length (lefts ++ left ∷ []) ≡ length lefts + 1 = length-append lefts (left ∷ []) in
-    let other : length (counts ++ asked ∷ []) ≡ length counts + 1 = length-append counts (asked ∷ []) in
-    let first : ℕ = length lefts - length counts in
-    let same : length (lefts ++ left ∷ []) - length (counts ++ asked ∷ []) ≡ first = omega (arith, one, other) in
-    let front : drop first (lefts ++ left ∷ []) ≡ drop first lefts ++ left ∷ [] = drop-append-le first lefts (left ∷ []) (omega arith) in
-    let long : length (drop first lefts) ≡ length counts = omega (arith, length-drop first lefts, few) in
-    rw same (rw front (each_behind (drop first lefts) counts left asked long))
+recounted_behind lefts counts left asked =
+    rw (reverse-append lefts (left ∷ [])) (rw (reverse-append counts (asked ∷ []))
+    (reverse-append (with_asked left asked ∷ []) (each_with (reverse lefts) (reverse counts))))

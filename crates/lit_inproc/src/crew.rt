@@ -1,5 +1,5 @@
 //! The crew of such hands.
-ghost use Rattle.std.specs.Prelude.{◌≡◌, ◌+◌, ◌≤◌, [], length, min};
+ghost use Rattle.std.specs.Prelude.{◌≡◌, ◌+◌, ◌≤◌, []};
 ghost use Rattle.std.specs.Vec.{vec_capacity, vec_len};
 
 use crate::hand::InHand;
@@ -9,15 +9,14 @@ use tt_outside::{Crew, Runner};
 
 /// A crew round another one. What its hands leave is what the hands in them leave, but for the number of requests, which are its own.
 #[derive(Drop)]
-pub struct InCrew<C: Crew> {
+pub struct InCrew<C> {
     crew: C,
     asked: Vec<u64>,
     seats: u64,
     ghost room: { vec_len asked + seats ≤ vec_capacity asked },
-    ghost left: { length asked.items ≤ length (C.hands crew) },
 }
 
-impl<C: Crew> InCrew<C> {
+impl<C> InCrew<C> {
     /// Round a crew. It takes no memory.
     pub fn new(alloc: Global, crew: C) -> InCrew<C>
         ensures { (result.crew ≡ crew) × (result.asked.items ≡ []) × (result.seats ≡ 0) }
