@@ -1,7 +1,7 @@
 #!/usr/bin/env python3
 """Times reports in JSON: what they cost a run of lit, and how long lit_changes takes for two of them.
 
-    benches/json.py [--tests N] [--rounds N] [--programs FOLDER]
+    benches/reports.py [--tests N] [--rounds N] [--programs FOLDER]
 
 The suite has 40,000 tests by default, which no command runs for, since they require what isn't there. In each round the commands
 of a row run in alternation. Time is wall time, the best of the rounds; memory is the greatest resident set. What the report in JSON
