@@ -1,13 +1,14 @@
 -- Where a dump begins.
 -- Shown: of a new cursor all rows are left (`begun`), and how many lines a text has (`count_lines`). By counting the lines from each on. The hard
 -- one is `counts`: what the last line adds.
-use Rattle.std.proofs.Common.{◌≡◌, ℕ, zero, suc, ◌+◌, ◌-◌, ◌<◌, ◌≤◌, ◌^◌, Bool, true, false, ◌||◌, nat_lt, if◌then◌else◌, List, [], ◌∷◌, ◌++◌, length, map, get_or, take, drop, All, refl, sym, ap, ◌∙◌, subst, arith, drop-cons, le_refl, ⊎_elim}
-use Rattle.std.specs.List.{AllByRecursion, flat_map, slice_split}
+use Rattle.std.proofs.Common.{◌≡◌, ℕ, zero, suc, ◌+◌, ◌-◌, ◌<◌, ◌≤◌, ◌^◌, Bool, true, false, ◌||◌, nat_lt, if◌then◌else◌, List, [], ◌∷◌, ◌++◌, length, map, get_or, take, drop, All, refl, sym, ap, ◌∙◌, subst, arith, not, drop-cons, le_refl, length-drop, take_all, ⊎_elim}
+use Rattle.std.proofs.lemmas.List.Sums.{suffix_len-le-length}
+use Rattle.std.specs.List.{AllByRecursion, after_last, flat_map, slice_split, suffix_len}
 use Rattle.std.proofs.lemmas.Bool.{cases_lt}
 use Rattle.std.proofs.lemmas.Bool.Decides.{nat_tests}
 use Rattle.std.proofs.lemmas.List.{map-append, take_more}
 use denote.Ref.{Bor}
-use Rattle.tt_base.specs.Place.{is_newline, line_end, place_at}
+use Rattle.tt_base.specs.Place.{is_newline, line_end, line_start, place_at}
 use Rattle.input_dump.proofs.LineLemmas.{begins_next, column, counted_more, end_above, end_within, last_line, line_further, line_length, lines_inside, next_line, next_number, same_count, split_some}
 use Rattle.input_dump.proofs.StepLemmas.{none_pending}
 use Rattle.input_dump.specs.Dump.{by_offset, counted, ends_marked, full_row, is_shown, line_at, lines_of, mark_line, mark_row, rows, rows_from, width_of}
@@ -203,3 +204,40 @@ more_marked marked col is = ap (λ b. if b || nat_lt 1 col then 1 else 0) is
 pub more_filled : (marked : Bool) (col : ℕ) → 1 < col → more marked col ≡ 1
 more_filled true col some = refl
 more_filled false col some = let yes_lt : nat_lt 1 col ≡ true = grind (arith, nat_tests, some) in ap (λ b. if b then 1 else 0) yes_lt
+
+after_fits : (xs : List ℕ) → length (after_last is_newline xs) ≤ length xs
+after_fits xs = let q = λ (x : ℕ). not (is_newline x) in omega (arith, length-drop (length xs - suffix_len q xs) xs, suffix_len-le-length q xs)
+
+more_none : (marked : Bool) (col : ℕ) → marked ≡ false → col ≡ 1 → more marked col ≡ 0
+more_none true col is first = let no : ⊥ = none_true is in absurd no
+  where
+    none_true : true ≡ false → ⊥
+    none_true is = cc
+more_none false col is first = let not_past : nat_lt 1 col ≡ false = grind (arith, nat_tests, first) in ap (λ b. if b then 1 else 0) not_past
+
+module _ (marked : Bool) (text : List ℕ) (end : ℕ) (known : end ≡ line_at text (length text)) where
+  abbrev count : ℕ
+  count = length (counted marked (slice_split is_newline text))
+
+  abbrev col : ℕ
+  col = (place_at text (length text)).col
+
+  -- a last line that counts, since it is marked
+  pub lines_marked : marked ≡ true → end ≡ count
+  lines_marked is = omega (arith, count_lines marked text, more_marked marked col is, known)
+
+  module _ (last : ℕ) (from : last ≡ line_start text (length text)) where
+    front : length (take (length text) text) ≡ length text
+    front = ap length (take_all (length text) text (le_refl (length text)))
+
+    -- an empty one that doesn't
+    pub lines_left_out : marked ≡ false → last ≡ length text → end - 1 ≡ count
+    lines_left_out bare at_end =
+        let first : col ≡ 1 = omega (arith, from, at_end, after_fits (take (length text) text), front) in
+        omega (arith, count_lines marked text, more_none marked col bare first, known)
+
+    -- and one that isn't empty
+    pub lines_filled : (last ≡ length text → ⊥) → end ≡ count
+    lines_filled inside =
+        let some : 1 < col = omega (arith, from, inside) in
+        omega (arith, count_lines marked text, more_filled marked col some, known)

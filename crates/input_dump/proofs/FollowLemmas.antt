@@ -10,7 +10,7 @@ use Rattle.std.proofs.lemmas.List.{drop-map, get_or-map, length-map}
 use denote.Ref.{Bor}
 use Rattle.tt_base.specs.Place.{line_end}
 use Rattle.input_dump.proofs.LineLemmas.{begins_next, column, end_above, end_within, first_left, next_number, none_left}
-use Rattle.input_dump.proofs.StepLemmas.{hidden_off, mark_off, none_off, none_on, none_pending, pending_behind, shown_off, told_off}
+use Rattle.input_dump.proofs.StepLemmas.{hidden_off, mark_off, none_off, none_on, none_pending, none_shown, pending_behind, shown_off, told_off}
 use Rattle.input_dump.specs.Dump.{any_close, full_row, gap_before, is_close, is_shown, line_at, mark_line, mark_row, on_line, rows_from}
 use Rattle.input_dump.specs.Follow.{Follows, HasLine, HasMark, IsSubject, left, lines_left, marks_of, pending}
 use Rattle.input_dump.specs.Order.{AreAscending}
@@ -81,6 +81,31 @@ module _ (s : Subject) (c : Cursor) (subject : IsSubject s) (follows : Follows s
       ap (λ l. flat_map (mark_row s.width text) l ++ lines_behind (lines_left s c.start)) none_waits
       ∙ ap lines_behind (none_left text c.start s.marked no_line)
       ∙ none_off (is_shown s.shown s.lines.items) (full_row s.width text (marks_of s)) s.width c.number c.hidden
+
+  -- behind a hidden line nothing is left where all later ones are hidden
+  pub all_hidden : c.hidden ≡ true → ((line : ℕ) → c.number ≤ line → is_shown s.shown s.lines.items line ≡ false) → left s c ≡ []
+  all_hidden shut far =
+      ap (λ l. flat_map (mark_row s.width text) l ++ lines_behind (lines_left s c.start)) none_waits
+      ∙ ap (λ h. rows_from (is_shown s.shown s.lines.items) (full_row s.width text (marks_of s)) s.width h c.number (lines_left s c.start)) shut
+      ∙ none_shown (is_shown s.shown s.lines.items) (full_row s.width text (marks_of s)) s.width c.number (lines_left s c.start) far
+
+  -- and the cursor may stand behind the text
+  abbrev pub ended : Cursor
+  ended = record c { start = length text + 1 }
+
+  pub ended_follows : Follows s ended
+  ended_follows = record {
+    begins = λ inside. absurd (omega (arith, inside));
+    within = omega arith;
+    number = λ inside. absurd (omega (arith, inside));
+    small = omega (arith, follows.small, follows.within);
+    passed_within = follows.passed_within;
+    passed = follows.passed;
+    told_within = follows.told_within;
+    told = follows.told;
+    later = follows.later;
+    column = follows.column;
+  }
 
   module _ (here : HasLine s c) where
     low : c.start ≤ length text
@@ -170,6 +195,36 @@ module _ (s : Subject) (c : Cursor) (subject : IsSubject s) (follows : Follows s
           ∙ sym (ap (λ l. gap_before s.width c.hidden (flat_map (mark_row s.width text) l
           ++ rows_from shown_at row_at s.width hidden (c.number + 1) (lines_left s (end + 1)))) (none_comes unshown)
           ∙ ap (λ h. gap_before s.width c.hidden (rows_from shown_at row_at s.width h (c.number + 1) (lines_left s (end + 1)))) shut)
+
+pub ended_left : (s : Subject) (c : Cursor) (subject : IsSubject s) (follows : Follows s c) (no_mark : HasMark s c → ⊥)
+    → left s (ended s c subject follows no_mark) ≡ []
+ended_left s c subject follows no_mark =
+    nothing_left s (ended s c subject follows no_mark) subject (ended_follows s c subject follows no_mark) no_mark
+    (λ here. ⊎_elim (λ (inside : length s.text.now + 1 < length s.text.now). absurd (omega (arith, inside)))
+    (λ (at_end : (length s.text.now + 1 ≡ length s.text.now) × IsTrue s.marked). absurd (omega (arith, at_end.0))) here)
+
+-- a hidden line behind another one, which the cursor passes
+pub record IsPassed (s : Subject) (c next : Cursor) : Type 0 where
+  pub follows : Follows s next
+  pub no_mark : HasMark s next → ⊥
+  pub same : left s next ≡ left s c
+  pub further : c.start < next.start
+
+pub passes_one : (s : Subject) (c : Cursor) → IsSubject s → Follows s c → (HasMark s c → ⊥) → HasLine s c → (end : ℕ)
+    → end ≡ line_end s.text.now c.start → c.hidden ≡ true → is_shown s.shown s.lines.items c.number ≡ false
+    → IsPassed s c (record c { start = end + 1; last = c.start; number = c.number + 1 })
+passes_one s c subject follows no_mark here end is shut unshown =
+    let within = follows.passed_within in
+    let off = hidden_left s c subject follows no_mark here end c.passed is c.hidden within (λ line later. refl) shut unshown in
+    let next : Cursor = record c { start = end + 1; last = c.start; number = c.number + 1 } in
+    let low : c.start ≤ length s.text.now = ⊎_elim (λ (inside : c.start < length s.text.now). omega (arith, inside))
+    (λ (at_end : (c.start ≡ length s.text.now) × IsTrue s.marked). omega (arith, at_end.0)) here in
+    record {
+      follows = line_follows s c subject follows no_mark here end c.passed is c.hidden within (λ line later. refl);
+      no_mark = none_behind s c subject follows no_mark here end c.passed is c.hidden within (λ line later. refl) unshown;
+      same = sym (off ∙ ap (λ h. gap_before s.width h (left s next)) shut);
+      further = omega (arith, end_above s.text.now c.start end low is);
+    }
 
 -- ---- behind a mark
 

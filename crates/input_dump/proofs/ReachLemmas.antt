@@ -2,12 +2,12 @@
 -- one is near.
 -- Shown: each step of the cursor changes no answer (`passes`), and where it stops the next mark tells (`next_tells`). By induction over the
 -- lines; the hard one is `all_far`, that behind a line too far away all are.
-use Rattle.std.proofs.Common.{◌≡◌, ℕ, zero, suc, ◌+◌, ◌<◌, ◌≤◌, nat_le, Bool, true, false, ◌||◌, List, [], ◌∷◌, length, drop, get_or, refl, sym, ap, ◌∙◌, subst, arith}
+use Rattle.std.proofs.Common.{◌≡◌, ℕ, zero, suc, ◌+◌, ◌<◌, ◌≤◌, ◌-◌, nat_le, Bool, true, false, ◌||◌, List, [], ◌∷◌, length, drop, get_or, refl, sym, ap, ◌∙◌, subst, arith}
 use Rattle.std.specs.List.{AllByRecursion}
 use Rattle.std.proofs.lemmas.Bool.Decides.{nat_tests}
 use Rattle.std.proofs.Math.Seq.{drop-cons}
 use Rattle.input_dump.specs.Dump.{any_close, is_close}
-use Rattle.input_dump.specs.Follow.{IsFirstInReach}
+use Rattle.input_dump.specs.Follow.{AreNearTheSame, IsFirstInReach}
 use Rattle.input_dump.specs.Order.{AreAscending}
 
 not_close : (context line m : ℕ) → m + context < line → is_close context line m ≡ false
@@ -18,6 +18,9 @@ still_close context line m near = grind (arith, nat_tests, near)
 
 too_far : (context line m : ℕ) → line + context < m → is_close context line m ≡ false
 too_far context line m far = grind (arith, nat_tests, far)
+
+le_false : (m n : ℕ) → n < m → nat_le m n ≡ false
+le_false m n is = grind (arith, nat_tests, is)
 
 not_le : (m n : ℕ) → nat_le m n ≡ false → n < m
 not_le m n is = grind (arith, nat_tests, is)
@@ -76,3 +79,23 @@ reach_at [] zero context number near = tt
 reach_at [] (suc at) context number near = tt
 reach_at (m ∷ lines) zero context number near = near (omega arith)
 reach_at (m ∷ lines) (suc at) context number near = reach_at lines at context number (λ low. near (omega (arith, low)))
+
+-- lines far enough before a mark, and behind the marks that are passed, are near none
+pub far_before : (lines : List ℕ) (at context line : ℕ) → AreAscending lines → at < length lines → line < get_or lines at 0 - context
+    → any_close context line (drop at lines) ≡ false
+far_before lines at context line up low far =
+    let m = get_or lines at 0 in
+    let first : IsFirstInReach context line (drop at lines) = reach_at lines at context line (λ inside. omega (arith, far)) in
+    let past : line + context < m = omega (arith, far) in
+    next_tells lines at context line up first low ∙ le_false m (line + context) past
+
+not_all : (all : Bool) (rest : Bool) → all ≡ false → rest ≡ false → (all || rest) ≡ false
+not_all true rest none far = none
+not_all false rest none far = far
+
+-- so they are hidden
+pub hidden_where : (all : Bool) (lines passed before : List ℕ) (context number line : ℕ) → all ≡ false
+    → AreNearTheSame context number passed before → AreNearTheSame context number before lines → number ≤ line
+    → any_close context line passed ≡ false → (all || any_close context line lines) ≡ false
+hidden_where all lines passed before context number line none same follow later far =
+    not_all all (any_close context line lines) none (sym (same line later ∙ follow line later) ∙ far)

@@ -98,3 +98,11 @@ pub none_off : (shown : ℕ → Bool) (row : ℕ → List ℕ → List ℕ) (wid
     → rows_from shown row width hidden number [] ≡ []
 unfolding rows_from
 none_off shown row width number hidden = refl
+
+-- where all lines from a number on are hidden, nothing stands behind one that is
+pub none_shown : (shown : ℕ → Bool) (row : ℕ → List ℕ → List ℕ) (width number : ℕ) (lines : List (List ℕ))
+    → ((line : ℕ) → number ≤ line → shown line ≡ false) → rows_from shown row width true number lines ≡ []
+none_shown shown row width number [] far = none_off shown row width number true
+none_shown shown row width number (line ∷ lines) far =
+    hidden_off shown row width number true line lines (far number (omega arith))
+    ∙ none_shown shown row width (number + 1) lines (λ later low. far later (omega (arith, low)))

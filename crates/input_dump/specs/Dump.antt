@@ -78,6 +78,10 @@ rows text marks shown =
     let order = by_offset (length text) marks in
     rows_from (is_shown shown (map (mark_line text) order)) (full_row width text order) width false 1 (lines_of text marks)
 
--- the whole, in its frame
+-- rows in their frame
+abbrev pub framed : List ℕ → List ℕ
+framed rows = codes "Input was:\n<<<<<<\n" ++ rows ++ codes ">>>>>>\n"
+
+-- the whole
 abbrev pub dump : List ℕ → List Mark → Shown → List ℕ
-dump text marks shown = codes "Input was:\n<<<<<<\n" ++ rows text marks shown ++ codes ">>>>>>\n"
+dump text marks shown = framed (rows text marks shown)

@@ -1,6 +1,6 @@
 -- How far a dump has come, and what of it is left.
 -- Own rule: the marks of a line follow it, so those of the line before the one at hand come first; then the lines from there on.
-use Rattle.std.specs.Prelude.{◌≡◌, ◌⊎◌, ◌≤◌, ◌<◌, ◌^◌, ℕ, true, ◌+◌, ◌-◌, ◌==◌, nat_le, if◌then◌else◌, IsTrue, All, List, [], ◌∷◌, ◌++◌, length, drop, map, slice_index}
+use Rattle.std.specs.Prelude.{◌≡◌, ◌⊎◌, ◌≤◌, ◌<◌, ◌^◌, ℕ, true, ◌+◌, ◌-◌, ◌==◌, nat_le, if◌then◌else◌, IsTrue, All, List, [], ◌∷◌, ◌++◌, false, length, drop, map, slice_index}
 use Rattle.std.specs.List.{AllByRecursion, filter, flat_map, slice_split}
 use Rattle.tt_base.specs.Place.{is_newline, place_at}
 use Rattle.input_dump.specs.Dump.{any_close, counted, full_row, is_shown, line_at, mark_line, mark_row, on_line, rows_from}
@@ -47,6 +47,11 @@ IsFirstInReach context number (line ∷ lines) = number ≤ line + context
 -- lines that are near the same ones from a number on
 abbrev pub AreNearTheSame : ℕ → ℕ → List ℕ → List ℕ → Type 0
 AreNearTheSame context number lines others = (line : ℕ) → number ≤ line → any_close context line lines ≡ any_close context line others
+
+-- the lines from a number on are hidden up to another one
+abbrev pub AreHidden : Subject → ℕ → ℕ → Type 0
+AreHidden subject number near =
+    (line : ℕ) → number ≤ line → line < near → is_shown subject.shown subject.lines.items line ≡ false
 
 -- a line begins at an offset
 abbrev pub BeginsLine : List ℕ → ℕ → Type 0

@@ -1,13 +1,13 @@
 //! The steps of a dump.
-ghost use Rattle.std.specs.Prelude.{◌≡◌, ◌≤◌, ◌<◌, ◌++◌, ◌↔◌, IfOk, IsTrue, OnErr, [], drop, false, length, true};
+ghost use Rattle.std.specs.Prelude.{◌≡◌, ◌≤◌, ◌<◌, ◌++◌, ◌↔◌, ℕ, IfSome, IsTrue, MatchOption, None, [], drop, false, length, true};
 ghost use Rattle.input_dump.specs.Dump.{any_close, is_shown};
-ghost use Rattle.input_dump.specs.Follow.{AreNearTheSame, Follows, HasLine, HasMark, IsFirstInReach, IsSubject, left};
+ghost use Rattle.input_dump.specs.Follow.{AreHidden, AreNearTheSame, Follows, HasLine, HasMark, IsFirstInReach, IsSubject, left};
 ghost use Rattle.input_dump.specs.Order.{AreAscending};
+ghost use Rattle.input_dump.specs.Rows.{row_bytes};
 
-use crate::bytes::{append_gap, append_line, append_mark};
+use crate::newlines::line_end;
+use crate::row::Row;
 use crate::subject::{Cursor, Subject};
-use std::alloc::Global;
-use tt_base::{Bytes, NoMemory, line_of};
 
 /// How many marks in order, whose lines these are, are near no line from this one on.
 fn passed_by(lines: &[u64], passed: usize, context: u64, number: u64) -> usize
@@ -83,78 +83,61 @@ fn has_line(subject: &Subject<'_>, cursor: &Cursor) -> bool
     cursor.start < subject.text.len() || cursor.start == subject.text.len() && subject.marked
 }
 
-/// Adds the next row. There is none at the end.
-pub(crate) fn add_row(
-    alloc: Global,
-    subject: &Subject<'_>,
-    cursor: &mut Cursor,
-    out: &mut Bytes,
-) -> Result<bool, NoMemory>
+/// The next row. There is none at the end.
+pub(crate) fn next_row<'a>(subject: &Subject<'a>, cursor: &mut Cursor) -> Option<Row<'a>>
     requires subject { IsSubject subject.now }
     requires follows { Follows subject.now cursor.old }
-    ensures moved { IfOk result (λ some. out.new ++ left subject.now cursor.new ≡ out.old ++ left subject.now cursor.old) }
-    ensures end { IfOk result (λ some. some ≡ false → (left subject.now cursor.old ≡ []) × (left subject.now cursor.new ≡ [])) }
-    ensures less { IfOk result (λ some. some ≡ true → length (left subject.now cursor.new) < length (left subject.now cursor.old)) }
-    ensures kept { OnErr result (left subject.now cursor.new ≡ left subject.now cursor.old) }
+    ensures moved { IfSome result (λ row. row_bytes row ++ left subject.now cursor.new ≡ left subject.now cursor.old) }
+    ensures end { result ≡ None → (left subject.now cursor.old ≡ []) × (left subject.now cursor.new ≡ []) }
+    ensures less { IfSome result (λ row. length (left subject.now cursor.new) < length (left subject.now cursor.old)) }
     ensures follows { Follows subject.now cursor.new }
 {
     if has_mark(subject, cursor) {
-        add_mark(alloc, subject, cursor, out)?;
-        return Ok(true);
+        return Some(take_mark(subject, cursor));
     }
     while has_line(subject, cursor) {
-        if add_line(alloc, subject, cursor, out)? {
-            return Ok(true);
+        if let Some(row) = take_line(subject, cursor) {
+            return Some(row);
         }
+        pass_hidden(subject, cursor);
     }
-    Ok(false)
+    None
 }
 
-/// Adds the row of a mark.
-fn add_mark(
-    alloc: Global,
-    subject: &Subject<'_>,
-    cursor: &mut Cursor,
-    out: &mut Bytes,
-) -> Result<(), NoMemory>
+/// The row of a mark.
+fn take_mark<'a>(subject: &Subject<'a>, cursor: &mut Cursor) -> Row<'a>
     requires subject { IsSubject subject.now }
     requires follows { Follows subject.now cursor.old }
     requires some { HasMark subject.now cursor.old }
-    ensures moved { IfOk result (λ done. out.new ++ left subject.now cursor.new ≡ out.old ++ left subject.now cursor.old) }
-    ensures less { IfOk result (λ done. length (left subject.now cursor.new) < length (left subject.now cursor.old)) }
-    ensures kept { OnErr result (cursor.new ≡ cursor.old) }
+    ensures moved { row_bytes result ++ left subject.now cursor.new ≡ left subject.now cursor.old }
+    ensures less { length (left subject.now cursor.new) < length (left subject.now cursor.old) }
     ensures follows { Follows subject.now cursor.new }
 {
     let mark = subject.order[cursor.told];
-    append_mark(alloc, out, subject.width, mark.at - cursor.last, mark)?;
+    let before = mark.at - cursor.last;
     cursor.told += 1;
-    Ok(())
+    Row::Mark(subject.width, before, mark)
 }
 
-/// Goes over a line, and answers whether a row was added for it: its own, or that of a gap that it begins.
-fn add_line(
-    alloc: Global,
-    subject: &Subject<'_>,
-    cursor: &mut Cursor,
-    out: &mut Bytes,
-) -> Result<bool, NoMemory>
+/// Goes over a line, and answers the row that it has: its own, or that of a gap that it begins.
+fn take_line<'a>(subject: &Subject<'a>, cursor: &mut Cursor) -> Option<Row<'a>>
     requires subject { IsSubject subject.now }
     requires follows { Follows subject.now cursor.old }
     requires no_mark { ¬ HasMark subject.now cursor.old }
     requires line { HasLine subject.now cursor.old }
-    ensures moved { IfOk result (λ some. out.new ++ left subject.now cursor.new ≡ out.old ++ left subject.now cursor.old) }
-    ensures less { IfOk result (λ some. some ≡ true → length (left subject.now cursor.new) < length (left subject.now cursor.old)) }
-    ensures kept { OnErr result (cursor.new ≡ cursor.old) }
-    ensures further { IfOk result (λ some. cursor.old.start < cursor.new.start) }
-    ensures silent { IfOk result (λ some. some ≡ false → (out.new ≡ out.old) × (left subject.now cursor.new ≡ left subject.now cursor.old) × (¬ HasMark subject.now cursor.new)) }
+    ensures moved { IfSome result (λ row. row_bytes row ++ left subject.now cursor.new ≡ left subject.now cursor.old) }
+    ensures less { IfSome result (λ row. length (left subject.now cursor.new) < length (left subject.now cursor.old)) }
+    ensures further { cursor.old.start < cursor.new.start }
+    ensures silent { result ≡ None → (left subject.now cursor.new ≡ left subject.now cursor.old) × (¬ HasMark subject.now cursor.new) × (cursor.new.hidden ≡ true) }
     ensures follows { Follows subject.now cursor.new }
 {
     let start = cursor.start;
     let number = cursor.number;
-    let end = line_of(subject.text, start).to;
+    let was_hidden = cursor.hidden;
+    let end = line_end(subject.text, start);
     let passed = passed_on(subject, cursor);
     let shown = is_shown(subject, passed, number);
-    let behind = Cursor {
+    *cursor = Cursor {
         start: end + 1,
         last: start,
         number: number + 1,
@@ -163,15 +146,66 @@ fn add_line(
         hidden: !shown,
     };
     if shown {
-        append_line(alloc, out, subject.width, number, &subject.text[start..end])?;
-        *cursor = behind;
-        return Ok(true);
+        let text = subject.text;
+        return Some(Row::Line(subject.width, number, &text[start..end]));
     }
-    if cursor.hidden {
-        *cursor = behind;
-        return Ok(false);
+    if was_hidden {
+        None
+    } else {
+        Some(Row::Gap(subject.width))
     }
-    append_gap(alloc, out, subject.width)?;
-    *cursor = behind;
-    Ok(true)
+}
+
+/// The first line that may be shown from the one at hand on; there is none where no mark is near one.
+fn first_near(subject: &Subject<'_>, cursor: &Cursor) -> Option<u64>
+    requires subject { IsSubject subject.now }
+    requires follows { Follows subject.now cursor.now }
+    requires not_all { subject.now.shown.all ≡ false }
+    ensures { MatchOption result ((n : ℕ) → cursor.now.number ≤ n → is_shown subject.now.shown subject.now.lines.items n ≡ false)
+        (λ near. AreHidden subject.now cursor.now.number near) }
+{
+    match subject.lines.get(passed_on(subject, cursor)) {
+        Some(line) => Some(line.saturating_sub(subject.shown.context)),
+        None => None,
+    }
+}
+
+/// Goes over lines that are hidden behind one that is.
+fn pass_hidden(subject: &Subject<'_>, cursor: &mut Cursor)
+    requires subject { IsSubject subject.now }
+    requires follows { Follows subject.now cursor.old }
+    requires no_mark { ¬ HasMark subject.now cursor.old }
+    requires hidden { cursor.old.hidden ≡ true }
+    ensures same { left subject.now cursor.new ≡ left subject.now cursor.old }
+    ensures no_mark { ¬ HasMark subject.now cursor.new }
+    ensures on { cursor.old.start ≤ cursor.new.start }
+    ensures follows { Follows subject.now cursor.new }
+{
+    if subject.shown.all {
+        return;
+    }
+    match first_near(subject, cursor) {
+        Some(near) => pass_before(subject, cursor, near),
+        None => cursor.start = subject.text.len() + 1,
+    }
+}
+
+/// Goes over the lines before one, which are hidden.
+fn pass_before(subject: &Subject<'_>, cursor: &mut Cursor, near: u64)
+    requires subject { IsSubject subject.now }
+    requires follows { Follows subject.now cursor.old }
+    requires no_mark { ¬ HasMark subject.now cursor.old }
+    requires hidden { cursor.old.hidden ≡ true }
+    requires are_hidden { AreHidden subject.now cursor.old.number near }
+    ensures same { left subject.now cursor.new ≡ left subject.now cursor.old }
+    ensures no_mark { ¬ HasMark subject.now cursor.new }
+    ensures on { cursor.old.start ≤ cursor.new.start }
+    ensures follows { Follows subject.now cursor.new }
+{
+    while cursor.number < near && cursor.start < subject.text.len() {
+        let start = cursor.start;
+        cursor.start = line_end(subject.text, start) + 1;
+        cursor.last = start;
+        cursor.number += 1;
+    }
 }

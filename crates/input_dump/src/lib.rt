@@ -3,17 +3,18 @@
 //! one over the marks in the order of their offsets. What is found amiss comes from `check_group`, below; `filecheck` writes the rows.
 #![tactic(auto)]
 
-mod bytes;
 mod cursor;
 mod dumped;
 mod laws;
 mod marking;
+mod newlines;
 mod order;
+mod row;
 mod rows;
 mod shown;
 mod subject;
 
-pub use dumped::{HEAD, TAIL, dump};
+pub use dumped::{HEAD, TAIL, dump, put_dump};
 pub use laws::law_of_lines;
 pub use marking::{Mark, marks};
 pub use rows::Rows;

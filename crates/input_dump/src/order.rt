@@ -4,8 +4,8 @@ ghost use Rattle.input_dump.specs.Dump.{by_offset, line_at, mark_line};
 ghost use Rattle.input_dump.specs.Order.{AreAscending};
 
 use crate::marking::Mark;
+use crate::newlines::line_behind;
 use std::alloc::{AllocError, Global};
-use tt_base::place_of;
 
 /// The marks, as they come.
 fn refs_of<'a>(alloc: Global, marks: &'a [Mark]) -> Result<Vec<&'a Mark>, AllocError>
@@ -34,32 +34,30 @@ pub(crate) fn by_offset<'a>(
     Ok(order)
 }
 
+/// The lines of marks in order, and an offset whose line is known: that of the last mark, or the first one.
+#[derive(Drop)]
+pub(crate) struct Lines {
+    pub(crate) all: Vec<u64>,
+    pub(crate) last: u64,
+    pub(crate) from: usize,
+}
+
 /// The lines of marks in order.
-pub(crate) fn lines_of(alloc: Global, text: &[u8], order: &[&Mark]) -> Result<Vec<u64>, AllocError>
+pub(crate) fn lines_of(alloc: Global, text: &[u8], order: &[&Mark]) -> Result<Lines, AllocError>
     requires short { length text.now ≤ 2 ^ 30 }
     requires within { All (λ mark. mark.now.at ≤ length text.now) order.now }
     requires ascending { AreAscending (map (λ mark. mark.now.at) order.now) }
-    ensures { IfOk result (λ lines. lines.items ≡ map (λ mark. mark_line text.now mark.now) order.now) }
+    ensures exact { IfOk result (λ lines. lines.all.items ≡ map (λ mark. mark_line text.now mark.now) order.now) }
+    ensures within { IfOk result (λ lines. lines.from ≤ length text.now) }
+    ensures known { IfOk result (λ lines. lines.last ≡ line_at text.now lines.from) }
 {
-    let mut lines = Vec::with_capacity(alloc, order.len())?;
-    let mut line = 1;
+    let mut all = Vec::with_capacity(alloc, order.len())?;
+    let mut last = 1;
     let mut from = 0;
     for mark in order {
-        line = line_behind(text, line, from, mark.at);
+        last = line_behind(text, last, from, mark.at);
         from = mark.at;
-        lines.push(line)?;
+        all.push(last)?;
     }
-    Ok(lines)
-}
-
-/// The line of an offset behind another one, whose line is known.
-fn line_behind(text: &[u8], line: u64, from: usize, at: usize) -> u64
-    requires short { length text.now ≤ 2 ^ 30 }
-    requires within { at ≤ length text.now }
-    requires ordered { from ≤ at }
-    requires known { line ≡ line_at text.now from }
-    ensures { result ≡ line_at text.now at }
-{
-    let between = &text[from..at];
-    line + u64::from(place_of(between, between.len()).line - 1)
+    Ok(Lines { all, last, from })
 }

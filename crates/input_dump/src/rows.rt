@@ -1,17 +1,20 @@
-//! The rows of a dump, one by one, so that it takes no more memory than its longest row.
-ghost use Rattle.std.specs.Prelude.{◌≡◌, ◌≤◌, ◌<◌, ◌^◌, ◌++◌, All, IfOk, OnErr, [], false, length, true};
-ghost use Rattle.input_dump.specs.Dump.{counted, ends_marked, rows, width_of};
+//! The rows of a dump, one by one. A row takes no memory.
+ghost use Rattle.std.specs.Prelude.{◌≡◌, ◌≤◌, ◌<◌, ◌^◌, ◌++◌, All, IfOk, IfSome, None, [], length};
+ghost use Rattle.input_dump.specs.Dump.{counted, ends_marked, line_at, rows, width_of};
+ghost use Rattle.input_dump.specs.Rows.{row_bytes};
 ghost use Rattle.std.specs.List.{slice_split};
 ghost use Rattle.tt_base.specs.Place.{is_newline};
 
-use crate::cursor::add_row;
+use crate::cursor::next_row;
 use crate::marking::Mark;
+use crate::newlines::line_behind;
 use crate::order::{by_offset, lines_of};
+use crate::row::Row;
 use crate::shown::Shown;
 use crate::subject::{Cursor, Subject};
 use std::alloc::Global;
 use std::marker::Model;
-use tt_base::{Bytes, NoMemory, place_of};
+use tt_base::{NoMemory, line_of};
 
 /// The rows of a dump that aren't told.
 #[derive(Drop)]
@@ -31,18 +34,20 @@ impl<'a> Model for Rows<'a> {
     ghost invariant = { λ rows. IsSubject rows.subject × Follows rows.subject rows.cursor };
 }
 
-/// How many lines a text has. The empty one behind a last newline counts where it is marked.
-fn line_count(text: &[u8], marked: bool) -> u64
-    requires { length text.now ≤ 2 ^ 30 }
+/// How many lines a text has, of which the line of an offset is known. The empty one behind a last newline counts where it is marked.
+fn line_count(text: &[u8], marked: bool, line: u64, from: usize) -> u64
+    requires short { length text.now ≤ 2 ^ 30 }
+    requires within { from ≤ length text.now }
+    requires known { line ≡ line_at text.now from }
     ensures exact { result ≡ length (counted marked (slice_split is_newline text.now)) }
     ensures small { result < 2 ^ 32 }
 {
-    let end = place_of(text, text.len());
-    if end.col == 1 && !marked {
-        u64::from(end.line) - 1
-    } else {
-        u64::from(end.line)
+    let end = line_behind(text, line, from, text.len());
+    if marked {
+        return end;
     }
+    let last = line_of(text, text.len()).from;
+    if last == text.len() { end - 1 } else { end }
 }
 
 /// Whether a mark stands at the end of a text.
@@ -83,12 +88,13 @@ impl<'a> Rows<'a> {
             return Err(NoMemory);
         };
         let marked = ends_marked(text, marks);
-        let width = width_of(alloc, line_count(text, marked))?;
+        let count = line_count(text, marked, lines.last, lines.from);
+        let width = width_of(alloc, count)?;
         let subject = Subject {
             text,
             shown: *shown,
             order,
-            lines,
+            lines: lines.all,
             marked,
             width,
         };
@@ -103,13 +109,12 @@ impl<'a> Rows<'a> {
         Ok(Rows { subject, cursor })
     }
 
-    /// Adds the next row. There is none at the end. Where memory is wanting, a front of the row may be added.
-    pub fn add_row(&mut self, alloc: Global, out: &mut Bytes) -> Result<bool, NoMemory>
-        ensures moved { IfOk result (λ some. out.new ++ self.new ≡ out.old ++ self.old) }
-        ensures end { result ≡ Ok false → (self.old ≡ []) × (self.new ≡ []) }
-        ensures less { result ≡ Ok true → length self.new < length self.old }
-        ensures kept { OnErr result (self.new ≡ self.old) }
+    /// The next row. There is none at the end.
+    pub(crate) fn next_row(&mut self) -> Option<Row<'a>>
+        ensures moved { IfSome result (λ row. row_bytes row ++ self.new ≡ self.old) }
+        ensures end { result ≡ None → (self.old ≡ []) × (self.new ≡ []) }
+        ensures less { IfSome result (λ row. length self.new < length self.old) }
     {
-        add_row(alloc, &self.subject, &mut self.cursor, out)
+        next_row(&self.subject, &mut self.cursor)
     }
 }

@@ -1,11 +1,11 @@
-use Rattle.std.proofs.Common.{◌≡◌, List, ℕ, ◌++◌, codes, Ok, ap, sym, ◌∙◌, append_assoc, append-nil}
-use Rattle.input_dump.specs.Dump.{rows}
+use Rattle.std.proofs.Common.{ap, ◌∙◌}
+use Rattle.tt_pieces.specs.contracts.gathered.GatheredSink.TheImpl.{ghosts}
+use Rattle.tt_pieces.proofs.PenLemmas.{gathered_whole, told_by}
+use Rattle.input_dump.specs.Dump.{framed}
 use Rattle.input_dump.proofs.dumped.dump.Goals as goal
 
-pub returns : goal.returns
-returns c =
-    let all : List ℕ = rows c.args.text.now c.args.marks.now c.args.shown.now in
-    let none = c.in_ok-add_row.ensures.end (ap Ok c.if-branch.false) in
-    let whole : c.add_row.new.out ≡ codes "Input was:\n<<<<<<\n" ++ all =
-    sym (append-nil c.add_row.new.out) ∙ ap (λ l. c.add_row.new.out ++ l) (sym none.1) ∙ c.in_ok-add_row.ensures.moved ∙ c.loop-out.invariant in
-    c.in_ok-append.ensures.ok ∙ ap (λ l. l ++ codes ">>>>>>\n") whole ∙ append_assoc (codes "Input was:\n<<<<<<\n") all (codes ">>>>>>\n")
+pub returns-in-Ok : goal.returns-in-Ok
+returns-in-Ok c =
+    let told = told_by ghosts c.in_ok-pen.pen c.new-sink.result _ _ c.in_ok-pen.ensures c.put_dump.ensures in
+    let ended = c.in-Ok.ensures.ends _ _ told in
+    gathered_whole _ _ _ _ c.new-sink.ensures c.into_bytes.ensures ended.0 ∙ ap framed c.in_ok-rows.ensures

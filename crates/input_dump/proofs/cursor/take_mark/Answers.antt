@@ -1,17 +1,17 @@
-use Rattle.std.proofs.Common.{◌≡◌, ◌+◌, ◌-◌, ◌<◌, ℕ, List, ◌++◌, length, ap, sym, ◌∙◌, arith, append_assoc, length-append}
+use Rattle.std.proofs.Common.{◌≡◌, ◌+◌, ◌-◌, ◌<◌, ℕ, List, ◌++◌, length, ap, sym, ◌∙◌, arith, length-append}
 use Rattle.tt_base.specs.Place.{place_at}
 use Rattle.input_dump.proofs.FollowLemmas.{mark_at, mark_follows, mark_left, on_last}
 use Rattle.input_dump.specs.Dump.{mark_row}
 use Rattle.input_dump.specs.Follow.{left}
 use Rattle.input_dump.specs.Rows.{mark_row_at}
 use Rattle.input_dump.specs.declared.marking.Mark.{Mark}
-use Rattle.input_dump.proofs.cursor.add_mark.Goals as goal
+use Rattle.input_dump.proofs.cursor.take_mark.Goals as goal
 
 some_bytes : (width before : ℕ) (mark : Mark) → 0 < length (mark_row_at width before mark)
 some_bytes width before mark = omega (arith, length-append {A = ℕ})
 
-pub overflow_sub-mark : goal.overflow_sub-mark
-overflow_sub-mark c =
+pub overflow_sub-before : goal.overflow_sub-before
+overflow_sub-before c =
     let s = c.args.subject.now in
     let k = c.args.cursor.now in
     let one = c.index-mark.result.now in
@@ -28,12 +28,9 @@ returns-clause-moved c =
     let last = on_last s k c.requires.subject c.requires.follows c.requires.some one.now at.first at.line in
     let column = c.requires.follows.column one.now.at at.within last in
     let before : one.now.at - k.last ≡ (place_at s.text.now one.now.at).col - 1 = omega (arith, column.col, column.behind) in
-    let row : c.append_mark.new.out ≡ c.args.out.now ++ mark_row s.width s.text.now one.now =
-    c.in_ok-append_mark.ensures ∙ ap (λ n. c.args.out.now ++ mark_row_at s.width n one.now) before in
     let rest : List ℕ = left s (record k { told = k.told + 1 }) in
-    ap (λ l. l ++ rest) row ∙ append_assoc c.args.out.now (mark_row s.width s.text.now one.now) rest
-    ∙ ap (λ l. c.args.out.now ++ l)
-    (sym (mark_left s k c.requires.subject c.requires.follows c.requires.some one.now at.first at.line))
+    ap (λ n. mark_row_at s.width n one.now ++ rest) before
+    ∙ sym (mark_left s k c.requires.subject c.requires.follows c.requires.some one.now at.first at.line)
 
 pub returns-clause-less : goal.returns-clause-less
 returns-clause-less c =

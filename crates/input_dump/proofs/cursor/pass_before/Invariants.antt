@@ -1,0 +1,17 @@
+use Rattle.std.proofs.Common.{◌≡◌, ◌+◌, ◌-◌, ◌≤◌, true, length}
+use Rattle.input_dump.specs.Follow.{Follows, HasMark, left}
+use Rattle.input_dump.proofs.cursor.pass_before.Given as goal
+
+-- what is left is what it was
+abbrev pub invariant-loop-cursor : goal.invariant-loop-cursor
+invariant-loop-cursor l = record {
+  follows : Follows l.subject l.cursor;
+  no_mark : ¬ HasMark l.subject l.cursor;
+  hidden : l.cursor.hidden ≡ true;
+  on : l.fn.cursor.start ≤ l.cursor.start;
+  number : l.fn.cursor.number ≤ l.cursor.number;
+  same : left l.subject l.cursor ≡ left l.subject l.fn.cursor;
+}
+
+abbrev pub decreases-loop-cursor : goal.decreases-loop-cursor
+decreases-loop-cursor l = length l.subject.text.now + 1 - l.cursor.start

@@ -1,0 +1,9 @@
+//! A piece of a text.
+
+/// A piece of a text. A blank is a byte.
+#[derive(Drop, Debug)]
+pub enum Piece<'a> {
+    Bytes(&'a [u8]),
+    Number(u64),
+    Blanks(usize),
+}

@@ -1,0 +1,35 @@
+//! Pieces, told one behind the other.
+ghost use Rattle.tt_pieces.specs.Pieces.{bytes_in, bytes_of};
+ghost use Rattle.tt_pieces.specs.Telling.{Tells, state};
+
+use crate::pen::Pen;
+use crate::piece::Piece;
+use crate::pieces::Pieces;
+use tt_outside::Sink;
+
+/// Tells a piece.
+fn put_piece<S: Sink>(pen: &mut Pen, piece: &Piece<'_>, sink: &mut S)
+    ensures { Tells (bytes_of piece.now) (state S.Sink pen.old sink.old) (state S.Sink pen.new sink.new) }
+{
+    match piece {
+        Piece::Bytes(bytes) => pen.put(bytes, sink),
+        Piece::Number(number) => pen.put_number(*number, sink),
+        Piece::Blanks(count) => pen.put_blanks(*count, sink),
+    }
+}
+
+/// Tells pieces in order.
+fn put_each<S: Sink>(pen: &mut Pen, pieces: &[Piece<'_>], sink: &mut S)
+    ensures { Tells (bytes_in pieces.now) (state S.Sink pen.old sink.old) (state S.Sink pen.new sink.new) }
+{
+    for piece in pieces {
+        put_piece(pen, piece, sink);
+    }
+}
+
+/// Tells a text.
+pub fn put_pieces<S: Sink>(pen: &mut Pen, pieces: &Pieces<'_>, sink: &mut S)
+    ensures { Tells pieces.now (state S.Sink pen.old sink.old) (state S.Sink pen.new sink.new) }
+{
+    put_each(pen, pieces.as_slice(), sink);
+}
