@@ -1,6 +1,6 @@
 -- What an automaton has seen, and what it knows of it.
 -- Own rule: it is told a slice byte by byte, and has to be right for every slice that begins as it was told.
-use Rattle.std.specs.Prelude.{◌≡◌, ℕ, ◌+◌, ◌<◌, ◌≤◌, ◌==◌, ◌&&◌, Bool, true, List, [], ◌++◌, Option, Some, None, length, slice_index, slice_set, is_none}
+use Rattle.std.specs.Prelude.{◌≡◌, ℕ, ◌+◌, ◌<◌, ◌≤◌, ◌==◌, ◌&&◌, Bool, true, List, [], ◌∷◌, ◌++◌, IsSome, Option, Some, None, length, slice_index, slice_set, is_none}
 use Rattle.ere_tree.specs.Tree.{Tree}
 use Rattle.ere_tree.specs.Derivation.{is_line_start}
 use Rattle.ere_tree.specs.declared.hit.Cap.{Cap}
@@ -63,7 +63,25 @@ pub record HasFound (a : State) (t : Tree) (s : List ℕ) : Type 0 where
   pub span : IsSpan s t a.begin a.best
   pub within : (cap : Cap) → a.best ≡ Some cap → cap.to ≤ a.at
 
+-- whatever the first was shown, the second was shown, and the byte behind it
+abbrev pub SeesNext : State → State → ℕ → Type 0
+SeesNext a b byte = (t : Tree) (front : List ℕ) → HasSeen a t front → HasSeen b t (front ++ byte ∷ [])
+
+-- whatever the first was shown, the second has a span in it with the byte behind it, whatever comes then
+abbrev pub HasSettled : State → State → ℕ → Type 0
+HasSettled a b byte =
+    (t : Tree) (front rest : List ℕ) → HasSeen a t front → HasFound b t (front ++ byte ∷ rest) × IsSome b.best
+
+-- whatever the first was shown, the second has the span in it
+abbrev pub HasEnded : State → State → Type 0
+HasEnded a b = (t : Tree) (front : List ℕ) → HasSeen a t front → HasFound b t front
+
 -- STEPS
+
+-- the next byte, or the slice's end, makes these threads of those of the state
+abbrev pub StepsTo : State → List Thread → Option ℕ → Option ℕ → Option ℕ → Type 0
+StepsTo a threads next begun met =
+    IsStep (node_at a.nodes) a.entry a.threads threads a.line a.searching next begun met
 
 abbrev pub starts_behind : List ℕ → Option ℕ → ℕ → List ℕ
 starts_behind starts None n = starts
@@ -75,7 +93,7 @@ best_behind best starts (Some slot) n = Some (record { from = slice_index starts
 
 -- The second state is that behind a byte, as far as the threads go.
 pub record Turns (a b : State) (byte : ℕ) (begun met : Option ℕ) : Type 0 where
-  pub step : IsStep (node_at a.nodes) a.entry a.threads b.threads a.line a.searching (Some byte) begun met
+  pub step : StepsTo a b.threads (Some byte) begun met
   pub line : b.line ≡ (byte == 10)
   pub searching : b.searching ≡ (a.searching && is_none met)
   pub steps : AreSteps (node_at a.nodes) a.entry b.kept
@@ -94,7 +112,7 @@ pub record GoesTo (a b : State) (byte : ℕ) (begun met : Option ℕ) : Type 0 w
 -- The second state is that at the slice's end.
 pub record EndsIn (a b : State) (begun met : Option ℕ) : Type 0 where
   pub threads : List Thread
-  pub step : IsStep (node_at a.nodes) a.entry a.threads threads a.line a.searching None begun met
+  pub step : StepsTo a threads None begun met
   pub inside : (slot : ℕ) → begun ≡ Some slot → slot < length a.starts
   pub starts : b.starts ≡ starts_behind a.starts begun a.at
   pub best : b.best ≡ best_behind a.best b.starts met a.at

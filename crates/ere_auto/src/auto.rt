@@ -1,26 +1,23 @@
 //! The automaton.
-ghost use Rattle.std.specs.Prelude.{◌≡◌, ℕ, ◌+◌, ◌<◌, ◌≤◌, ◌++◌, ◌∷◌, ◌↔◌, ◌&&◌, is_none, [], true, false, List, IsSome, IfOk, IfSome, IfNone, MatchOption, Some, length, take, vec_len, vec_capacity, slice_index};
+ghost use Rattle.std.specs.Prelude.{◌≡◌, ℕ, ◌+◌, ◌<◌, ◌≤◌, ◌↔◌, ◌&&◌, is_none, [], true, false, List, IsSome, IfOk, IfSome, IfNone, MatchOption, Some, length, take, vec_len, vec_capacity, slice_index};
 ghost use Rattle.ere_tree.specs.Derivation.{is_line_start};
 ghost use Rattle.ere_tree.specs.Shape.{has_refs};
 ghost use Rattle.ere_tree.specs.Tree.{Tree};
 ghost use Rattle.ere_tree.specs.View.{view};
-ghost use Rattle.ere_auto.specs.RowTable.{row_in, threads_of, slot_or_zero};
-ghost use Rattle.ere_auto.specs.RowTableView.{row_table_of};
+ghost use Rattle.ere_auto.specs.RowTable.{slot_or_zero};
 ghost use Rattle.ere_auto.specs.Closure.{origin_in};
-ghost use Rattle.ere_auto.specs.Step.{IsStep};
-ghost use Rattle.ere_table.specs.Node.{node_at};
 ghost use Rattle.ere_auto.specs.Span.{IsSpan};
-ghost use Rattle.ere_auto.specs.Seen.{IsFor, HasSeen, HasFound, GoesTo, Turns, EndsIn, Waits, Fresh, starts_behind, best_behind};
+ghost use Rattle.ere_auto.specs.Seen.{IsFor, HasSeen, HasFound, SeesNext, HasSettled, HasEnded, StepsTo, EndsIn, Waits, Fresh, starts_behind, best_behind};
 
 use crate::marks::Marks;
 use crate::rows::Rows;
-use crate::step::{Note, step};
+use crate::step::{Around, Note, step};
 use crate::steps::Steps;
 use crate::thread::{Thread, add_threads};
 use crate::threads::Threads;
 use ere_table::Table;
 use ere_tree::{Cap, Ere};
-use std::alloc::Global;
+use std::alloc::{AllocError, Global};
 use std::sync::ledger::Ledger;
 use tt_base::NoMemory;
 
@@ -85,7 +82,7 @@ fn load(seeds: &mut Vec<Thread>, threads: &[Thread])
 }
 
 impl Auto {
-    ghost use Rattle.ere_auto.specs.State.{state_of};
+    ghost use Rattle.ere_auto.specs.State.{state_of, TurnsBy, GoesBy};
 
     /// The automaton of an expression. What it needs to search is taken here; for what it learns it takes more where there
     /// is some.
@@ -94,28 +91,26 @@ impl Auto {
         ensures fresh { IfOk result (λ made. HasSeen (state_of made) (view ere.now) []) }
         ensures begin { IfOk result (λ made. made.begin ≡ 0) }
     {
-        let Ok(table) = Table::build(alloc, ere) else {
-            return Err(NoMemory);
-        };
+        match Auto::new(alloc, ere) {
+            Ok(made) => Ok(made),
+            Err(_) => Err(NoMemory),
+        }
+    }
+
+    /// What `build` makes.
+    fn new(alloc: Global, ere: &Ere) -> Result<Auto, AllocError>
+        requires { has_refs (view ere.now) ≡ false }
+        ensures fresh { IfOk result (λ made. HasSeen (state_of made) (view ere.now) []) }
+        ensures begin { IfOk result (λ made. made.begin ≡ 0) }
+    {
+        let table = Table::build(alloc, ere)?;
         let nodes = table.nodes.len();
-        let Ok(rows) = Rows::new(alloc, nodes) else {
-            return Err(NoMemory);
-        };
-        let Ok(seeds) = Vec::with_capacity(alloc, nodes + 1) else {
-            return Err(NoMemory);
-        };
-        let Ok(reached) = Threads::new(alloc, nodes) else {
-            return Err(NoMemory);
-        };
-        let Ok(moved) = Threads::new(alloc, nodes) else {
-            return Err(NoMemory);
-        };
-        let Ok(slots) = Marks::new(alloc, nodes + 1) else {
-            return Err(NoMemory);
-        };
-        let Ok(starts) = vec![in alloc; 0usize; nodes + 1] else {
-            return Err(NoMemory);
-        };
+        let rows = Rows::new(alloc, nodes)?;
+        let seeds = Vec::with_capacity(alloc, nodes + 1)?;
+        let reached = Threads::new(alloc, nodes)?;
+        let moved = Threads::new(alloc, nodes)?;
+        let slots = Marks::new(alloc, nodes + 1)?;
+        let starts = vec![in alloc; 0usize; nodes + 1]?;
         Ok(Auto {
             table,
             rows,
@@ -197,10 +192,7 @@ impl Auto {
     /// The step from the threads of the row. `moved` gets those behind it.
     #[inline(always)]
     fn step(&mut self, next: Option<u8>) -> Note
-        ensures step { IsStep (node_at self.old.table.nodes.items) self.old.table.entry
-            (threads_of (row_table_of self.old.rows) self.old.row) self.new.moved.held.items
-            (row_in self.old.rows.rows.items self.old.row).line
-            (row_in self.old.rows.rows.items self.old.row).searching next result.begun result.met }
+        ensures step { StepsTo (state_of self.old) self.new.moved.held.items next result.begun result.met }
         ensures begun { slot_or_zero result.begun ≤ vec_len self.old.table.nodes }
         ensures met { slot_or_zero result.met ≤ vec_len self.old.table.nodes }
         ensures origins { (x : ℕ) → x < length self.new.moved.held.items →
@@ -214,23 +206,25 @@ impl Auto {
     {
         load(&mut self.seeds, self.rows.threads(self.row));
         let row = self.rows.row(self.row);
+        let around = Around {
+            line: row.line,
+            searching: row.searching,
+            next,
+        };
         step(
             &self.table,
             &mut self.seeds,
             &mut self.slots,
             &mut self.reached,
             &mut self.moved,
-            row.line,
-            row.searching,
-            next,
+            around,
         )
     }
 
     /// Goes from the row to the one behind a byte, by a step where that isn't known.
     #[inline(always)]
     fn turn(&mut self, byte: u8)
-        ensures turns { (t : Tree) → IsFor (state_of self.old) t → Turns (state_of self.old) (state_of self.new) byte
-            (row_in self.new.rows.rows.items self.new.row).begun (row_in self.new.rows.rows.items self.new.row).met }
+        ensures turns { TurnsBy self.old self.new byte }
         ensures table { self.new.table ≡ self.old.table }
         ensures starts { self.new.starts ≡ self.old.starts }
         ensures best { self.new.best ≡ self.old.best }
@@ -247,8 +241,7 @@ impl Auto {
     /// Makes the step from the row by a byte, and keeps it.
     #[inline(never)]
     fn miss(&mut self, byte: u8)
-        ensures turns { (t : Tree) → IsFor (state_of self.old) t → Turns (state_of self.old) (state_of self.new) byte
-            (row_in self.new.rows.rows.items self.new.row).begun (row_in self.new.rows.rows.items self.new.row).met }
+        ensures turns { TurnsBy self.old self.new byte }
         ensures table { self.new.table ≡ self.old.table }
         ensures starts { self.new.starts ≡ self.old.starts }
         ensures best { self.new.best ≡ self.old.best }
@@ -257,13 +250,9 @@ impl Auto {
         let row = self.rows.row(self.row);
         let note = self.step(Some(byte));
         let searching = seeks(row.searching, note.met);
-        let entered = self.rows.enter(
-            self.moved.held.as_slice(),
-            byte == b'\n',
-            searching,
-            note.begun,
-            note.met,
-        );
+        let entered = self
+            .rows
+            .enter(self.moved.held.as_slice(), byte == b'\n', searching, note);
         self.rows.learn(self.row, byte, entered);
         self.row = entered.row;
     }
@@ -282,10 +271,8 @@ impl Auto {
     #[inline(always)]
     fn show(&mut self, byte: u8) -> bool
         requires { self.old.at < usize.MAX }
-        ensures seen { (t : Tree) (front : List ℕ) → HasSeen (state_of self.old) t front →
-            HasSeen (state_of self.new) t (front ++ byte ∷ []) }
-        ensures known { result ≡ false → (t : Tree) (front rest : List ℕ) → HasSeen (state_of self.old) t front →
-            HasFound (state_of self.new) t (front ++ byte ∷ rest) × IsSome self.new.best }
+        ensures seen { SeesNext (state_of self.old) (state_of self.new) byte }
+        ensures known { result ≡ false → HasSettled (state_of self.old) (state_of self.new) byte }
         ensures begin { self.new.begin ≡ self.old.begin }
         ensures shown { self.new.at ≡ self.old.at + 1 }
     {
@@ -301,8 +288,7 @@ impl Auto {
     #[inline(always)]
     fn go(&mut self, byte: u8)
         requires { self.old.at < usize.MAX }
-        ensures goes { (t : Tree) → IsFor (state_of self.old) t → GoesTo (state_of self.old) (state_of self.new) byte
-            (row_in self.new.rows.rows.items self.new.row).begun (row_in self.new.rows.rows.items self.new.row).met }
+        ensures goes { GoesBy self.old self.new byte }
         ensures begin { self.new.begin ≡ self.old.begin }
         ensures shown { self.new.at ≡ self.old.at + 1 }
     {
@@ -325,8 +311,7 @@ impl Auto {
 
     /// Shows the slice's end.
     fn finish(&mut self)
-        ensures ended { (t : Tree) (front : List ℕ) → HasSeen (state_of self.old) t front →
-            HasFound (state_of self.new) t front }
+        ensures ended { HasEnded (state_of self.old) (state_of self.new) }
         ensures begin { self.new.begin ≡ self.old.begin }
         ensures shown { self.new.at ≡ self.old.at }
     {
@@ -340,13 +325,9 @@ impl Auto {
     pub fn advance<L: Ledger>(&mut self, next: Option<u8>, steps: &mut Steps<L>) -> bool
         requires { IsSome next → self.old.at < usize.MAX }
         ensures counted { steps.new ≡ steps.old + 1 }
-        ensures seen { IfSome next (λ byte. (t : Tree) (front : List ℕ) → HasSeen (state_of self.old) t front →
-            HasSeen (state_of self.new) t (front ++ byte ∷ [])) }
-        ensures known { IfSome next (λ byte. result ≡ false → (t : Tree) (front rest : List ℕ) →
-            HasSeen (state_of self.old) t front →
-            HasFound (state_of self.new) t (front ++ byte ∷ rest) × IsSome self.new.best) }
-        ensures ended { IfNone next ((result ≡ false) × ((t : Tree) (front : List ℕ) →
-            HasSeen (state_of self.old) t front → HasFound (state_of self.new) t front)) }
+        ensures seen { IfSome next (SeesNext (state_of self.old) (state_of self.new)) }
+        ensures known { IfSome next (λ byte. result ≡ false → HasSettled (state_of self.old) (state_of self.new) byte) }
+        ensures ended { IfNone next ((result ≡ false) × HasEnded (state_of self.old) (state_of self.new)) }
         ensures begin { self.new.begin ≡ self.old.begin }
         ensures shown { MatchOption next (self.new.at ≡ self.old.at) (λ _. self.new.at ≡ self.old.at + 1) }
     {

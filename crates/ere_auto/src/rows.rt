@@ -5,6 +5,7 @@ ghost use Rattle.ere_auto.specs.Closure.{node_in, origin_in};
 ghost use Rattle.ere_auto.specs.RowTable.{row_in, threads_in, threads_of, cell_of, AreSteps, Keeps, IsRow, Leads, slot_or_zero};
 
 use crate::row::Row;
+use crate::step::Note;
 use crate::thread::{Thread, add_threads};
 use std::alloc::{AllocError, Global};
 
@@ -174,10 +175,9 @@ impl Rows {
         threads: &[Thread],
         line: bool,
         searching: bool,
-        begun: Option<usize>,
-        met: Option<usize>,
+        note: Note,
     ) -> Option<usize>
-        ensures { IfSome result (λ row. IsRow (row_table_of self.now) row threads.now line searching begun met) }
+        ensures { IfSome result (λ row. IsRow (row_table_of self.now) row threads.now line searching note.begun note.met) }
     {
         let known = row_in_slot(&self.index, slot);
         if known >= self.rows.len() {
@@ -186,8 +186,8 @@ impl Rows {
         let row = self.rows[known];
         let same = row.line == line && row.searching == searching;
         if same
-            && row.begun == begun
-            && row.met == met
+            && row.begun == note.begun
+            && row.met == note.met
             && same_threads(self.threads(known), threads)
         {
             Some(known)
@@ -198,26 +198,19 @@ impl Rows {
 
     /// The row that the index has for these threads. Those that no slot has are kept in the first free one, or else in the
     /// first. While rows are few, none is looked for: most searches are short, and making a row anew is as fast.
-    fn look(
-        &self,
-        threads: &[Thread],
-        line: bool,
-        searching: bool,
-        begun: Option<usize>,
-        met: Option<usize>,
-    ) -> Looked
-        ensures { IfSome result.row (λ row. IsRow (row_table_of self.now) row threads.now line searching begun met) }
+    fn look(&self, threads: &[Thread], line: bool, searching: bool, note: Note) -> Looked
+        ensures { IfSome result.row (λ row. IsRow (row_table_of self.now) row threads.now line searching note.begun note.met) }
     {
         if self.rows.len() < FEW_ROWS {
             return Looked { row: None, slot: 0 };
         }
-        let first = slot_of(threads, line, searching, met);
+        let first = slot_of(threads, line, searching, note.met);
         for step in 0..TRIES {
             let slot = (first + step) % SLOTS;
             if row_in_slot(&self.index, slot) == 0 {
                 return Looked { row: None, slot };
             }
-            if let Some(row) = self.find(slot, threads, line, searching, begun, met) {
+            if let Some(row) = self.find(slot, threads, line, searching, note) {
                 return Looked {
                     row: Some(row),
                     slot,
@@ -279,23 +272,16 @@ impl Rows {
     }
 
     /// Adds a row, for which there is room.
-    fn push_row(
-        &mut self,
-        threads: &[Thread],
-        line: bool,
-        searching: bool,
-        begun: Option<usize>,
-        met: Option<usize>,
-    ) -> usize
+    fn push_row(&mut self, threads: &[Thread], line: bool, searching: bool, note: Note) -> usize
         requires few { vec_len self.old.rows < 192 }
         requires room { vec_len self.old.pool + length threads.now ≤ self.old.room }
         requires has { HasRoom self.old (length threads.now) }
         requires narrow { length threads.now ≤ self.old.nodes }
-        requires begun { slot_or_zero begun ≤ self.old.nodes }
-        requires met { slot_or_zero met ≤ self.old.nodes }
+        requires begun { slot_or_zero note.begun ≤ self.old.nodes }
+        requires met { slot_or_zero note.met ≤ self.old.nodes }
         requires origins { (x : ℕ) → x < length threads.now → origin_in threads.now x ≤ self.old.nodes }
         requires within { (x : ℕ) → x < length threads.now → node_in threads.now x < self.old.nodes }
-        ensures row { IsRow (row_table_of self.new) result threads.now line searching begun met }
+        ensures row { IsRow (row_table_of self.new) result threads.now line searching note.begun note.met }
         ensures keeps { Keeps (row_table_of self.old) (row_table_of self.new) }
         ensures steps { (T : ℕ → Node) (e : ℕ) → AreSteps T e (row_table_of self.old) → AreSteps T e (row_table_of self.new) }
         ensures nodes { self.new.nodes ≡ self.old.nodes }
@@ -312,28 +298,21 @@ impl Rows {
             line,
             searching,
             over,
-            begun,
-            met,
+            begun: note.begun,
+            met: note.met,
         });
         add_cells(&mut self.cells);
         place
     }
 
     /// The place of a row, which is added where it isn't there.
-    pub fn enter(
-        &mut self,
-        threads: &[Thread],
-        line: bool,
-        searching: bool,
-        begun: Option<usize>,
-        met: Option<usize>,
-    ) -> Entered
+    pub fn enter(&mut self, threads: &[Thread], line: bool, searching: bool, note: Note) -> Entered
         requires narrow { length threads.now ≤ self.old.nodes }
-        requires begun { slot_or_zero begun ≤ self.old.nodes }
-        requires met { slot_or_zero met ≤ self.old.nodes }
+        requires begun { slot_or_zero note.begun ≤ self.old.nodes }
+        requires met { slot_or_zero note.met ≤ self.old.nodes }
         requires origins { (x : ℕ) → x < length threads.now → origin_in threads.now x ≤ self.old.nodes }
         requires within { (x : ℕ) → x < length threads.now → node_in threads.now x < self.old.nodes }
-        ensures row { IsRow (row_table_of self.new) result.row threads.now line searching begun met }
+        ensures row { IsRow (row_table_of self.new) result.row threads.now line searching note.begun note.met }
         ensures kept { result.kept ≡ true → Keeps (row_table_of self.old) (row_table_of self.new) }
         ensures steps { (T : ℕ → Node) (e : ℕ) → AreSteps T e (row_table_of self.old) → AreSteps T e (row_table_of self.new) }
         ensures nodes { self.new.nodes ≡ self.old.nodes }
@@ -341,12 +320,12 @@ impl Rows {
         if self.rows.len() >= FEW_ROWS {
             open_index(&mut self.index);
         }
-        let looked = self.look(threads, line, searching, begun, met);
+        let looked = self.look(threads, line, searching, note);
         if let Some(row) = looked.row {
             return Entered { row, kept: true };
         }
         let kept = self.make_room(threads.len());
-        let row = self.push_row(threads, line, searching, begun, met);
+        let row = self.push_row(threads, line, searching, note);
         put_in_slot(&mut self.index, looked.slot, row);
         Entered { row, kept }
     }

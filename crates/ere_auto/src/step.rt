@@ -19,6 +19,17 @@ pub struct Note {
     pub met: Option<usize>,
 }
 
+/// What stands around the place of a step.
+#[derive(Clone, Copy)]
+pub struct Around {
+    /// Whether a line starts there.
+    pub line: bool,
+    /// Whether no match is known.
+    pub searching: bool,
+    /// The next byte. None at the slice's end.
+    pub next: Option<u8>,
+}
+
 /// Whether a line ends before the next byte.
 fn ends_line(next: Option<u8>) -> bool
     ensures { result ≡ ends_line next }
@@ -68,9 +79,7 @@ pub fn step(
     slots: &mut Marks,
     reached: &mut Threads,
     moved: &mut Threads,
-    starts: bool,
-    searching: bool,
-    next: Option<u8>,
+    around: Around,
 ) -> Note
     requires few { vec_len threads.old ≤ vec_len table.now.nodes }
     requires capacity { vec_len table.now.nodes < vec_capacity threads.old }
@@ -81,7 +90,7 @@ pub fn step(
     requires nodes { (x : ℕ) → x < length threads.old.items →
         node_in threads.old.items x < vec_len table.now.nodes }
     ensures step { IsStep (node_at table.now.nodes.items) table.now.entry threads.old.items
-        moved.new.held.items starts searching next result.begun result.met }
+        moved.new.held.items around.line around.searching around.next result.begun result.met }
     ensures begun { (slot : ℕ) → result.begun ≡ Some slot → slot < length slots.old }
     ensures met { (slot : ℕ) → result.met ≡ Some slot → slot < length slots.old }
     ensures within { (x : ℕ) → x < length moved.new.held.items →
@@ -91,16 +100,12 @@ pub fn step(
     ensures room { length slots.new ≡ length slots.old }
     ensures capacity { vec_capacity threads.new ≡ vec_capacity threads.old }
 {
-    let begun = seed(table.entry, threads, slots, searching);
-    let ends = ends_line(next);
-    close(table, threads.as_slice(), starts, ends, reached);
-    let moves = go_on(
-        table,
-        threads.as_slice(),
-        reached.held.as_slice(),
-        next,
-        moved,
-    );
+    let begun = seed(table.entry, threads, slots, around.searching);
+    let ends = ends_line(around.next);
+    close(table, threads.as_slice(), around.line, ends, reached);
+    let seeds = threads.as_slice();
+    let opened = reached.held.as_slice();
+    let moves = go_on(table, seeds, opened, around.next, moved);
     Note {
         begun,
         met: moves.met,

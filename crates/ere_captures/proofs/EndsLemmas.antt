@@ -14,7 +14,7 @@ use Rattle.ere_places.specs.Places.{SpanAll}
 use Rattle.ere_places.specs.Seen.{is_held}
 use Rattle.ere_places.specs.declared.seen.Seen.{Seen}
 use Rattle.ere_places.proofs.SpanLemmas.{all_part, spans_cat, spans_part}
-use Rattle.ere_captures.specs.Walk.{AreRests, IsPartEnd, LeadOn}
+use Rattle.ere_captures.specs.Walk.{AreRests, IsGreatestEnd, IsPartEnd, LeadOn}
 
 pub last_end : (s : List ℕ) (t : Tree) (others : List Ere) (i j : ℕ) → length others ≡ 0
     → SpanAll s (t ∷ map view others) i j → IsPartEnd s t (map view others) i j j
@@ -56,10 +56,7 @@ in_set s t ts low i j seen lead order (k, first, rest) =
 
 -- what is greatest in the others' set is the greatest from which they lead on
 pub greatest_is_end : (s : List ℕ) (t : Tree) (ts : List Tree) (low i j : ℕ) (seen : Seen) → LeadOn s ts low j seen
-    → low ≤ i → (m : ℕ)
-    → Spans s t i m × (m ≤ j) × IsTrue (is_held seen m)
-    × ((k : ℕ) → Spans s t i k → k ≤ j → IsTrue (is_held seen k) → k ≤ m)
-    → IsPartEnd s t ts i j m
+    → low ≤ i → (m : ℕ) → IsGreatestEnd s t seen i j m → IsPartEnd s t ts i j m
 greatest_is_end s t ts low i j seen lead order m h = (
   h.0,
   ((lead m).0 h.2).0,

@@ -13,6 +13,7 @@ use Rattle.ere_tree.specs.View.{view}
 use Rattle.ere_tree.specs.declared.ere.Ere.{Ere}
 use Rattle.ere_tree.specs.declared.hit.Cap.{Cap}
 use Rattle.ere_captures.specs.Best.{IsBest}
+use Rattle.ere_captures.specs.declared.input.Input.{Input}
 
 -- from captures that a list holds, the list gets those behind a best way over [i, j)
 abbrev pub SetsBest : List ℕ → Tree → ℕ → ℕ → ℕ → ℕ → List (Option Cap) → List (Option Cap) → Type 0
@@ -35,6 +36,10 @@ AreRests s parts i j all =
     (m : ℕ) (one : Seen) → m ≤ length parts → m < vec_len all → one ≡ slice_index_or all.items m one
     → LeadOn s (drop (length parts - m) (map view parts)) i j one
 
+-- they tell it of the places of the input, and of its end
+abbrev pub AreRestsIn : Input → List Ere → Vec Seen Global → Type 0
+AreRestsIn input parts all = AreRests input.text.now parts input.from input.to all
+
 -- of the tree's ends from i, the greatest from which the others lead to j
 abbrev pub IsPartEnd : List ℕ → Tree → List Tree → ℕ → ℕ → ℕ → Type 0
 IsPartEnd s t others i j m =
@@ -46,6 +51,12 @@ IsGreatest test places None = (q : ℕ) → Contains places q → IsTrue (test q
 IsGreatest test places (Some m) =
     Contains places m × IsTrue (test m) × ((q : ℕ) → Contains places q → IsTrue (test q) → q ≤ m)
 
+-- of the tree's ends from i up to j, the greatest that is in the set
+abbrev pub IsGreatestEnd : List ℕ → Tree → Seen → ℕ → ℕ → ℕ → Type 0
+IsGreatestEnd s t seen i j m =
+    Spans s t i m × (m ≤ j) × IsTrue (is_held seen m)
+    × ((k : ℕ) → Spans s t i k → k ≤ j → IsTrue (is_held seen k) → k ≤ m)
+
 -- the greater of two places, of which the first may be missing
 abbrev pub greater : Option ℕ → ℕ → ℕ
 greater None place = place
@@ -54,3 +65,7 @@ greater (Some other) place = max other place
 -- the set has the places of [i, j] from which so many members lead to j
 abbrev pub RestOf : List ℕ → Tree → ℕ → Option ℕ → ℕ → ℕ → Seen → Type 0
 RestOf s t least most i j seen = (q : ℕ) → IsTrue (is_held seen q) ↔ (Spans s (repeat t least most) q j × (i ≤ q))
+
+-- the set has the places of the input from which so many members lead to its end
+abbrev pub RestIn : Input → Tree → ℕ → Option ℕ → Seen → Type 0
+RestIn input t least most seen = RestOf input.text.now t least most input.from input.to seen

@@ -4,6 +4,7 @@
 #![tactic(auto)]
 
 mod ends;
+mod input;
 mod members;
 mod parts;
 mod rest;

@@ -1,9 +1,10 @@
 //! From which places the members of a repeat lead on to its end.
 ghost use Rattle.std.specs.Prelude.{◌≡◌, ◌-◌, ◌≤◌, false, length, IfOk};
-ghost use Rattle.ere_captures.specs.Walk.{less_one, RestOf};
+ghost use Rattle.ere_captures.specs.Walk.{less_one, RestIn};
 ghost use Rattle.ere_tree.specs.Shape.{has_refs};
 ghost use Rattle.ere_tree.specs.View.{view};
 
+use crate::input::Input;
 use ere_places::{Direction, Seen, Window, image_of_repeat};
 use ere_tree::Ere;
 use std::alloc::{AllocError, Global};
@@ -18,27 +19,26 @@ pub(crate) fn less_one(most: Option<u32>) -> Option<u32>
     }
 }
 
-/// The places of [from, to] from which so many members lead to its end.
+/// The places from which so many members lead to the end of the input.
 pub(crate) fn rest(
     alloc: Global,
     inner: &Ere,
     least: u32,
     most: Option<u32>,
-    text: &[u8],
-    from: usize,
-    to: usize,
+    input: &Input<'_>,
 ) -> Result<Seen, AllocError>
     requires no_refs { has_refs (view inner.now) ≡ false }
-    requires order { from ≤ to }
-    requires within { to ≤ length text.now }
-    ensures { IfOk result (RestOf text.now (view inner.now) least most from to) }
+    requires order { input.now.from ≤ input.now.to }
+    requires within { input.now.to ≤ length input.now.text.now }
+    ensures { IfOk result (RestIn input.now (view inner.now) least most) }
 {
+    let to = input.to;
     let window = Window {
-        low: from,
+        low: input.from,
         high: to,
         direction: Direction::Back,
     };
-    let places = image_of_repeat(alloc, inner, least, most, text, window, &[to])?;
+    let places = image_of_repeat(alloc, inner, least, most, input.text, window, &[to])?;
     Seen::of(alloc, Direction::Back, to, places.as_slice())
 }
 
@@ -48,28 +48,18 @@ pub(crate) fn rest_behind(
     inner: &Ere,
     least: u32,
     most: Option<u32>,
-    text: &[u8],
-    from: usize,
-    to: usize,
+    input: &Input<'_>,
     set: Seen,
 ) -> Result<Seen, AllocError>
     requires no_refs { has_refs (view inner.now) ≡ false }
-    requires order { from ≤ to }
-    requires within { to ≤ length text.now }
-    requires held { RestOf text.now (view inner.now) (least - 1) (less_one most) from to set }
-    ensures { IfOk result (RestOf text.now (view inner.now) (least - 1 - 1) (less_one (less_one most)) from to) }
+    requires order { input.now.from ≤ input.now.to }
+    requires within { input.now.to ≤ length input.now.text.now }
+    requires held { RestIn input.now (view inner.now) (least - 1) (less_one most) set }
+    ensures { IfOk result (RestIn input.now (view inner.now) (least - 1 - 1) (less_one (less_one most))) }
 {
     if least == 0 && most.is_none() {
         return Ok(set);
     }
     let fewer = least.saturating_sub(1).saturating_sub(1);
-    rest(
-        alloc,
-        inner,
-        fewer,
-        less_one(less_one(most)),
-        text,
-        from,
-        to,
-    )
+    rest(alloc, inner, fewer, less_one(less_one(most)), input)
 }

@@ -12,6 +12,7 @@ ghost use Rattle.ere_tree.specs.Tree.{trees_of};
 ghost use Rattle.ere_tree.specs.View.{view};
 
 use crate::ends::part_end;
+use crate::input::Input;
 use crate::members::{less_one, rest, rest_behind};
 use crate::rest::{greatest_end, spans};
 use ere_places::Seen;
@@ -58,13 +59,16 @@ fn walk_parts(
     ensures { OnOk result (SetsBest text.now (trees.cat (trees_of (map view parts.now))) part.start part.from part.to
         (length caps.old) caps.old caps.new) }
 {
+    let input = Input {
+        text,
+        from: part.from,
+        to: part.to,
+    };
     let mut held: Vec<Seen> = Vec::new(alloc);
     let mut from = part.from;
     let mut rest = parts;
     while let Some((one, others)) = rest.split_first() {
-        let to = part_end(
-            alloc, one, others, text, part.from, from, part.to, &mut held,
-        )?;
+        let to = part_end(alloc, one, others, &input, from, &mut held)?;
         walk(alloc, one, text, Part { from, to, ..part }, caps)?;
         from = to;
         rest = others;
@@ -118,20 +122,17 @@ fn walk_members(
     let mut least = least;
     let mut most = most;
     let fewer = least.saturating_sub(1);
-    let mut set = rest(
-        alloc,
-        inner,
-        fewer,
-        less_one(most),
+    let input = Input {
         text,
-        part.from,
-        part.to,
-    )?;
+        from: part.from,
+        to: part.to,
+    };
+    let mut set = rest(alloc, inner, fewer, less_one(most), &input)?;
     while least > 0 || from < part.to {
         let to = greatest_end(alloc, inner, text, from, part.to, &set)?;
         walk(alloc, inner, text, Part { from, to, ..part }, caps)?;
         from = to;
-        set = rest_behind(alloc, inner, least, most, text, part.from, part.to, set)?;
+        set = rest_behind(alloc, inner, least, most, &input, set)?;
         least = least.saturating_sub(1);
         most = less_one(most);
     }

@@ -10,6 +10,7 @@ use Rattle.ere_tree.specs.Captures.{Captures}
 use Rattle.ere_tree.specs.Case.{is_among}
 use Rattle.ere_tree.specs.Derivation.{Way, Ways, leaf, parts, members, chosen, inside, part, is_line_start, is_line_end}
 use Rattle.ere_slow.specs.declared.slow.Derivation.{Derivation}
+use Rattle.ere_slow.specs.declared.slow.Origin.{Origin}
 use Rattle.ere_slow.specs.declared.slow.Row.{Row}
 use Rattle.ere_slow.specs.WayView.{ways_of, way_of, row_of, captures_of}
 
@@ -125,3 +126,22 @@ abbrev mutual
   pub alternatives : List ℕ → Trees → ℕ → ℕ → Captures → List Found
   alternatives s none n i c = []
   alternatives s (then t ts) n i c = map (found_chosen n) (all_ways s t i c) ++ alternatives s ts (n + 1) i c
+
+-- FROM AN ORIGIN OF THE PROGRAM
+
+-- the derivations of a tree
+abbrev pub all_at : Origin → Tree → List Found
+all_at o t = all_ways o.text.now t o.from (captures_of o.captures.now)
+
+-- that of a text
+abbrev pub text_at : Origin → Bool → List ℕ → List Found
+text_at o fold text = text_ways fold o.text.now o.from text (captures_of o.captures.now)
+
+-- the row of no derivation
+abbrev pub begin_at : Origin → List Begun
+begin_at o = begin o.text.now o.from (captures_of o.captures.now)
+
+-- the rows of at least so many members of a tree, and up to so many more that aren't empty
+abbrev pub members_at : Origin → Tree → ℕ → ℕ → List Begun
+members_at o t least more =
+    at_most (all_ways o.text.now t) more (required (all_ways o.text.now t) least (begin_at o))

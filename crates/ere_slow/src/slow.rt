@@ -1,9 +1,10 @@
 //! The derivations of an expression, listed one by one: the definitions as a plain, slow program, for small
 //! texts.
-ghost use Rattle.std.specs.Prelude.{◌≡◌, ℕ, ◌-◌, ◌==◌, ◌++◌, ◌+◌, ◌<◌, ◌^◌, ◌↔◌, List, [], ◌∷◌, length, drop, MatchOption, IsTrue, IfOk, OnOk, map, slice_index};
+ghost use Rattle.std.specs.Prelude.{◌≡◌, ℕ, ◌==◌, ◌++◌, ◌+◌, ◌<◌, ◌^◌, ◌↔◌, List, [], ◌∷◌, length, drop, MatchOption, IsTrue, IfOk, OnOk, map, slice_index};
 ghost use Rattle.ere_tree.specs.Derivation.{part, parts, members};
-ghost use Rattle.ere_slow.specs.Listing.{found_of, begun_of, one_if, stands, is_one_of, further, each_behind, begin, required, at_most, found_of_row, found_chosen, found_inside, repeat_ways, all_ways, all_rows, alternatives};
+ghost use Rattle.ere_slow.specs.Listing.{found_of, begun_of, one_if, stands, is_one_of, further, each_behind, found_of_row, found_chosen, found_inside, all_ways, all_rows, all_at, text_at, begin_at, members_at};
 ghost use Rattle.ere_slow.specs.Listing as listing;
+ghost use Rattle.ere_tree.specs.Tree as trees;
 ghost use Rattle.ere_tree.specs.View.{view, trees_in, members_of};
 ghost use Rattle.std.specs.FinMap.{empty};
 ghost use Rattle.ere_tree.specs.Captures.{cap_of, caps_of};
@@ -25,6 +26,14 @@ pub struct Derivation {
     pub way: OwnedWay,
     pub to: usize,
     pub captures: Settings,
+}
+
+/// Where derivations begin: a place of a text, and the captures before it.
+#[derive(Drop)]
+struct Origin<'a> {
+    text: &'a [u8],
+    from: usize,
+    captures: &'a Settings,
 }
 
 /// The derivations of parts or members one behind the other, where the last ends, and the captures behind it.
@@ -74,17 +83,18 @@ pub(crate) fn is_in_set_at(set: &ByteSet, text: &[u8], at: usize) -> bool
 /// The one derivation with nothing to choose, if the test holds.
 fn leaf_if(
     alloc: Global,
+    origin: &Origin<'_>,
     test: bool,
     to: usize,
-    captures: &Settings,
     limit: &mut Limit,
 ) -> Result<Vec<Derivation>, AllocError>
-    ensures { IfOk result (λ found. map found_of found.items ≡ one_if test to (captures_of captures.now)) }
+    ensures { IfOk result (λ found. map found_of found.items
+        ≡ one_if test to (captures_of origin.now.captures.now)) }
 {
     let mut found = Vec::new(alloc);
     if test {
-        limit.take(captures.steps())?;
-        let captures = captures.copy(alloc)?;
+        limit.take(origin.captures.steps())?;
+        let captures = origin.captures.copy(alloc)?;
         found.push(Derivation {
             way: OwnedWay::Leaf,
             to,
@@ -97,18 +107,32 @@ fn leaf_if(
 /// The derivation of bytes, wherever they stand.
 fn text_ways(
     alloc: Global,
-    text: &[u8],
-    from: usize,
+    origin: &Origin<'_>,
     bytes: &[u8],
     fold: bool,
-    captures: &Settings,
     limit: &mut Limit,
 ) -> Result<Vec<Derivation>, AllocError>
-    ensures { IfOk result (λ found. map found_of found.items ≡
-        listing.text_ways fold text.now from bytes.now (captures_of captures.now)) }
+    ensures { IfOk result (λ found. map found_of found.items ≡ text_at origin.now fold bytes.now) }
 {
-    if stands_at(text, from, bytes, fold) {
-        leaf_if(alloc, true, from + bytes.len(), captures, limit)
+    if stands_at(origin.text, origin.from, bytes, fold) {
+        leaf_if(alloc, origin, true, origin.from + bytes.len(), limit)
+    } else {
+        Ok(Vec::new(alloc))
+    }
+}
+
+/// The derivation of a byte of a set, wherever it stands.
+fn set_ways(
+    alloc: Global,
+    origin: &Origin<'_>,
+    set: &ByteSet,
+    limit: &mut Limit,
+) -> Result<Vec<Derivation>, AllocError>
+    ensures { IfOk result (λ found. map found_of found.items
+        ≡ all_at origin.now (trees.set (members_of set.now.bits))) }
+{
+    if is_in_set_at(set, origin.text, origin.from) {
+        leaf_if(alloc, origin, true, origin.from + 1, limit)
     } else {
         Ok(Vec::new(alloc))
     }
@@ -161,35 +185,33 @@ fn go_on(
 {
     let mut longer = Vec::new(alloc);
     for row in rows {
-        let found = ways_of(alloc, ere, text, row.to, &row.captures, limit)?;
+        let origin = Origin {
+            text,
+            from: row.to,
+            captures: &row.captures,
+        };
+        let found = ways_of(alloc, ere, &origin, limit)?;
         put_behind(alloc, row, found, may_be_empty, &mut longer, limit)?;
     }
     Ok(longer)
 }
 
 /// The row of no derivation, at a place of the text.
-fn start(
-    alloc: Global,
-    text: &[u8],
-    from: usize,
-    captures: &Settings,
-    limit: &mut Limit,
-) -> Result<Vec<Row>, AllocError>
-    ensures { IfOk result (λ rows. map begun_of rows.items ≡
-        begin text.now from (captures_of captures.now)) }
+fn start(alloc: Global, origin: &Origin<'_>, limit: &mut Limit) -> Result<Vec<Row>, AllocError>
+    ensures { IfOk result (λ rows. map begun_of rows.items ≡ begin_at origin.now) }
 {
     let mut rows = Vec::new(alloc);
-    if from > text.len() {
+    if origin.from > origin.text.len() {
         return Ok(rows);
     }
-    limit.take(captures.steps())?;
-    let captures = captures.copy(alloc)?;
+    limit.take(origin.captures.steps())?;
+    let captures = origin.captures.copy(alloc)?;
     let ways = OwnedWays {
         held: Vec::new(alloc),
     };
     rows.push(Row {
         ways,
-        to: from,
+        to: origin.from,
         captures,
     })?;
     Ok(rows)
@@ -200,17 +222,15 @@ fn start(
 fn rows_of_parts(
     alloc: Global,
     all: &EreList,
-    text: &[u8],
-    from: usize,
-    captures: &Settings,
+    origin: &Origin<'_>,
     limit: &mut Limit,
 ) -> Result<Vec<Row>, AllocError>
     ensures { IfOk result (λ rows. map begun_of rows.items ≡
-        all_rows text.now (trees_in all.now) (begin text.now from (captures_of captures.now))) }
+        all_rows origin.now.text.now (trees_in all.now) (begin_at origin.now)) }
 {
-    let mut rows = start(alloc, text, from, captures, limit)?;
+    let mut rows = start(alloc, origin, limit)?;
     for part in all.as_slice() {
-        rows = go_on(alloc, part, text, rows.as_slice(), true, limit)?;
+        rows = go_on(alloc, part, origin.text, rows.as_slice(), true, limit)?;
     }
     Ok(rows)
 }
@@ -220,27 +240,23 @@ fn rows_of_parts(
 fn rows_of_members(
     alloc: Global,
     inner: &Ere,
-    text: &[u8],
-    from: usize,
-    captures: &Settings,
+    origin: &Origin<'_>,
     least: u32,
     more: usize,
     limit: &mut Limit,
 ) -> Result<Vec<Row>, AllocError>
-    ensures { IfOk result (λ rows. map begun_of rows.items ≡
-        at_most (all_ways text.now (view inner.now)) more
-        (required (all_ways text.now (view inner.now)) least (begin text.now from (captures_of captures.now)))) }
+    ensures { IfOk result (λ rows. map begun_of rows.items ≡ members_at origin.now (view inner.now) least more) }
 {
-    let mut rows = start(alloc, text, from, captures, limit)?;
+    let mut rows = start(alloc, origin, limit)?;
     for _ in 0..least {
-        rows = go_on(alloc, inner, text, rows.as_slice(), true, limit)?;
+        rows = go_on(alloc, inner, origin.text, rows.as_slice(), true, limit)?;
     }
     let mut all = Vec::new(alloc);
     for _ in 0..more {
         if rows.is_empty() {
             return Ok(all);
         }
-        let longer = go_on(alloc, inner, text, rows.as_slice(), false, limit)?;
+        let longer = go_on(alloc, inner, origin.text, rows.as_slice(), false, limit)?;
         all.append(&mut rows)?;
         rows = longer;
     }
@@ -334,17 +350,14 @@ fn put_chosen(
 fn ways_of_alternatives(
     alloc: Global,
     all: &EreList,
-    text: &[u8],
-    from: usize,
-    captures: &Settings,
+    origin: &Origin<'_>,
     limit: &mut Limit,
 ) -> Result<Vec<Derivation>, AllocError>
-    ensures { IfOk result (λ found. map found_of found.items ≡
-        alternatives text.now (trees_in all.now) 0 from (captures_of captures.now)) }
+    ensures { IfOk result (λ found. map found_of found.items ≡ all_at origin.now (trees.alt (trees_in all.now))) }
 {
     let mut found = Vec::new(alloc);
     for (index, one) in all.as_slice().iter().enumerate() {
-        let held = ways_of(alloc, one, text, from, captures, limit)?;
+        let held = ways_of(alloc, one, origin, limit)?;
         put_chosen(alloc, index, held, &mut found, limit)?;
     }
     Ok(found)
@@ -369,20 +382,17 @@ fn ways_of_repeat(
     inner: &Ere,
     least: u32,
     most: Option<u32>,
-    text: &[u8],
-    from: usize,
-    captures: &Settings,
+    origin: &Origin<'_>,
     limit: &mut Limit,
 ) -> Result<Vec<Derivation>, AllocError>
-    ensures { IfOk result (λ found. map found_of found.items ≡
-        repeat_ways text.now (all_ways text.now (view inner.now)) least (further least most (length text.now - from))
-        from (captures_of captures.now)) }
+    ensures { IfOk result (λ found. map found_of found.items
+        ≡ all_at origin.now (trees.repeat (view inner.now) least most)) }
 {
-    match further_members(least, most, text.len().saturating_sub(from)) {
+    match further_members(least, most, origin.text.len().saturating_sub(origin.from)) {
         None => Ok(Vec::new(alloc)),
         Some(more) => found_members(
             alloc,
-            rows_of_members(alloc, inner, text, from, captures, least, more, limit)?,
+            rows_of_members(alloc, inner, origin, least, more, limit)?,
         ),
     }
 }
@@ -392,61 +402,37 @@ fn ways_of_repeat(
 fn ways_of(
     alloc: Global,
     ere: &Ere,
-    text: &[u8],
-    from: usize,
-    captures: &Settings,
+    origin: &Origin<'_>,
     limit: &mut Limit,
 ) -> Result<Vec<Derivation>, AllocError>
-    ensures { IfOk result (λ found. map found_of found.items ≡
-        all_ways text.now (view ere.now) from (captures_of captures.now)) }
+    ensures { IfOk result (λ found. map found_of found.items ≡ all_at origin.now (view ere.now)) }
 {
+    let text = origin.text;
+    let from = origin.from;
     match ere {
-        Ere::Empty => leaf_if(alloc, from <= text.len(), from, captures, limit),
-        Ere::Plain(run) => text_ways(alloc, text, from, run.as_slice(), false, captures, limit),
-        Ere::Set(set) => {
-            if is_in_set_at(set, text, from) {
-                leaf_if(alloc, true, from + 1, captures, limit)
-            } else {
-                Ok(Vec::new(alloc))
-            }
+        Ere::Empty => leaf_if(alloc, origin, from <= text.len(), from, limit),
+        Ere::Plain(run) => text_ways(alloc, origin, run.as_slice(), false, limit),
+        Ere::Set(set) => set_ways(alloc, origin, set, limit),
+        Ere::LineStart => {
+            let starts = from == 0 || is_newline_at(text, from - 1);
+            leaf_if(alloc, origin, starts, from, limit)
         }
-        Ere::LineStart => leaf_if(
-            alloc,
-            from == 0 || is_newline_at(text, from - 1),
-            from,
-            captures,
-            limit,
-        ),
-        Ere::LineEnd => leaf_if(
-            alloc,
-            from == text.len() || is_newline_at(text, from),
-            from,
-            captures,
-            limit,
-        ),
-        Ere::Cat(all) => found_parts(
-            alloc,
-            rows_of_parts(alloc, all, text, from, captures, limit)?,
-        ),
-        Ere::Alt(all) => ways_of_alternatives(alloc, all, text, from, captures, limit),
-        Ere::Repeat { inner, least, most } => ways_of_repeat(
-            alloc, inner, *least, *most, text, from, captures, limit,
-        ),
+        Ere::LineEnd => {
+            let ends = from == text.len() || is_newline_at(text, from);
+            leaf_if(alloc, origin, ends, from, limit)
+        }
+        Ere::Cat(all) => found_parts(alloc, rows_of_parts(alloc, all, origin, limit)?),
+        Ere::Alt(all) => ways_of_alternatives(alloc, all, origin, limit),
+        Ere::Repeat { inner, least, most } => {
+            ways_of_repeat(alloc, inner, *least, *most, origin, limit)
+        }
         Ere::Group { number, inner } => {
-            let held = ways_of(alloc, inner, text, from, captures, limit)?;
+            let held = ways_of(alloc, inner, origin, limit)?;
             found_in_group(alloc, held, *number, from, limit)
         }
-        Ere::Ref { number, fold } => match captures.get(*number) {
+        Ere::Ref { number, fold } => match origin.captures.get(*number) {
             None => Ok(Vec::new(alloc)),
-            Some((start, end)) => text_ways(
-                alloc,
-                text,
-                from,
-                part_of(text, start, end),
-                *fold,
-                captures,
-                limit,
-            ),
+            Some((start, end)) => text_ways(alloc, origin, part_of(text, start, end), *fold, limit),
         },
     }
 }
@@ -467,7 +453,12 @@ pub fn derivations(
     ensures order { IfOk result (λ found. map found_of found.items ≡ all_ways text.now (view ere.now) from empty) }
 {
     let unset = Settings::none(alloc);
-    ways_of(alloc, ere, text, from, &unset, limit)
+    let origin = Origin {
+        text,
+        from,
+        captures: &unset,
+    };
+    ways_of(alloc, ere, &origin, limit)
 }
 
 /// Whether the first derivation is preferred to the second.

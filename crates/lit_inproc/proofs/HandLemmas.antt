@@ -1,4 +1,6 @@
 -- Counts of a hand that is asked more than once, and what hands leave with other numbers of requests.
+-- A count over replies rises at one reply more as it does at that reply; hands and their counts grow at their ends together.
+-- The hard one is `recounted_behind`: there may be more hands than counts, and the last ones are recounted.
 use Rattle.std.proofs.Common.{◌≡◌, ◌≢◌, ◌∙◌, ◌+◌, ◌≤◌, ◌||◌, ℕ, suc, Bool, true, false, List, [], ◌∷◌, ◌++◌, ap, arith, refl, reverse, subst, sym, true≢false}
 use Rattle.std.proofs.lemmas.List.{reverse-append}
 use Rattle.std.proofs.lemmas.List.Folds.{list_any-append}

@@ -16,27 +16,27 @@ returns-clause-step c =
     let used = c.go_on-moves.result.used in
     let met = c.go_on-moves.result.met in
     let first = c.as_slice.ensures.value in
-    let second = c.as_slice-2.ensures.value in
-    let third = c.as_slice-3.ensures.value in
-    made_is_step T c.args.table.now.entry c.args.threads.now.items L c.args.starts c.args.searching c.args.next
-    c.seed-begun.result met (record {
+    let second = c.as_slice-seeds.ensures.value in
+    let third = c.as_slice-opened.ensures.value in
+    made_is_step T c.args.table.now.entry c.args.threads.now.items L c.args.around.line c.args.around.searching
+    c.args.around.next c.seed-begun.result met (record {
       seeds = S;
       reached = R;
       used = used;
       seeded = c.seed-begun.ensures.seeds;
       free = c.seed-begun.ensures.free;
       closed =
-          subst (λ x. Closed c.args.starts x T S R) c.ends_line-ends.ensures
-          (subst (λ x. Closed c.args.starts c.ends_line-ends.result T x R) first c.close.ensures.closed);
+          subst (λ x. Closed c.args.around.line x T S R) c.ends_line-ends.ensures
+          (subst (λ x. Closed c.args.around.line c.ends_line-ends.result T x R) first c.close.ensures.closed);
       moved =
-          subst (λ x. Moved T x R L c.args.next used) second
-          (subst (λ x. Moved T c.as_slice-2.result.now x L c.args.next used) third c.go_on-moves.ensures.moved);
+          subst (λ x. Moved T x R L c.args.around.next used) second
+          (subst (λ x. Moved T c.as_slice-seeds.result.now x L c.args.around.next used) third c.go_on-moves.ensures.moved);
       stopped =
           subst (λ x. MetFirst x R used met) second
-          (subst (λ x. MetFirst c.as_slice-2.result.now x used met) third c.go_on-moves.ensures.met);
+          (subst (λ x. MetFirst c.as_slice-seeds.result.now x used met) third c.go_on-moves.ensures.met);
       cut =
           subst (λ x. CutAt x R used met) second
-          (subst (λ x. CutAt c.as_slice-2.result.now x used met) third c.go_on-moves.ensures.cut);
+          (subst (λ x. CutAt c.as_slice-seeds.result.now x used met) third c.go_on-moves.ensures.cut);
     })
 
 pub returns-clause-within : goal.returns-clause-within
@@ -46,9 +46,9 @@ returns-clause-within c =
     let R : List Thread = c.close.new.reached.held.items in
     let L : List Thread = c.go_on-moves.new.moved.held.items in
     let used = c.go_on-moves.result.used in
-    moved_within T S R L c.args.next used (length c.args.slots.now)
-    (subst (λ x. Moved T x R L c.args.next used) c.as_slice-2.ensures.value
-    (subst (λ x. Moved T c.as_slice-2.result.now x L c.args.next used) c.as_slice-3.ensures.value
+    moved_within T S R L c.args.around.next used (length c.args.slots.now)
+    (subst (λ x. Moved T x R L c.args.around.next used) c.as_slice-seeds.ensures.value
+    (subst (λ x. Moved T c.as_slice-seeds.result.now x L c.args.around.next used) c.as_slice-opened.ensures.value
     c.go_on-moves.ensures.moved))
     (subst (λ x. (y : ℕ) → y < length R → origin_in R y < length x) c.as_slice.ensures.value c.close.ensures.closed.from)
     c.seed-begun.ensures.within

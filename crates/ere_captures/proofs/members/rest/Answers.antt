@@ -15,22 +15,22 @@ pub of-requires : goal.of-requires
 of-requires c =
     let t = repeat (view c.args.inner.now) c.args.least c.args.most in
     let places = c.as_slice.result.now in
-    inside_beyond c.args.from c.args.to Back places
-    (reached_inside c.args.text.now t (record { low = c.args.from; high = c.args.to; direction = Back })
-    (c.args.to ∷ []) places
-    (subst (AreReached (LeadsInside c.args.text.now t (record { low = c.args.from; high = c.args.to; direction = Back }))
-    (c.args.to ∷ [])) (sym c.as_slice.ensures.value) c.in_ok-places.ensures))
+    inside_beyond c.args.input.now.from c.args.input.now.to Back places
+    (reached_inside c.args.input.now.text.now t (record { low = c.args.input.now.from; high = c.args.input.now.to; direction = Back })
+    (c.args.input.now.to ∷ []) places
+    (subst (AreReached (LeadsInside c.args.input.now.text.now t (record { low = c.args.input.now.from; high = c.args.input.now.to; direction = Back }))
+    (c.args.input.now.to ∷ [])) (sym c.as_slice.ensures.value) c.in_ok-places.ensures))
 
 pub returns : goal.returns
 returns c =
-    let s = c.args.text.now in
+    let s = c.args.input.now.text.now in
     let t = repeat (view c.args.inner.now) c.args.least c.args.most in
     let places = c.as_slice.result.now in
-    let reached : AreReached (LeadsInside s t (record { low = c.args.from; high = c.args.to; direction = Back }))
-    (c.args.to ∷ []) places =
-    subst (AreReached (LeadsInside s t (record { low = c.args.from; high = c.args.to; direction = Back }))
-    (c.args.to ∷ [])) (sym c.as_slice.ensures.value) c.in_ok-places.ensures in
+    let reached : AreReached (LeadsInside s t (record { low = c.args.input.now.from; high = c.args.input.now.to; direction = Back }))
+    (c.args.input.now.to ∷ []) places =
+    subst (AreReached (LeadsInside s t (record { low = c.args.input.now.from; high = c.args.input.now.to; direction = Back }))
+    (c.args.input.now.to ∷ [])) (sym c.as_slice.ensures.value) c.in_ok-places.ensures in
     IfOk-weaker c.of.result (λ seen. (q : ℕ) → IsTrue (is_held seen q) ↔ Contains places q)
-    (λ seen. (q : ℕ) → IsTrue (is_held seen q) ↔ (Spans s t q c.args.to × (c.args.from ≤ q)))
-    (λ seen h q. then_both (h q) (starts_are s t c.args.from c.args.to places c.requires.order reached q))
+    (λ seen. (q : ℕ) → IsTrue (is_held seen q) ↔ (Spans s t q c.args.input.now.to × (c.args.input.now.from ≤ q)))
+    (λ seen h q. then_both (h q) (starts_are s t c.args.input.now.from c.args.input.now.to places c.requires.order reached q))
     c.of.ensures

@@ -11,6 +11,6 @@ none_is (Some most) is = absurd (true≢false is)
 
 pub returns-then-is_none : goal.returns-then-is_none
 returns-then-is_none c =
-    along (λ n o. RestOf c.args.text.now (view c.args.inner.now) n o c.args.from c.args.to c.args.set)
+    along (λ n o. RestOf c.args.input.now.text.now (view c.args.inner.now) n o c.args.input.now.from c.args.input.now.to c.args.set)
     (c.args.least - 1) (c.args.least - 1 - 1) (less_one c.args.most) (less_one (less_one c.args.most))
     (omega (arith, c.if-least-eq0.true)) (none_is c.args.most c.if-is_none.ensures) c.requires.held

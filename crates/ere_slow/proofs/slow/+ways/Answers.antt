@@ -3,15 +3,14 @@ use Rattle.std.proofs.lemmas.Bool.Decides.{nat_tests}
 use Rattle.std.proofs.lemmas.List.{map-append}
 use Rattle.ere_tree.specs.View.{view}
 use Rattle.ere_tree.specs.Tree.{repeat}
-use Rattle.ere_slow.specs.WayView.{captures_of}
 use Rattle.ere_tree.proofs.ViewLemmas.{view_Repeat}
-use Rattle.ere_slow.specs.Listing.{all_ways, required, at_most, go_on, begun_of, found_of}
+use Rattle.ere_slow.specs.Listing.{all_ways, all_at, required, at_most, go_on, begun_of, found_of}
 use Rattle.ere_slow.proofs.ListingLemmas.{required_more, at_most_more, none_further}
 use Rattle.ere_slow.proofs.slow.+ways.Goals as goal
 
 pub rows_of_members-loop-preserved : goal.rows_of_members-loop-preserved
 rows_of_members-loop-preserved t c =
-    let more = all_ways c.args.text.now (view c.args.inner.now) in
+    let more = all_ways c.args.origin.now.text.now (view c.args.inner.now) in
     ap (required more (c.args.least - (c.loop.counter + 1)))
     (c.in_ok-rows-2.ensures ∙ ap (λ rows. go_on true more (map begun_of rows)) c.as_slice.ensures.value)
     ∙ sym (required_more more c.args.least c.loop.counter (map begun_of c.loop.rows.items) c.loop-test.true)
@@ -19,7 +18,7 @@ rows_of_members-loop-preserved t c =
 
 pub rows_of_members-loop-2-preserved : goal.rows_of_members-loop-2-preserved
 rows_of_members-loop-2-preserved t c =
-    let more = all_ways c.args.text.now (view c.args.inner.now) in
+    let more = all_ways c.args.origin.now.text.now (view c.args.inner.now) in
     let left = c.args.more - (c.loop-2.counter + 1) in
     let before = map begun_of c.loop-2.rows.items in
     let longer : map begun_of c.in_ok-longer.longer.items ≡ go_on false more before =
@@ -38,7 +37,7 @@ nothing (x ∷ xs) none = absurd (omega (arith, none))
 
 pub rows_of_members-returns-then-is_empty : goal.rows_of_members-returns-then-is_empty
 rows_of_members-returns-then-is_empty t c =
-    let more = all_ways c.args.text.now (view c.args.inner.now) in
+    let more = all_ways c.args.origin.now.text.now (view c.args.inner.now) in
     let left = c.args.more - c.loop-2.counter in
     let all = map begun_of c.loop-2.all.items in
     let empty : length c.loop-2.rows.items ≡ 0 =
@@ -53,4 +52,4 @@ ways_of-returns-in-Repeat t c =
     ap (λ inner. repeat (view inner) c.in-Repeat.least c.in-Repeat.most) c.deref.ensures
     ∙ sym (ap view c.in-Repeat.is ∙ view_Repeat c.in-Repeat.inner c.in-Repeat.least c.in-Repeat.most) in
     subst (λ tree. IfOk c.ways_of_repeat.result (λ found. map found_of found.items
-    ≡ all_ways c.args.text.now tree c.args.from (captures_of c.args.captures.now))) tree c.ways_of_repeat.ensures
+    ≡ all_at c.args.origin.now tree)) tree c.ways_of_repeat.ensures

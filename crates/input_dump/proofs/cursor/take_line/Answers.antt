@@ -1,3 +1,6 @@
+-- A line that is gone over: its own row, the row of a gap that begins there, or none in a gap that goes on.
+-- What was left is the row of the line and what is left behind it (`shown_left`, `hidden_left`), so it is told once and in order.
+-- The hard one is `returns-then-cursor-clause-silent`: no row, the same left, and no mark that comes up.
 use Rattle.std.proofs.Common.{◌≡◌, ◌+◌, ◌-◌, ◌<◌, ℕ, Bool, not, List, ◌++◌, length, take, drop, ap, sym, ◌∙◌, arith, length-append}
 use Rattle.input_dump.proofs.FollowLemmas.{hidden_left, line_follows, none_behind, shown_left}
 use Rattle.input_dump.specs.Dump.{gap_before}

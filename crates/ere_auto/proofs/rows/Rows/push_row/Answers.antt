@@ -25,8 +25,8 @@ invariant_of-self c =
       line = c.args.line;
       searching = c.args.searching;
       over = c.is_over-over.result;
-      begun = c.args.begun;
-      met = c.args.met;
+      begun = c.args.note.begun;
+      met = c.args.note.met;
     } in
     let kept = λ (r : ℕ) (l : r < length rows). row_kept rows new row e r l in
     record {
