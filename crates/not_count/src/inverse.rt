@@ -11,7 +11,7 @@ ghost use Rattle.not_count.specs.Inverse.{AskedOnce, AtMostOneHand, HandFailed, 
 use crate::command::{Command, NoCommand, bytes_of, command_in};
 use std::alloc::Global;
 use tt_base::{Bytes, Items, NoMemory};
-use tt_outside::{Crew, Finish, Reply, Request, Runner, Sink, Source};
+use tt_outside::{Crew, Finish, Reply, Request, Runner, SharedBytes, Sink, Source};
 use tt_run::{Answer, Frame, Reading, read_source};
 
 /// The name of `not`.
@@ -113,6 +113,7 @@ fn replied<C: Crew>(
     ensures gave { SameGave (C.gave crew.new) (C.gave crew.old) }
     ensures ready { C.ready crew.new }
 {
+    let input = SharedBytes::new(alloc, input)?;
     let request = Request::Spawn {
         words: bytes_of(alloc, &words[command.first..])?,
         dir: Bytes::from_slice(alloc, b".")?,
@@ -218,8 +219,8 @@ pub fn reply_answer(
 {
     match reply {
         Reply::Status { finish, out, err } => Ok(Answer {
-            out,
-            err,
+            out: out.into_bytes(alloc)?,
+            err: err.into_bytes(alloc)?,
             status: status_at(crash, finish),
         }),
         Reply::Missing => telling(
