@@ -29,7 +29,7 @@ fn shown(alloc: Global, trial: &Trial) -> Result<Bytes, NoMemory> {
     out.append(b" ")?;
     out.append(&[b'0' + (trial.entries.len() % 10) as u8])?;
     out.append(b" ")?;
-    out.append(trial.text.as_slice())?;
+    trial.text.add_to(&mut out)?;
     Ok(out)
 }
 
