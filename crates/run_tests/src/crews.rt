@@ -1,9 +1,9 @@
 //! A test over planned replies, and what was asked of it, in few words.
-use crate::rows::bytes_of;
+use crate::rows::{bytes_of, shared_of};
 use std::alloc::Global;
 use tt_base::{Bytes, Items, NoMemory};
 use tt_outside::{
-    Entry, Finish, MemCrew, Pair, Planned, Reply, Request, SharedBytes, SharedItems, Stream, Test,
+    Entry, Finish, MemCrew, Pair, Planned, Reply, Request, SharedItems, Stream, Test,
 };
 
 fn pair(alloc: Global, name: &str, value: &str) -> Result<Pair, NoMemory> {
@@ -69,16 +69,9 @@ pub(crate) fn test_at_w(alloc: Global) -> Result<Test, NoMemory> {
 }
 
 fn ended(alloc: Global, finish: Finish, out: &str, err: &str) -> Result<Reply, NoMemory> {
-    let out = SharedBytes::from_slice(alloc, out.as_bytes())?;
-    let err = SharedBytes::from_slice(alloc, err.as_bytes())?;
+    let out = shared_of(alloc, out)?;
+    let err = shared_of(alloc, err)?;
     Ok(Reply::Status { finish, out, err })
-}
-
-fn file_of(alloc: Global, text: &str) -> Result<Reply, NoMemory> {
-    Ok(Reply::Bytes(SharedBytes::from_slice(
-        alloc,
-        text.as_bytes(),
-    )?))
 }
 
 /// The number that a digit is.
@@ -101,7 +94,7 @@ fn reply_of(alloc: Global, word: &str) -> Result<Reply, NoMemory> {
     match word.bytes().next() {
         Some(b'c') => coded(alloc, rest),
         Some(b's') => ended(alloc, Finish::Signal(11), "", ""),
-        Some(b'f') => file_of(alloc, rest),
+        Some(b'f') => Ok(Reply::Bytes(shared_of(alloc, rest)?)),
         Some(b'm') => Ok(Reply::Missing),
         Some(b't') => Ok(Reply::TooLarge(Stream::File)),
         Some(b'o') => Ok(Reply::TooLarge(Stream::Out)),
@@ -125,7 +118,7 @@ fn planned(alloc: Global, word: &str) -> Result<Planned, NoMemory> {
 pub(crate) fn crew_of(alloc: Global, file: Option<&str>, words: &str) -> Result<MemCrew, NoMemory> {
     let mut replies = Items::new(alloc);
     if let Some(file) = file {
-        let reply = file_of(alloc, file)?;
+        let reply = Reply::Bytes(shared_of(alloc, file)?);
         replies.push(Planned {
             test: 0,
             earlier: 0,

@@ -106,6 +106,24 @@ fn entries_are_equal_in_request_and_reply(rt: HostRuntime) -> Result<(), NoMemor
     Ok(())
 }
 
+/// Whether each of two that hold bytes is given them, the second as the only one.
+fn are_given_to_both(alloc: Global) -> Result<bool, NoMemory> {
+    let one = SharedBytes::from_slice(alloc, b"abc")?;
+    let other = one.share()?;
+    let first = one.into_bytes(alloc)?;
+    let second = other.into_bytes(alloc)?;
+    Ok(first.as_slice() == b"abc".as_slice() && second.as_slice() == b"abc".as_slice())
+}
+
+#[test]
+fn shared_bytes_are_given_to_each_that_holds_them(rt: HostRuntime) -> Result<(), NoMemory> {
+    assert!(rt; are_given_to_both(rt.alloc())?);
+    let none = SharedBytes::new(rt.alloc(), Bytes::new(rt.alloc()))?;
+    assert!(rt; none.is_empty());
+    assert_eq!(rt; none.into_bytes(rt.alloc())?.len(), 0);
+    Ok(())
+}
+
 /// Whether three bytes come two at a time.
 fn come_in_pieces(alloc: Global) -> Result<bool, NoMemory> {
     let mut source = MemSource::in_pieces(alloc, b"abc", 2)?;
