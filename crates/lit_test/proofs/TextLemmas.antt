@@ -15,8 +15,9 @@ last-append (byte ∷ old) more some =
 pub ends_in_bytes : (head bytes : List ℕ) → 0 < length bytes → ends_line bytes ≡ ends_line (head ++ bytes)
 ends_in_bytes head bytes some = ap (λ byte. byte == 10) (sym (last-append head bytes some))
 
-pub ends_in_head : (head bytes : List ℕ) → bytes ≡ [] → ends_line head ≡ ends_line (head ++ bytes)
-ends_in_head head bytes none = rw none (ap ends_line (sym (append-nil head)))
+pub ends_in_head : (head bytes : List ℕ) → length bytes ≡ 0 → ends_line head ≡ ends_line (head ++ bytes)
+ends_in_head head [] none = ap ends_line (sym (append-nil head))
+ends_in_head head (byte ∷ bytes) none = absurd (omega arith)
 
 pub ended_whole : (old head bytes : List ℕ) → ends_line (head ++ bytes) ≡ true
     → (old ++ head) ++ bytes ≡ old ++ ended (head ++ bytes)

@@ -101,7 +101,7 @@ fn add_stream(
 ) -> Result<(), NoMemory>
     ensures { OnOk result (text.new ≡ text.old ++ stream_text head.now bytes.now) }
 {
-    if bytes.is_empty() {
+    if bytes.as_slice().is_empty() {
         return Ok(());
     }
     share_ended(alloc, text, head, bytes)

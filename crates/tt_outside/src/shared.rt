@@ -150,6 +150,9 @@ impl SharedBytes {
     pub fn is_empty(&self) -> bool
         ensures { IsTrue result ↔ (self.now ≡ []) }
     {
-        self.as_slice().is_empty()
+        match &self.held {
+            Some(held) => held.is_empty(),
+            None => true,
+        }
     }
 }
