@@ -89,7 +89,10 @@ fn outcome_from<C: Crew, I: Source>(
         Err(refusal) => return Ok(Inverse::Refused(refusal)),
     };
     match read_source(alloc, INPUT_LIMIT, input)? {
-        Reading::Whole(bytes) => replied(alloc, words, command, bytes, crew),
+        Reading::Whole(bytes) => {
+            let input = SharedBytes::new(alloc, bytes)?;
+            replied(alloc, words, command, input, crew)
+        }
         Reading::TooLarge => Ok(Inverse::TooLarge),
         Reading::Failed | Reading::Missing => Ok(Inverse::Unread),
     }
@@ -100,7 +103,7 @@ fn replied<C: Crew>(
     alloc: Global,
     words: &[String],
     command: Command,
-    input: Bytes,
+    input: SharedBytes,
     crew: &mut C,
 ) -> Result<Inverse, NoMemory>
     requires ready { C.ready crew.old }
@@ -113,7 +116,6 @@ fn replied<C: Crew>(
     ensures gave { SameGave (C.gave crew.new) (C.gave crew.old) }
     ensures ready { C.ready crew.new }
 {
-    let input = SharedBytes::new(alloc, input)?;
     let request = Request::Spawn {
         words: bytes_of(alloc, &words[command.first..])?,
         dir: Bytes::from_slice(alloc, b".")?,
