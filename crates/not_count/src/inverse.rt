@@ -90,8 +90,8 @@ fn outcome_from<C: Crew, I: Source>(
     };
     match read_source(alloc, INPUT_LIMIT, input)? {
         Reading::Whole(bytes) => {
-            let input = SharedBytes::new(alloc, bytes)?;
-            replied(alloc, words, command, input, crew)
+            let bytes = SharedBytes::new(alloc, bytes)?;
+            replied(alloc, words, command, bytes, crew)
         }
         Reading::TooLarge => Ok(Inverse::TooLarge),
         Reading::Failed | Reading::Missing => Ok(Inverse::Unread),
