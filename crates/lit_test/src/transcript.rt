@@ -133,12 +133,7 @@ fn add_told(alloc: Global, text: &mut Text, told: &Told) -> Result<(), NoMemory>
 }
 
 /// Adds what the commands of a line did.
-fn add_texts_on(
-    alloc: Global,
-    text: &mut Text,
-    line: u32,
-    told: &[Told],
-) -> Result<(), NoMemory>
+fn add_texts_on(alloc: Global, text: &mut Text, line: u32, told: &[Told]) -> Result<(), NoMemory>
     ensures { OnOk result (text.new ≡ text.old ++ texts_on line told.now) }
 {
     for one in told {
