@@ -11,7 +11,7 @@ use filecheck_tool::answer_on;
 use not_count::bytes_of;
 use std::alloc::Global;
 use tt_base::{Bytes, Items, NoMemory};
-use tt_outside::{Pair, Reply, Request, pairs};
+use tt_outside::{Pair, Reply, Request, SharedBytes, pairs};
 
 /// What words ask of the hand.
 pub(crate) fn core_asks(
@@ -19,7 +19,7 @@ pub(crate) fn core_asks(
     core: &[String],
     dir: &[u8],
     env: &[Pair],
-    input: &[u8],
+    input: &SharedBytes,
     limit: u64,
 ) -> Result<Items<Request>, NoMemory>
     requires { 0 < length core.now }
@@ -37,7 +37,7 @@ pub(crate) fn core_asks(
                 words: bytes_of(alloc, core)?,
                 dir: Bytes::from_slice(alloc, dir)?,
                 env: pairs(alloc, env)?,
-                input: Bytes::from_slice(alloc, input)?,
+                input: input.share()?,
                 limit,
             })?;
             Ok(requests)
@@ -60,7 +60,7 @@ fn check_reply(
     let file = check_read(alloc, &names, replies.as_slice())?;
     let read = input_read(alloc, &names, input, replies)?;
     let answer = answer_on(alloc, words, file, read)?;
-    Ok(reply_within(limit, answer))
+    reply_within(alloc, limit, answer)
 }
 
 /// The reply to words, over replies of the hand.

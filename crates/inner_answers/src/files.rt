@@ -73,15 +73,15 @@ pub(crate) fn files_asked(
     Ok(requests)
 }
 
-/// What a reply to such a request says of the file. It takes no memory.
-fn reading_of(reply: Reply) -> Reading
-    ensures { result ≡ reading_of reply }
+/// What a reply to such a request says of the file. Its bytes are copied only where others hold them too.
+fn reading_of(alloc: Global, reply: Reply) -> Result<Reading, NoMemory>
+    ensures { IfOk result (λ read. read ≡ reading_of reply) }
 {
     match reply {
-        Reply::Bytes(bytes) => Reading::Whole(bytes),
-        Reply::Missing => Reading::Missing,
-        Reply::TooLarge(_) => Reading::TooLarge,
-        Reply::Written | Reply::Status { .. } | Reply::Broken => Reading::Failed,
+        Reply::Bytes(bytes) => Ok(Reading::Whole(bytes.into_bytes(alloc)?)),
+        Reply::Missing => Ok(Reading::Missing),
+        Reply::TooLarge(_) => Ok(Reading::TooLarge),
+        Reply::Written | Reply::Status { .. } | Reply::Broken => Ok(Reading::Failed),
     }
 }
 
@@ -108,7 +108,7 @@ pub(crate) fn check_read(
         return Ok(Reading::Missing);
     }
     match replies.split_first() {
-        Some((reply, _)) => Ok(reading_of(reply.copy(alloc)?)),
+        Some((reply, _)) => reading_of(alloc, reply.copy()?),
         None => Ok(Reading::Missing),
     }
 }
@@ -123,7 +123,7 @@ pub(crate) fn input_read(
     ensures { IfOk result (λ read. read ≡ input_read names.now input.now replies) }
 {
     match &names.input {
-        Some(_) => Ok(reading_of(last_reply(replies))),
+        Some(_) => reading_of(alloc, last_reply(replies)),
         None => standard_read(alloc, input),
     }
 }

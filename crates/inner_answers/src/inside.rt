@@ -72,7 +72,7 @@ impl Inside {
             unreachable!()
         };
         let core = &self.words.as_slice()[self.peeling.core..];
-        let (dir, env, input) = (dir.as_slice(), env.as_slice(), input.as_slice());
+        let (dir, env) = (dir.as_slice(), env.as_slice());
         let requests = core_asks(alloc, core, dir, env, input, *limit)?;
         Ok(requests)
     }

@@ -7,24 +7,24 @@ ghost use Rattle.inner_answers.specs.Told.{count_answer, inverse_all, inverse_re
 use not_count::{Command, Inverse, command_in, count_run, inverse_answer, reply_answer};
 use std::alloc::Global;
 use tt_base::{Bytes, NoMemory};
-use tt_outside::{Finish, MemSink, MemSource, Reply, Stream};
+use tt_outside::{Finish, MemSink, MemSource, Reply, SharedBytes, Stream};
 use tt_run::Answer;
 
-/// An answer as a reply, under a limit. It takes no memory.
-pub(crate) fn reply_within(limit: u64, answer: Answer) -> Reply
-    ensures { result ≡ reply_within limit answer }
+/// An answer as a reply, under a limit. Its bytes aren't copied.
+pub(crate) fn reply_within(alloc: Global, limit: u64, answer: Answer) -> Result<Reply, NoMemory>
+    ensures { IfOk result (λ reply. reply ≡ reply_within limit answer) }
 {
     if answer.out.len() as u64 > limit {
-        return Reply::TooLarge(Stream::Out);
+        return Ok(Reply::TooLarge(Stream::Out));
     }
     if answer.err.len() as u64 > limit {
-        return Reply::TooLarge(Stream::Err);
+        return Ok(Reply::TooLarge(Stream::Err));
     }
-    Reply::Status {
+    Ok(Reply::Status {
         finish: Finish::Code(answer.status),
-        out: answer.out,
-        err: answer.err,
-    }
+        out: SharedBytes::new(alloc, answer.out)?,
+        err: SharedBytes::new(alloc, answer.err)?,
+    })
 }
 
 /// The reply of `count` to words, which are without its name, and an input.
@@ -40,14 +40,15 @@ pub(crate) fn count_reply(
     let mut err = MemSink::new(alloc, limit as usize)?;
     match count_run(words, &mut source, &mut err) {
         3 => Ok(Reply::TooLarge(Stream::Err)),
-        status => Ok(reply_within(
-            limit,
-            Answer {
+        status => {
+            let answer = Answer {
                 out: Bytes::new(alloc),
                 err: err.into_bytes(),
                 status,
-            },
-        )),
+            };
+            let reply = reply_within(alloc, limit, answer)?;
+            Ok(reply)
+        }
     }
 }
 
@@ -59,7 +60,7 @@ pub(crate) fn refused_reply(alloc: Global, words: &[String], limit: u64) -> Resu
         Ok(_) => Inverse::TooLarge,
         Err(refusal) => Inverse::Refused(refusal),
     };
-    Ok(reply_within(limit, inverse_answer(alloc, words, outcome)?))
+    reply_within(alloc, limit, inverse_answer(alloc, words, outcome)?)
 }
 
 /// The inverse of the reply to a command of these words.
@@ -79,7 +80,7 @@ fn inverse_reply(
         reply => {
             let name = words[command.first].as_bytes();
             let answer = reply_answer(alloc, name, command.crash, reply)?;
-            Ok(reply_within(limit, answer))
+            reply_within(alloc, limit, answer)
         }
     }
 }

@@ -5,7 +5,7 @@ ghost use Rattle.lit_pool.specs.Pool.{told_of};
 use lit_report::Reported;
 use lit_test::{Outcome, Trial};
 use std::alloc::Global;
-use tt_base::NoMemory;
+use tt_base::{Bytes, NoMemory};
 
 /// A trial, as a report tells of it.
 #[derive(Clone, Copy)]
@@ -24,8 +24,8 @@ impl<'a> Reported for ReportedTrial<'a> {
         self.trial.result
     }
 
-    fn text(&self) -> &[u8] {
-        self.trial.text.as_slice()
+    fn add_text(&self, text: &mut Bytes) -> Result<(), NoMemory> {
+        self.trial.text.add_to(text)
     }
 }
 

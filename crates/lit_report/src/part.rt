@@ -65,7 +65,7 @@ fn add_transcript<T: Reported>(text: &mut Bytes, test: &T) -> Result<(), NoMemor
     ensures { OnOk result (text.new ≡ text.old ++ transcript_of (T.told test.now)) }
 {
     add_title(text, test)?;
-    text.append(test.text())?;
+    test.add_text(text)?;
     text.append(stars())?;
     text.append(b"\n")
 }

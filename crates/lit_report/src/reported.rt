@@ -1,7 +1,8 @@
 //! What a report tells of.
-ghost use Rattle.std.specs.Prelude.{◌≡◌};
+ghost use Rattle.std.specs.Prelude.{◌≡◌, ◌++◌, OnOk};
 
 use test_outcome::Outcome;
+use tt_base::{Bytes, NoMemory};
 
 /// A test that was run, as a report tells of it.
 pub trait Reported {
@@ -16,7 +17,7 @@ pub trait Reported {
     fn outcome(&self) -> Outcome
         ensures { result ≡ (told self.now).result };
 
-    /// Its transcript.
-    fn text(&self) -> &[u8]
-        ensures { result.now ≡ (told self.now).text };
+    /// Adds its transcript.
+    fn add_text(&self, text: &mut Bytes) -> Result<(), NoMemory>
+        ensures { OnOk result (text.new ≡ text.old ++ (told self.now).text) };
 }

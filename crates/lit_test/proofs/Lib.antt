@@ -1,4 +1,5 @@
 pub mod EndingLemmas
 pub mod LawLemmas
 pub mod LineLemmas
+pub mod PieceLemmas
 pub mod TextLemmas

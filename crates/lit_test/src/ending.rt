@@ -7,6 +7,7 @@ ghost use Rattle.lit_test.specs.Run.{ending_stopped};
 ghost use Rattle.lit_test.specs.Trial.{cause_of, failed, last_cause, not_supported, passed, resolved, shown_text, shows, unresolved_by};
 
 use crate::outcome::Ending;
+use crate::text::Text;
 use crate::transcript::{add_seen, add_unresolved};
 use shell_play::PlayEnd;
 use std::alloc::Global;
@@ -14,11 +15,11 @@ use test_attempts::{Finished, Stop};
 use test_course::MAX_KEPT;
 use test_outcome::Outcome;
 use test_plan::{Cause, Runs};
-use tt_base::{Bytes, NoMemory};
+use tt_base::NoMemory;
 use tt_outside::{Entry, Reply};
 
 /// An unresolved test, behind what is shown of it.
-pub(crate) fn unresolved_by(text: Bytes, cause: Cause) -> Result<Ending, NoMemory>
+pub(crate) fn unresolved_by(text: Text, cause: Cause) -> Result<Ending, NoMemory>
     ensures { IfOk result (λ ending. ending ≡ unresolved_by text cause) }
 {
     let mut text = text;
@@ -33,9 +34,11 @@ pub(crate) fn unresolved_by(text: Bytes, cause: Cause) -> Result<Ending, NoMemor
 pub(crate) fn not_supported(alloc: Global) -> Result<Ending, NoMemory>
     ensures { IfOk result (λ ending. ending ≡ not_supported) }
 {
+    let mut text = Text::new(alloc);
+    text.append(b"# not supported\n")?;
     Ok(Ending {
         outcome: Outcome::Unsupported,
-        text: Bytes::from_slice(alloc, b"# not supported\n")?,
+        text,
     })
 }
 
@@ -84,7 +87,7 @@ fn failed(may_fail: bool) -> Outcome
 }
 
 /// A test that was run to its end, unless too many bytes are kept.
-fn resolved(kept: u64, text: Bytes, outcome: Outcome) -> Result<Ending, NoMemory>
+fn resolved(kept: u64, text: Text, outcome: Outcome) -> Result<Ending, NoMemory>
     ensures { IfOk result (λ ending. ending ≡ resolved kept text outcome) }
 {
     if kept > MAX_KEPT {
@@ -94,12 +97,13 @@ fn resolved(kept: u64, text: Bytes, outcome: Outcome) -> Result<Ending, NoMemory
 }
 
 /// What is shown of a test's attempts.
-fn shown_text(alloc: Global, runs: &Runs, done: &Finished) -> Result<Bytes, NoMemory>
+fn shown_text(alloc: Global, runs: &Runs, done: &Finished) -> Result<Text, NoMemory>
     ensures { IfOk result (λ text. text
         ≡ shown_text (shows runs.now (seen done.now.attempts (shown (left_of done.now.last))))) }
 {
-    let mut text = Bytes::new(alloc);
+    let mut text = Text::new(alloc);
     add_seen(
+        alloc,
         &mut text,
         runs.runs.as_slice(),
         done.attempts,

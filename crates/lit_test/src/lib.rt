@@ -8,6 +8,7 @@ mod laws;
 mod names;
 mod outcome;
 mod running;
+mod text;
 mod transcript;
 mod trial;
 
@@ -15,4 +16,5 @@ pub use laws::{law_of_handing_on, law_of_trials};
 pub use outcome::Ending;
 pub use test_outcome::Outcome;
 pub use test_plan::Cause;
+pub use text::Text;
 pub use trial::{Trial, run_test};

@@ -1,10 +1,10 @@
 //! How a test ended.
+use crate::text::Text;
 use test_outcome::Outcome;
-use tt_base::Bytes;
 
 /// How a test ended: its result, and its transcript.
 #[derive(Drop, Debug)]
 pub struct Ending {
     pub outcome: Outcome,
-    pub text: Bytes,
+    pub text: Text,
 }

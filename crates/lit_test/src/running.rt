@@ -9,6 +9,7 @@ ghost use Rattle.lit_test.specs.Run.{EndsPlan, EndsTest};
 
 use crate::ending::{ending_stopped, last_cause, not_supported, unresolved_by};
 use crate::outcome::Ending;
+use crate::text::Text;
 use std::alloc::Global;
 use test_attempts::run_attempts;
 use test_course::{COUNTED, LIMIT, MAX_KEPT, own_bytes, reply_bytes};
@@ -84,7 +85,7 @@ fn by_plan<R: Runner>(
             Ok(ending)
         }
         Plan::Unresolved(cause) => {
-            let ending = unresolved_by(Bytes::new(alloc), *cause)?;
+            let ending = unresolved_by(Text::new(alloc), *cause)?;
             Ok(ending)
         }
         Plan::Run(runs) => {
@@ -119,7 +120,7 @@ pub(crate) fn run_begun<R: Runner>(
     let request = Request::ReadFile { path, limit: LIMIT };
     let own = own_bytes(&request);
     if own > MAX_KEPT {
-        let unread = unresolved_by(Bytes::new(alloc), Cause::TooMuch)?;
+        let unread = unresolved_by(Text::new(alloc), Cause::TooMuch)?;
         return Ok(unread);
     }
     let reply = hand.ask(alloc, entries.as_slice(), &request)?;

@@ -9,10 +9,11 @@ ghost use Rattle.lit_test.specs.Trial.{IsTrial, ending_of};
 
 use crate::outcome::Ending;
 use crate::running::run_begun;
+use crate::text::Text;
 use std::alloc::Global;
 use test_course::kept_bytes;
 use test_outcome::Outcome;
-use tt_base::{Bytes, Items, NoMemory};
+use tt_base::{Items, NoMemory};
 use tt_outside::{Entry, Runner, Test};
 
 /// A test, its requests with their replies, and how it ended.
@@ -24,7 +25,7 @@ pub struct Trial {
     pub entries: Items<Entry>,
     pub result: Outcome,
     /// The transcript.
-    pub text: Bytes,
+    pub text: Text,
     ghost ended: { (ending_of test entries).outcome ≡ result },
     ghost told: { (ending_of test entries).text ≡ text },
     ghost light: { kept_behind 0 entries ≤ 3 * 2 ^ 23 },

@@ -11,7 +11,7 @@ ghost use Rattle.not_count.specs.Inverse.{AskedOnce, AtMostOneHand, HandFailed, 
 use crate::command::{Command, NoCommand, bytes_of, command_in};
 use std::alloc::Global;
 use tt_base::{Bytes, Items, NoMemory};
-use tt_outside::{Crew, Finish, Reply, Request, Runner, Sink, Source};
+use tt_outside::{Crew, Finish, Reply, Request, Runner, SharedBytes, Sink, Source};
 use tt_run::{Answer, Frame, Reading, read_source};
 
 /// The name of `not`.
@@ -89,7 +89,10 @@ fn outcome_from<C: Crew, I: Source>(
         Err(refusal) => return Ok(Inverse::Refused(refusal)),
     };
     match read_source(alloc, INPUT_LIMIT, input)? {
-        Reading::Whole(bytes) => replied(alloc, words, command, bytes, crew),
+        Reading::Whole(bytes) => {
+            let bytes = SharedBytes::new(alloc, bytes)?;
+            replied(alloc, words, command, bytes, crew)
+        }
         Reading::TooLarge => Ok(Inverse::TooLarge),
         Reading::Failed | Reading::Missing => Ok(Inverse::Unread),
     }
@@ -100,7 +103,7 @@ fn replied<C: Crew>(
     alloc: Global,
     words: &[String],
     command: Command,
-    input: Bytes,
+    input: SharedBytes,
     crew: &mut C,
 ) -> Result<Inverse, NoMemory>
     requires ready { C.ready crew.old }
@@ -218,8 +221,8 @@ pub fn reply_answer(
 {
     match reply {
         Reply::Status { finish, out, err } => Ok(Answer {
-            out,
-            err,
+            out: out.into_bytes(alloc)?,
+            err: err.into_bytes(alloc)?,
             status: status_at(crash, finish),
         }),
         Reply::Missing => telling(

@@ -4,7 +4,7 @@ ghost use Rattle.std.specs.Prelude.{◌≡◌, IfOk, []};
 use crate::rows::both;
 use std::alloc::Global;
 use tt_base::{Bytes, Items, NoMemory};
-use tt_outside::{Finish, Planned, Reply, SharedItems, Test};
+use tt_outside::{Finish, Planned, Reply, SharedBytes, SharedItems, Test};
 
 /// A suite's tests, in order, and the replies that their commands get.
 #[derive(Drop)]
@@ -55,25 +55,25 @@ fn test_of(alloc: Global, file: &str) -> Result<Test, NoMemory> {
 }
 
 /// A program that ended with a code.
-fn ended(alloc: Global, code: u8) -> Reply {
+fn ended(code: u8) -> Reply {
     Reply::Status {
         finish: Finish::Code(code),
-        out: Bytes::new(alloc),
-        err: Bytes::new(alloc),
+        out: SharedBytes::none(),
+        err: SharedBytes::none(),
     }
 }
 
 /// What the program of a test comes to, by a digit: its code, or else Broken.
-fn reply_of(alloc: Global, word: &str) -> Reply {
+fn reply_of(word: &str) -> Reply {
     match word.bytes().next() {
-        Some(byte) if byte.is_ascii_digit() => ended(alloc, byte - b'0'),
+        Some(byte) if byte.is_ascii_digit() => ended(byte - b'0'),
         _ => Reply::Broken,
     }
 }
 
 /// A test's file, which is read behind no entries.
 fn file_of(alloc: Global, test: u64, text: &str) -> Result<Planned, NoMemory> {
-    let bytes = both(alloc, text, "")?;
+    let bytes = SharedBytes::new(alloc, both(alloc, text, "")?)?;
     Ok(Planned {
         test,
         earlier: 0,
@@ -82,11 +82,11 @@ fn file_of(alloc: Global, test: u64, text: &str) -> Result<Planned, NoMemory> {
 }
 
 /// A test's program, which is run behind two entries.
-fn program_of(alloc: Global, test: u64, word: &str) -> Planned {
+fn program_of(test: u64, word: &str) -> Planned {
     Planned {
         test,
         earlier: 2,
-        reply: reply_of(alloc, word),
+        reply: reply_of(word),
     }
 }
 
@@ -96,7 +96,7 @@ fn add_test(alloc: Global, demo: &mut Demo, number: u64, field: &str) -> Result<
     let (file, text) = rest.split_once(": ").unwrap_or((rest, ""));
     demo.tests.push(test_of(alloc, file)?)?;
     demo.plan.push(file_of(alloc, number, text)?)?;
-    demo.plan.push(program_of(alloc, number, word))
+    demo.plan.push(program_of(number, word))
 }
 
 /// The tests of a line, with semicolons between them.

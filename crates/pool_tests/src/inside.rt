@@ -7,7 +7,7 @@ use std::alloc::Global;
 use std::sync::Wait;
 use std::thread::Threads;
 use tt_base::{Bytes, Items, NoMemory};
-use tt_outside::{Finish, MemCrew, MemTree, Planned, Reply, are_nested};
+use tt_outside::{Finish, MemCrew, MemTree, Planned, Reply, SharedBytes, are_nested};
 
 /// The number of a call that is never reached.
 const NEVER: u64 = 99_999;
@@ -91,13 +91,13 @@ fn one_test(alloc: Global) -> Result<MemTree, NoMemory> {
 
 /// A reply of a kind: a file's bytes, a program that wrote them, or else Broken.
 fn reply_of(alloc: Global, kind: &str, text: &str) -> Result<Reply, NoMemory> {
-    let bytes = both(alloc, text, "")?;
+    let bytes = SharedBytes::new(alloc, both(alloc, text, "")?)?;
     Ok(match kind {
         "file" => Reply::Bytes(bytes),
         "wrote" => Reply::Status {
             finish: Finish::Code(0),
             out: bytes,
-            err: Bytes::new(alloc),
+            err: SharedBytes::none(),
         },
         _ => {
             drop(bytes);

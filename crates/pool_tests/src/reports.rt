@@ -27,8 +27,8 @@ impl Reported for Ended {
         self.outcome
     }
 
-    fn text(&self) -> &[u8] {
-        self.text.as_slice()
+    fn add_text(&self, text: &mut Bytes) -> Result<(), NoMemory> {
+        text.append(self.text.as_slice())
     }
 }
 

@@ -1,5 +1,5 @@
 //! A test over planned replies, and what was asked of it, in few words.
-use crate::rows::bytes_of;
+use crate::rows::{bytes_of, shared_of};
 use std::alloc::Global;
 use tt_base::{Bytes, Items, NoMemory};
 use tt_outside::{
@@ -69,8 +69,8 @@ pub(crate) fn test_at_w(alloc: Global) -> Result<Test, NoMemory> {
 }
 
 fn ended(alloc: Global, finish: Finish, out: &str, err: &str) -> Result<Reply, NoMemory> {
-    let out = bytes_of(alloc, out)?;
-    let err = bytes_of(alloc, err)?;
+    let out = shared_of(alloc, out)?;
+    let err = shared_of(alloc, err)?;
     Ok(Reply::Status { finish, out, err })
 }
 
@@ -94,7 +94,7 @@ fn reply_of(alloc: Global, word: &str) -> Result<Reply, NoMemory> {
     match word.bytes().next() {
         Some(b'c') => coded(alloc, rest),
         Some(b's') => ended(alloc, Finish::Signal(11), "", ""),
-        Some(b'f') => Ok(Reply::Bytes(bytes_of(alloc, rest)?)),
+        Some(b'f') => Ok(Reply::Bytes(shared_of(alloc, rest)?)),
         Some(b'm') => Ok(Reply::Missing),
         Some(b't') => Ok(Reply::TooLarge(Stream::File)),
         Some(b'o') => Ok(Reply::TooLarge(Stream::Out)),
@@ -118,7 +118,7 @@ fn planned(alloc: Global, word: &str) -> Result<Planned, NoMemory> {
 pub(crate) fn crew_of(alloc: Global, file: Option<&str>, words: &str) -> Result<MemCrew, NoMemory> {
     let mut replies = Items::new(alloc);
     if let Some(file) = file {
-        let reply = Reply::Bytes(bytes_of(alloc, file)?);
+        let reply = Reply::Bytes(shared_of(alloc, file)?);
         replies.push(Planned {
             test: 0,
             earlier: 0,

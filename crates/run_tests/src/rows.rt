@@ -2,6 +2,7 @@
 //! no text has.
 use std::alloc::Global;
 use tt_base::{Bytes, NoMemory};
+use tt_outside::SharedBytes;
 
 /// The three fields of a row.
 pub(crate) fn three(row: &str) -> Option<(&str, &str, &str)> {
@@ -22,4 +23,9 @@ pub(crate) fn bytes_of(alloc: Global, field: &str) -> Result<Bytes, NoMemory> {
         bytes.append(&[byte])?;
     }
     Ok(bytes)
+}
+
+/// The same, to be shared.
+pub(crate) fn shared_of(alloc: Global, field: &str) -> Result<SharedBytes, NoMemory> {
+    SharedBytes::new(alloc, bytes_of(alloc, field)?)
 }

@@ -2,7 +2,7 @@
 use crate::crews::{crew_of, test_at_w};
 use crate::rows::{bytes_of, three};
 use lit_test::{Trial, run_test};
-use std::alloc::Global;
+use std::alloc::{AllocError, Global};
 use tt_base::{Bytes, NoMemory};
 use tt_outside::{Crew, Test};
 
@@ -29,7 +29,7 @@ fn shown(alloc: Global, trial: &Trial) -> Result<Bytes, NoMemory> {
     out.append(b" ")?;
     out.append(&[b'0' + (trial.entries.len() % 10) as u8])?;
     out.append(b" ")?;
-    out.append(trial.text.as_slice())?;
+    trial.text.add_to(&mut out)?;
     Ok(out)
 }
 
@@ -117,6 +117,39 @@ x~RUN: p %(line) %(line-1) => 2c0 => PASS 3 RUN: line 2: p 2 1~";
 fn lines_that_began_are_told_with_their_commands(rt: HostRuntime) -> Result<(), NoMemory> {
     for row in TRANSCRIPTS.lines() {
         assert!(rt; is_told(rt.alloc(), row)?, "{row}");
+    }
+    Ok(())
+}
+
+/// A row in which each `*` is 2,000 bytes.
+fn grown(alloc: Global, row: &str) -> Result<String, AllocError> {
+    let mut grown = String::new(alloc);
+    for (at, part) in row.split('*').enumerate() {
+        if at > 0 {
+            for _ in 0..2000 {
+                grown.push('x')?;
+            }
+        }
+        grown.push_str(part)?;
+    }
+    Ok(grown)
+}
+
+/// The same rows, in which `*` stands for many bytes.
+const LONG: &str = "RUN: p => 2c0* => PASS 3 RUN: line 1: p~# output:~*~
+RUN: p => 2c1*~!y*~ => FAIL 3 RUN: line 1: p~# output:~*~# errors:~y*~# status: 1~
+RUN: p 2>&1 => 2c0*!y* => PASS 3 RUN: line 1: p 2>&1~# output:~*y*~
+RUN: p 1>&2 => 2c0*!y* => PASS 3 RUN: line 1: p 1>&2~# errors:~*y*~
+RUN: p | q => 2c0* 3c0*z => PASS 4 RUN: line 1: p | q~# output:~*z~
+RUN: p > f 2>&1; q => 2c0*!* 4c0* => PASS 5 RUN: line 1: p > f 2>&1; q~# output:~*~
+RUN: p~RUN: q => 2c0* 3c3 => FAIL 4 RUN: line 1: p~# output:~*~RUN: line 2: q~# status: 3~";
+
+#[test]
+fn long_streams_are_told_whole(rt: HostRuntime) -> Result<(), AllocError> {
+    let alloc = rt.alloc();
+    for row in LONG.lines() {
+        let row = grown(alloc, row)?;
+        assert!(rt; is_told(alloc, row.as_str()).or(Err(AllocError))?, "{row}");
     }
     Ok(())
 }

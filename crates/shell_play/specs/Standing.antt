@@ -56,7 +56,7 @@ files_by test r ending before = write_files ending.writes (onward test r ending.
 -- where it left these streams
 abbrev pub streamed_by : Test → Running → List Note → Output → List Told → PlayCourse
 streamed_by test r notes output before =
-    streamed (task test r) (onward test r) before (record (quiet r.line) { notes = notes }) output.out.now output.err.now output.status
+    streamed (task test r) (onward test r) before (record (quiet r.line) { notes = notes }) output.out output.err output.status
 
 -- and behind the replies to the ReadFile of its input, to its Spawn, and to a WriteFile before the files that are left
 abbrev pub read_by : Test → Running → List ℕ → Reply → List Told → PlayCourse

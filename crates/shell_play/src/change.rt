@@ -13,7 +13,7 @@ use crate::tools::tooled;
 use mini_shell::{Command, Redir};
 use std::alloc::Global;
 use tt_base::{Bytes, Items, NoMemory};
-use tt_outside::{Finish, Reply, Test};
+use tt_outside::{Finish, Reply, SharedBytes, Test};
 
 /// What is told now of the command at hand, and what is due next.
 #[derive(Drop)]
@@ -64,7 +64,7 @@ fn copy_running<'a>(alloc: Global, running: &Running<'a>) -> Result<Running<'a>,
 pub struct Ending {
     pub told: Told,
     pub writes: Items<Write>,
-    pub flow: Bytes,
+    pub flow: SharedBytes,
     pub status: u32,
 }
 
@@ -105,16 +105,16 @@ fn write_files<'a>(
 #[derive(Drop)]
 struct Poured {
     writes: Items<Write>,
-    errors: Bytes,
-    flow: Bytes,
+    errors: SharedBytes,
+    flow: SharedBytes,
 }
 
 fn pour(
     alloc: Global,
     dir: &[u8],
     redirs: &[Redir],
-    out: &[u8],
-    err: &[u8],
+    out: &SharedBytes,
+    err: &SharedBytes,
 ) -> Result<Poured, NoMemory>
     ensures { IfOk result (IsPoured (places_of dir.now redirs.now) out.now err.now) }
 {
@@ -136,22 +136,22 @@ fn is_none_left(commands: &[Command]) -> bool
 }
 
 /// What comes to the transcript of a pipe's last command, and what goes on behind another one.
-fn shown_or_passed(alloc: Global, last: bool, flow: Bytes) -> (Bytes, Bytes)
+fn shown_or_passed(last: bool, flow: SharedBytes) -> (SharedBytes, SharedBytes)
     ensures shown { result.0 ≡ if last then flow else [] }
     ensures passed { result.1 ≡ if last then [] else flow }
 {
     if last {
-        (flow, Bytes::new(alloc))
+        (flow, SharedBytes::none())
     } else {
-        (Bytes::new(alloc), flow)
+        (SharedBytes::none(), flow)
     }
 }
 
 /// What a command left: its streams, and its status.
 #[derive(Drop)]
-pub struct Output<'s> {
-    pub out: &'s [u8],
-    pub err: &'s [u8],
+pub struct Output {
+    pub out: SharedBytes,
+    pub err: SharedBytes,
     pub status: u32,
 }
 
@@ -161,7 +161,7 @@ fn streamed<'a>(
     test: &Test,
     running: &Running<'a>,
     notes: Items<Note>,
-    output: &Output<'_>,
+    output: &Output,
 ) -> Result<Change<'a>, NoMemory>
     requires few { running.now.line + length running.now.lines.now < 1000 }
     ensures few { IfOk result (λ change. AreFew change.stage) }
@@ -172,8 +172,8 @@ fn streamed<'a>(
         alloc,
         running.dir.as_slice(),
         running.command.redirs.as_slice(),
-        output.out,
-        output.err,
+        &output.out,
+        &output.err,
     )?;
     let Poured {
         writes,
@@ -181,7 +181,7 @@ fn streamed<'a>(
         flow,
     } = poured;
     let last = is_none_left(running.commands);
-    let (shown, passed) = shown_or_passed(alloc, last, flow);
+    let (shown, passed) = shown_or_passed(last, flow);
     let told = Told {
         line: running.line,
         notes,
@@ -223,12 +223,12 @@ fn one(alloc: Global, note: Note) -> Result<Items<Note>, NoMemory>
 }
 
 /// Nothing was written.
-fn silent(status: u32) -> Output<'static>
-    ensures { (result.out.now ≡ []) × (result.err.now ≡ []) × (result.status ≡ status) }
+fn silent(status: u32) -> Output
+    ensures { (result.out ≡ []) × (result.err ≡ []) × (result.status ≡ status) }
 {
     Output {
-        out: b"",
-        err: b"",
+        out: SharedBytes::none(),
+        err: SharedBytes::none(),
         status,
     }
 }
@@ -259,7 +259,7 @@ fn by_read<'a>(
 {
     match reply {
         Reply::Bytes(bytes) => {
-            let input = Bytes::from_slice(alloc, bytes.as_slice())?;
+            let input = bytes.share()?;
             let copy = copy_running(alloc, running)?;
             Ok(Change {
                 now: Told::quiet(alloc, running.line),
@@ -294,8 +294,8 @@ fn by_spawn<'a>(
     match reply {
         Reply::Status { finish, out, err } => {
             let output = Output {
-                out: out.as_slice(),
-                err: err.as_slice(),
+                out: out.share()?,
+                err: err.share()?,
                 status: status_of(*finish),
             };
             streamed(alloc, test, running, Items::new(alloc), &output)
@@ -317,7 +317,7 @@ fn add_writes(alloc: Global, writes: &mut Items<Write>, more: &[Write]) -> Resul
     for write in more {
         writes.push(Write {
             path: Bytes::from_slice(alloc, write.path.as_slice())?,
-            bytes: Bytes::from_slice(alloc, write.bytes.as_slice())?,
+            bytes: write.bytes.share()?,
             append: write.append,
         })?;
     }
@@ -412,7 +412,7 @@ pub(crate) fn change_by<'a>(
             };
             let last = last_told(alloc, running.line, told)?;
             let files = same_writes(alloc, left)?;
-            let passed = Bytes::from_slice(alloc, flow.as_slice())?;
+            let passed = flow.share()?;
             let ending = Ending {
                 told: last,
                 writes: files,

@@ -64,7 +64,7 @@ fn request_of(
             )?,
             dir: text(alloc, &running.dir)?,
             env: pairs(alloc, test.environment.as_slice())?,
-            input: text(alloc, input)?,
+            input: input.share()?,
             limit: LIMIT,
         }),
         Wants::Files(writes, _, _) => {
@@ -73,7 +73,7 @@ fn request_of(
             };
             Ok(Request::WriteFile {
                 path: text(alloc, &first.path)?,
-                bytes: text(alloc, &first.bytes)?,
+                bytes: first.bytes.share()?,
                 append: first.append,
             })
         }

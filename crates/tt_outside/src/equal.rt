@@ -2,6 +2,7 @@
 ghost use Rattle.std.specs.Prelude.{◌≡◌, ◌++◌, ◌↔◌, IfOk, IsTrue, OnOk};
 
 use crate::request::{Entry, Pair, Reply, Request};
+use crate::shared::SharedBytes;
 use crate::test_data::Test;
 use std::alloc::Global;
 use tt_base::{Bytes, Items, NoMemory};
@@ -53,6 +54,13 @@ pub fn pairs(alloc: Global, items: &[Pair]) -> Result<Items<Pair>, NoMemory>
 
 /// Whether two texts are equal.
 fn same_text(one: &Bytes, other: &Bytes) -> bool
+    ensures { IsTrue result ↔ (one.now ≡ other.now) }
+{
+    one.as_slice() == other.as_slice()
+}
+
+/// Whether bytes that may be shared are equal.
+fn same_bytes(one: &SharedBytes, other: &SharedBytes) -> bool
     ensures { IsTrue result ↔ (one.now ≡ other.now) }
 {
     one.as_slice() == other.as_slice()
@@ -152,7 +160,7 @@ impl Test {
 }
 
 impl Request {
-    /// An equal request.
+    /// An equal request, which shares its input or its bytes with the first.
     pub fn copy(&self, alloc: Global) -> Result<Request, NoMemory>
         ensures { IfOk result (λ copy. copy ≡ self.now) }
     {
@@ -170,7 +178,7 @@ impl Request {
                 append,
             } => Ok(Request::WriteFile {
                 path: text(alloc, path)?,
-                bytes: text(alloc, bytes)?,
+                bytes: bytes.share()?,
                 append: *append,
             }),
             Request::Spawn {
@@ -183,7 +191,7 @@ impl Request {
                 words: texts(alloc, words)?,
                 dir: text(alloc, dir)?,
                 env: pairs(alloc, env.as_slice())?,
-                input: text(alloc, input)?,
+                input: input.share()?,
                 limit: *limit,
             }),
         }
@@ -215,7 +223,7 @@ impl Request {
                     bytes: written,
                     append: appended,
                 },
-            ) => same_text(path, second) && same_text(bytes, written) && append == appended,
+            ) => same_text(path, second) && same_bytes(bytes, written) && append == appended,
             (
                 Request::Spawn {
                     words,
@@ -235,7 +243,7 @@ impl Request {
                 same_texts(words.as_slice(), more.as_slice())
                     && same_text(dir, second)
                     && same_pairs(env.as_slice(), pairs.as_slice())
-                    && same_text(input, read)
+                    && same_bytes(input, read)
                     && limit == most
             }
             _ => false,
@@ -249,7 +257,7 @@ impl Reply {
         ensures { IsTrue result ↔ (self.now ≡ other.now) }
     {
         match (self, other) {
-            (Reply::Bytes(bytes), Reply::Bytes(read)) => same_text(bytes, read),
+            (Reply::Bytes(bytes), Reply::Bytes(read)) => same_bytes(bytes, read),
             (Reply::Written, Reply::Written) => true,
             (Reply::Missing, Reply::Missing) => true,
             (
@@ -259,7 +267,7 @@ impl Reply {
                     out: written,
                     err: told,
                 },
-            ) => finish == end && same_text(out, written) && same_text(err, told),
+            ) => finish == end && same_bytes(out, written) && same_bytes(err, told),
             (Reply::TooLarge(stream), Reply::TooLarge(other)) => stream == other,
             (Reply::Broken, Reply::Broken) => true,
             _ => false,
@@ -274,7 +282,7 @@ impl Entry {
     {
         Ok(Entry {
             request: self.request.copy(alloc)?,
-            reply: self.reply.copy(alloc)?,
+            reply: self.reply.copy()?,
         })
     }
 

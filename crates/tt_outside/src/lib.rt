@@ -38,7 +38,7 @@ pub use mem_tree::MemTree;
 pub use planned::Planned;
 pub use request::{Entry, Finish, Pair, Reply, Request, Stream, fits};
 pub use seats::{Seats, Work};
-pub use shared::SharedItems;
+pub use shared::{SharedBytes, SharedItems};
 pub use sharing::law_of_sharing;
 pub use sink::Sink;
 pub use source::{Failed, Source};

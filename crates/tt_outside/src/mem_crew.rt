@@ -43,12 +43,12 @@ impl Runner for MemHand {
 
     fn ask(
         &mut self,
-        alloc: Global,
+        _alloc: Global,
         earlier: &[Entry],
         request: &Request,
     ) -> Result<Reply, NoMemory> {
         let plan = self.plan.as_slice();
-        let reply = reply_planned(alloc, plan, self.test, earlier.len() as u64, request)?;
+        let reply = reply_planned(plan, self.test, earlier.len() as u64, request)?;
         self.work.count(&reply);
         Ok(reply)
     }

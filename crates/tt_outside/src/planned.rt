@@ -18,19 +18,6 @@ pub struct Planned {
     pub reply: Reply,
 }
 
-impl Planned {
-    /// An equal plan.
-    fn copy(&self, alloc: Global) -> Result<Planned, NoMemory>
-        ensures { IfOk result (λ copy. copy ≡ self.now) }
-    {
-        Ok(Planned {
-            test: self.test,
-            earlier: self.earlier,
-            reply: self.reply.copy(alloc)?,
-        })
-    }
-}
-
 /// The first plan for a test and so many entries.
 fn find_planned(plan: &[Planned], test: u64, earlier: u64) -> Option<&Planned>
     ensures { option_map (λ planned. planned.now) result ≡ first_planned plan.now test earlier }
@@ -52,7 +39,6 @@ fn reply_unplanned(request: &Request) -> Reply
 
 /// The reply of a plan.
 pub(crate) fn reply_planned(
-    alloc: Global,
     plan: &[Planned],
     test: u64,
     earlier: u64,
@@ -66,7 +52,7 @@ pub(crate) fn reply_planned(
     if !fits(request, &planned.reply) {
         return Ok(reply_unplanned(request));
     }
-    planned.reply.copy(alloc)
+    planned.reply.copy()
 }
 
 /// A plan, and from the first hire on one that hands share.

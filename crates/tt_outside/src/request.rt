@@ -2,7 +2,7 @@
 ghost use Rattle.std.specs.Prelude.{◌≡◌, IfOk, IsTrue};
 ghost use Rattle.tt_outside.specs.Fits.{fits};
 
-use std::alloc::Global;
+use crate::shared::SharedBytes;
 use tt_base::{Bytes, Items, NoMemory};
 
 /// A name and its value.
@@ -27,7 +27,7 @@ pub enum Request {
     /// A file with these bytes, written anew or behind what it has.
     WriteFile {
         path: Bytes,
-        bytes: Bytes,
+        bytes: SharedBytes,
         append: bool,
     },
     /// A program, by its name and its words, run to its end in a directory, with this environment beside the
@@ -36,7 +36,7 @@ pub enum Request {
         words: Items<Bytes>,
         dir: Bytes,
         env: Items<Pair>,
-        input: Bytes,
+        input: SharedBytes,
         limit: u64,
     },
 }
@@ -60,7 +60,7 @@ pub enum Stream {
 #[derive(Drop, Debug)]
 pub enum Reply {
     /// The file's bytes.
-    Bytes(Bytes),
+    Bytes(SharedBytes),
     /// The file or the directory is there.
     Written,
     /// There is no such file or program, or no directory for the file.
@@ -68,8 +68,8 @@ pub enum Reply {
     /// The program ended, and wrote this.
     Status {
         finish: Finish,
-        out: Bytes,
-        err: Bytes,
+        out: SharedBytes,
+        err: SharedBytes,
     },
     /// More bytes than the limit.
     TooLarge(Stream),
@@ -107,18 +107,18 @@ pub fn fits(request: &Request, reply: &Reply) -> bool
 }
 
 impl Reply {
-    /// An equal reply.
-    pub fn copy(&self, alloc: Global) -> Result<Reply, NoMemory>
+    /// An equal reply, which shares its bytes with the first.
+    pub fn copy(&self) -> Result<Reply, NoMemory>
         ensures { IfOk result (λ copy. copy ≡ self.now) }
     {
         match self {
-            Reply::Bytes(bytes) => Ok(Reply::Bytes(Bytes::from_slice(alloc, bytes.as_slice())?)),
+            Reply::Bytes(bytes) => Ok(Reply::Bytes(bytes.share()?)),
             Reply::Written => Ok(Reply::Written),
             Reply::Missing => Ok(Reply::Missing),
             Reply::Status { finish, out, err } => Ok(Reply::Status {
                 finish: *finish,
-                out: Bytes::from_slice(alloc, out.as_slice())?,
-                err: Bytes::from_slice(alloc, err.as_slice())?,
+                out: out.share()?,
+                err: err.share()?,
             }),
             Reply::TooLarge(stream) => Ok(Reply::TooLarge(*stream)),
             Reply::Broken => Ok(Reply::Broken),

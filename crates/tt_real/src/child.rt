@@ -13,7 +13,7 @@ use std::io::{Error, ErrorKind, Read};
 use std::os::fd::{AsRawFd, RawFd};
 use std::process::{Child, ChildStderr, ChildStdout, Command, Processes, Stdio, SystemProcess};
 use tt_base::{Bytes, NoMemory};
-use tt_outside::{Finish, Reply};
+use tt_outside::{Finish, Reply, SharedBytes};
 
 /// How many bytes are read at once: as many as a pipe holds.
 const PIECE: usize = 1 << 16;
@@ -25,8 +25,8 @@ const PATIENCE: i32 = 10;
 #[derive(Drop)]
 struct Streams {
     told: Told,
-    out: Bytes,
-    err: Bytes,
+    out: SharedBytes,
+    err: SharedBytes,
 }
 
 /// One of a program's streams: where it is read, up to its end, and what was read.
@@ -209,7 +209,7 @@ fn streams_of(
     ensures { result.told ≡ Told.Whole → (length result.out ≤ limit) × (length result.err ≤ limit) }
 {
     let (Some(stdout), Some(stderr)) = (child.stdout.take(), child.stderr.take()) else {
-        return nothing(alloc, Told::Failed);
+        return nothing(Told::Failed);
     };
     let (mut out, mut err) = (Drain::new(alloc, stdout), Drain::new(alloc, stderr));
     let room = limit.saturating_add(PIECE as u64);
@@ -218,14 +218,21 @@ fn streams_of(
 }
 
 /// No bytes.
-fn nothing(alloc: Global, told: Told) -> Streams
+fn nothing(told: Told) -> Streams
     ensures { result.told ≡ told }
 {
     Streams {
         told,
-        out: Bytes::new(alloc),
-        err: Bytes::new(alloc),
+        out: SharedBytes::none(),
+        err: SharedBytes::none(),
     }
+}
+
+/// The bytes of a stream, to be shared. They aren't copied.
+fn shared(alloc: Global, bytes: Vec<u8>) -> Result<SharedBytes, NoMemory>
+    ensures { IfOk result (λ shared. shared ≡ bytes.items) }
+{
+    SharedBytes::new(alloc, Bytes::from_vec(bytes))
 }
 
 /// What was read, where both streams were read whole.
@@ -234,12 +241,11 @@ fn kept(alloc: Global, fault: Option<ErrorKind>, out: Vec<u8>, err: Vec<u8>, lim
 {
     let told = told_of(fault, out.as_slice(), err.as_slice(), limit);
     if told != Told::Whole {
-        return nothing(alloc, told);
+        return nothing(told);
     }
-    Streams {
-        told,
-        out: Bytes::from_vec(out),
-        err: Bytes::from_vec(err),
+    match (shared(alloc, out), shared(alloc, err)) {
+        (Ok(out), Ok(err)) => Streams { told, out, err },
+        (_, _) => nothing(Told::NoMemory),
     }
 }
 

@@ -10,7 +10,7 @@ use std::fs::{self, File};
 use std::io::{self, ErrorKind, Write};
 use std::{rt, str};
 use tt_base::{Bytes, NoMemory};
-use tt_outside::{FilesFault, Reply, Request, Stream};
+use tt_outside::{FilesFault, Reply, Request, SharedBytes, Stream};
 
 /// Files and directories that are read, made and written by their paths.
 pub(crate) trait Disk {
@@ -28,7 +28,7 @@ pub(crate) trait Disk {
     ghost writes: { Self → List ℕ → List ℕ → Bool → Done → Type 0 };
 
     /// Reads a file of at most `limit` bytes.
-    fn read(&self, alloc: Global, path: &str, limit: u64) -> Result<Bytes, FilesFault>
+    fn read(&self, alloc: Global, path: &str, limit: u64) -> Result<SharedBytes, FilesFault>
         ensures came { reads self.now path.now limit result }
         ensures within { IfOk result (λ bytes. length bytes ≤ limit) };
 
@@ -56,8 +56,12 @@ impl<'a, R: rt::Files> Disk for SystemDisk<'a, R> {
 
     ghost writes = { λ _ _ _ _ _. ⊤ };
 
-    fn read(&self, alloc: Global, path: &str, limit: u64) -> Result<Bytes, FilesFault> {
-        read_whole(self.rt, alloc, path, limit)
+    fn read(&self, alloc: Global, path: &str, limit: u64) -> Result<SharedBytes, FilesFault> {
+        let bytes = read_whole(self.rt, alloc, path, limit)?;
+        match SharedBytes::new(alloc, bytes) {
+            Ok(shared) => Ok(shared),
+            Err(NoMemory) => Err(FilesFault::NoMemory),
+        }
     }
 
     fn make(&self, path: &str) -> Result<(), ErrorKind> {
@@ -141,7 +145,7 @@ fn made_reply(answer: Result<(), ErrorKind>) -> Reply
 }
 
 /// Writes a file anew, or behind what it has.
-fn write_file<D: Disk>(disk: &D, path: &Bytes, bytes: &Bytes, append: bool) -> Reply
+fn write_file<D: Disk>(disk: &D, path: &Bytes, bytes: &SharedBytes, append: bool) -> Reply
     ensures value { IsWritten (D.writes disk.now) path.now bytes.now append result }
     ensures fit { fits (Request.WriteFile path.now bytes.now append) result ≡ true }
 {

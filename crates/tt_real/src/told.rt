@@ -7,8 +7,8 @@ ghost use Rattle.tt_real.specs.Reply.{finish_fed, finish_of, fits_program, past_
 use std::io::{Error, ErrorKind};
 use std::os::unix::process::ExitStatusExt;
 use std::process::ExitStatus;
-use tt_base::{Bytes, NoMemory};
-use tt_outside::{Finish, Reply, Stream};
+use tt_base::NoMemory;
+use tt_outside::{Finish, Reply, SharedBytes, Stream};
 
 /// What reading a program's two streams came to.
 #[derive(Clone, Copy, Debug, PartialEq, Eq)]
@@ -80,8 +80,8 @@ pub(crate) fn finish_fed(fault: Option<ErrorKind>, finish: Option<Finish>) -> Op
 pub(crate) fn reply_of(
     told: Told,
     finish: Option<Finish>,
-    out: Bytes,
-    err: Bytes,
+    out: SharedBytes,
+    err: SharedBytes,
     limit: u64,
 ) -> Result<Reply, NoMemory>
     requires { told ≡ Told.Whole → (length out ≤ limit) × (length err ≤ limit) }

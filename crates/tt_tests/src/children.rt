@@ -2,7 +2,7 @@
 use crate::rows::three;
 use std::alloc::{AllocError, Global};
 use tt_base::{Bytes, Items, NoMemory};
-use tt_outside::{Crew, Finish, Pair, Reply, Request, Runner, Stream};
+use tt_outside::{Crew, Finish, Pair, Reply, Request, Runner, SharedBytes, Stream};
 use tt_real::StdCrew;
 
 /// A variable.
@@ -25,7 +25,7 @@ fn spawn(alloc: Global, program: &str, input: &[u8], limit: u64) -> Result<Reque
         words,
         dir: Bytes::from_slice(alloc, b"/")?,
         env: pair(alloc)?,
-        input: Bytes::from_slice(alloc, input)?,
+        input: SharedBytes::from_slice(alloc, input)?,
         limit,
     })
 }

@@ -1,7 +1,9 @@
 //! Copies and comparisons of what a test asks and is answered, and bytes that move in pieces.
 use std::alloc::Global;
 use tt_base::{Bytes, Items, NoMemory};
-use tt_outside::{Entry, Finish, MemSink, MemSource, Pair, Reply, Request, Sink, Source, Stream};
+use tt_outside::{
+    Entry, Finish, MemSink, MemSource, Pair, Reply, Request, SharedBytes, Sink, Source, Stream,
+};
 
 fn text(alloc: Global, bytes: &[u8]) -> Result<Bytes, NoMemory> {
     Bytes::from_slice(alloc, bytes)
@@ -25,7 +27,7 @@ fn spawned(alloc: Global, word: &[u8], input: &[u8]) -> Result<Request, NoMemory
         words,
         dir: text(alloc, b"/w")?,
         env: pairs(alloc, b"LANG", b"C")?,
-        input: text(alloc, input)?,
+        input: SharedBytes::from_slice(alloc, input)?,
         limit: 10,
     })
 }
@@ -71,8 +73,8 @@ fn requests_are_equal_in_all_that_they_ask(rt: HostRuntime) -> Result<(), NoMemo
 fn ended(alloc: Global, out: &[u8]) -> Result<Reply, NoMemory> {
     Ok(Reply::Status {
         finish: Finish::Code(1),
-        out: text(alloc, out)?,
-        err: text(alloc, b"")?,
+        out: SharedBytes::from_slice(alloc, out)?,
+        err: SharedBytes::none(),
     })
 }
 
@@ -101,6 +103,24 @@ fn other_reply_is_the_same(alloc: Global) -> Result<bool, NoMemory> {
 fn entries_are_equal_in_request_and_reply(rt: HostRuntime) -> Result<(), NoMemory> {
     assert!(rt; copy_is_the_same(rt.alloc())?);
     assert!(rt; !other_reply_is_the_same(rt.alloc())?);
+    Ok(())
+}
+
+/// Whether each of two that hold bytes is given them, the second as the only one.
+fn are_given_to_both(alloc: Global) -> Result<bool, NoMemory> {
+    let one = SharedBytes::from_slice(alloc, b"abc")?;
+    let other = one.share()?;
+    let first = one.into_bytes(alloc)?;
+    let second = other.into_bytes(alloc)?;
+    Ok(first.as_slice() == b"abc".as_slice() && second.as_slice() == b"abc".as_slice())
+}
+
+#[test]
+fn shared_bytes_are_given_to_each_that_holds_them(rt: HostRuntime) -> Result<(), NoMemory> {
+    assert!(rt; are_given_to_both(rt.alloc())?);
+    let none = SharedBytes::new(rt.alloc(), Bytes::new(rt.alloc()))?;
+    assert!(rt; none.is_empty());
+    assert_eq!(rt; none.into_bytes(rt.alloc())?.len(), 0);
     Ok(())
 }
 

@@ -4,7 +4,7 @@ use std::alloc::Global;
 use tt_base::{Bytes, Items, NoMemory};
 use tt_outside::{
     Crew, Failed, Files, FilesFault, Left, MemCrew, MemFiles, MemSink, MemSource, Named, Planned,
-    Reply, Request, Runner, Sink, Source, TakeFault, take_all, write_all,
+    Reply, Request, Runner, SharedBytes, Sink, Source, TakeFault, take_all, write_all,
 };
 
 /// What taking a text up to a limit gives: its bytes, or that they are too many.
@@ -167,7 +167,7 @@ fn spawn(alloc: Global) -> Request {
         words: Items::new(alloc),
         dir: Bytes::new(alloc),
         env: Items::new(alloc),
-        input: Bytes::new(alloc),
+        input: SharedBytes::none(),
         limit: 1,
     }
 }

@@ -4,7 +4,7 @@ use crate::rows::three;
 use std::alloc::{AllocError, Global};
 use std::{fs, io, process};
 use tt_base::{Bytes, Items, NoMemory};
-use tt_outside::{Crew, Reply, Request, Runner};
+use tt_outside::{Crew, Reply, Request, Runner, SharedBytes};
 use tt_real::StdCrew;
 
 /// What a row asks of a path below a folder.
@@ -15,7 +15,7 @@ fn asked(alloc: Global, what: &str, path: &str, bytes: &str) -> Result<Request, 
         "read" => Ok(Request::ReadFile { path, limit: 6 }),
         _ => Ok(Request::WriteFile {
             path,
-            bytes: Bytes::from_slice(alloc, bytes.as_bytes())?,
+            bytes: SharedBytes::from_slice(alloc, bytes.as_bytes())?,
             append: what == "add",
         }),
     }

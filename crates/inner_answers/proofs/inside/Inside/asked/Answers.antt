@@ -12,6 +12,6 @@ returns c =
     let cut : take (length words - kept.peeling.core) (drop kept.peeling.core words) ≡ drop kept.peeling.core kept.words =
     take_rest words kept.peeling.core ∙ ap (drop kept.peeling.core) c.as_slice.ensures in
     c.in_ok-requests.ensures
-    ∙ (λ i. core_asks (texts (cut i)) (c.as_slice-dir.ensures i) (c.as_slice-env.ensures i) (c.as_slice-input.ensures i) c.in-Spawn.limit)
+    ∙ (λ i. core_asks (texts (cut i)) (c.as_slice-dir.ensures i) (c.as_slice-env.ensures i) c.in-Spawn.input c.in-Spawn.limit)
     ∙ asked_as c.in-Spawn.words c.in-Spawn.dir c.in-Spawn.env c.in-Spawn.input c.in-Spawn.limit c.args.request.now c.in-Spawn.is kept
     c.requires
