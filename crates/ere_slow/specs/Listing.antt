@@ -1,6 +1,7 @@
 -- What the slow program lists: all derivations of a tree from one place and with the same captures.
 -- Its own functions alone cite this. What its answers mean is said by `Derives` and `IsHit`.
-use Rattle.std.specs.Prelude.{ℕ, Bool, true, false, Option, Some, None, List, [], ◌∷◌, ◌++◌, ◌+◌, ◌-◌, ◌||◌, ◌&&◌, nat_lt, nat_le, cond, min, zero, suc, length, map, filter, slice_index}
+use Rattle.std.specs.Prelude.{◌≡◌, Vec, ℕ, Bool, true, false, Option, Some, None, List, [], ◌∷◌, ◌++◌, ◌+◌, ◌-◌, ◌||◌, ◌&&◌, nat_lt, nat_le, cond, min, zero, suc, length, map, filter, slice_index}
+use Rattle.std.specs.declared.alloc.Global.{Global}
 use Rattle.std.specs.List.{flat_map}
 use Rattle.std.specs.Str.{bytes_eq}
 use Rattle.std.specs.Char.{to_ascii_lowercase}
@@ -133,6 +134,10 @@ abbrev mutual
 abbrev pub all_at : Origin → Tree → List Found
 all_at o t = all_ways o.text.now t o.from (captures_of o.captures.now)
 
+-- that with nothing to choose, if the test holds
+abbrev pub leaf_at : Origin → Bool → ℕ → List Found
+leaf_at o test to = one_if test to (captures_of o.captures.now)
+
 -- that of a text
 abbrev pub text_at : Origin → Bool → List ℕ → List Found
 text_at o fold text = text_ways fold o.text.now o.from text (captures_of o.captures.now)
@@ -141,7 +146,34 @@ text_at o fold text = text_ways fold o.text.now o.from text (captures_of o.captu
 abbrev pub begin_at : Origin → List Begun
 begin_at o = begin o.text.now o.from (captures_of o.captures.now)
 
+-- the rows of trees one behind the other
+abbrev pub parts_at : Origin → Trees → List Begun
+parts_at o all = all_rows o.text.now all (begin_at o)
+
 -- the rows of at least so many members of a tree, and up to so many more that aren't empty
 abbrev pub members_at : Origin → Tree → ℕ → ℕ → List Begun
 members_at o t least more =
     at_most (all_ways o.text.now t) more (required (all_ways o.text.now t) least (begin_at o))
+
+-- THE PROGRAM'S LISTS
+
+-- the values are these derivations, or these rows
+abbrev pub Lists : List Found → Vec Derivation Global → Type 0
+Lists fs found = map found_of found.items ≡ fs
+
+abbrev pub ListsRows : List Begun → Vec Row Global → Type 0
+ListsRows bs rows = map begun_of rows.items ≡ bs
+
+-- each row with each derivation of a tree behind it
+abbrev pub each_longer : Bool → List ℕ → Tree → List Row → List Begun
+each_longer may_be_empty s t rows = go_on may_be_empty (all_ways s t) (map begun_of rows)
+
+-- behind what was there stands the row with each of these derivations behind it
+abbrev pub AddsBehind : Bool → Row → Vec Derivation Global → Vec Row Global → Vec Row Global → Type 0
+AddsBehind may_be_empty row found old new =
+    map begun_of new.items ≡ map begun_of old.items ++ each_behind may_be_empty (begun_of row) (map found_of found.items)
+
+-- behind what was there stand these derivations, of the alternative with this index
+abbrev pub AddsChosen : ℕ → Vec Derivation Global → Vec Derivation Global → Vec Derivation Global → Type 0
+AddsChosen index held old new =
+    map found_of new.items ≡ map found_of old.items ++ map (found_chosen index) (map found_of held.items)

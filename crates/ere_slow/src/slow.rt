@@ -1,15 +1,14 @@
 //! The derivations of an expression, listed one by one: the definitions as a plain, slow program, for small
 //! texts.
-ghost use Rattle.std.specs.Prelude.{◌≡◌, ℕ, ◌==◌, ◌++◌, ◌+◌, ◌<◌, ◌^◌, ◌↔◌, List, [], ◌∷◌, length, drop, MatchOption, IsTrue, IfOk, OnOk, map, slice_index};
+ghost use Rattle.std.specs.Prelude.{◌≡◌, ℕ, ◌==◌, ◌++◌, ◌+◌, ◌<◌, ◌^◌, ◌↔◌, List, [], ◌∷◌, length, drop, IsTrue, IfOk, OnOk, map, slice_index};
 ghost use Rattle.ere_tree.specs.Derivation.{part, parts, members};
-ghost use Rattle.ere_slow.specs.Listing.{found_of, begun_of, one_if, stands, is_one_of, further, each_behind, found_of_row, found_chosen, found_inside, all_ways, all_rows, all_at, text_at, begin_at, members_at};
-ghost use Rattle.ere_slow.specs.Listing as listing;
+ghost use Rattle.ere_slow.specs.Listing.{found_of, begun_of, stands, is_one_of, further, found_of_row, found_inside, all_ways, all_at, leaf_at, text_at, begin_at, parts_at, members_at, each_longer, Lists, ListsRows, AddsBehind, AddsChosen};
 ghost use Rattle.ere_tree.specs.Tree as trees;
 ghost use Rattle.ere_tree.specs.View.{view, trees_in, members_of};
 ghost use Rattle.std.specs.FinMap.{empty};
 ghost use Rattle.ere_tree.specs.Captures.{cap_of, caps_of};
-ghost use Rattle.ere_tree.specs.Hit.{IsHit, HasNoHit, TellsHit, FindsHit};
-ghost use Rattle.ere_slow.specs.Slow.{AreDerivations, AreAllDerivations, IsPreferredTo, IsMostPreferred, FitBehind, HasNoHitBefore};
+ghost use Rattle.ere_tree.specs.Hit.{FindsHit};
+ghost use Rattle.ere_slow.specs.Slow.{AreDerivations, AreAllDerivations, IsPreferredTo, IsMostPreferred, IsBestOf, FitBehind, HasNoHitBefore, ShowsHit, TellsHitOf, DerivesFrom, FindsDerived, FindsHitAt};
 ghost use Rattle.ere_slow.specs.WayView.{captures_of};
 
 use crate::begin::may_begin;
@@ -88,8 +87,7 @@ fn leaf_if(
     to: usize,
     limit: &mut Limit,
 ) -> Result<Vec<Derivation>, AllocError>
-    ensures { IfOk result (λ found. map found_of found.items
-        ≡ one_if test to (captures_of origin.now.captures.now)) }
+    ensures { IfOk result (Lists (leaf_at origin.now test to)) }
 {
     let mut found = Vec::new(alloc);
     if test {
@@ -112,7 +110,7 @@ fn text_ways(
     fold: bool,
     limit: &mut Limit,
 ) -> Result<Vec<Derivation>, AllocError>
-    ensures { IfOk result (λ found. map found_of found.items ≡ text_at origin.now fold bytes.now) }
+    ensures { IfOk result (Lists (text_at origin.now fold bytes.now)) }
 {
     if stands_at(origin.text, origin.from, bytes, fold) {
         leaf_if(alloc, origin, true, origin.from + bytes.len(), limit)
@@ -128,8 +126,7 @@ fn set_ways(
     set: &ByteSet,
     limit: &mut Limit,
 ) -> Result<Vec<Derivation>, AllocError>
-    ensures { IfOk result (λ found. map found_of found.items
-        ≡ all_at origin.now (trees.set (members_of set.now.bits))) }
+    ensures { IfOk result (Lists (all_at origin.now (trees.set (members_of set.now.bits)))) }
 {
     if is_in_set_at(set, origin.text, origin.from) {
         leaf_if(alloc, origin, true, origin.from + 1, limit)
@@ -147,9 +144,7 @@ fn put_behind(
     rows: &mut Vec<Row>,
     limit: &mut Limit,
 ) -> Result<(), AllocError>
-    ensures { OnOk result (map begun_of rows.new.items ≡
-        map begun_of rows.old.items
-        ++ each_behind may_be_empty (begun_of row.now) (map found_of found.items)) }
+    ensures { OnOk result (AddsBehind may_be_empty row.now found rows.old rows.new) }
 {
     let steps = row.ways.steps().saturating_add(1);
     for one in found {
@@ -180,8 +175,7 @@ fn go_on(
     may_be_empty: bool,
     limit: &mut Limit,
 ) -> Result<Vec<Row>, AllocError>
-    ensures { IfOk result (λ longer. map begun_of longer.items ≡
-        listing.go_on may_be_empty (all_ways text.now (view ere.now)) (map begun_of rows.now)) }
+    ensures { IfOk result (ListsRows (each_longer may_be_empty text.now (view ere.now) rows.now)) }
 {
     let mut longer = Vec::new(alloc);
     for row in rows {
@@ -198,7 +192,7 @@ fn go_on(
 
 /// The row of no derivation, at a place of the text.
 fn start(alloc: Global, origin: &Origin<'_>, limit: &mut Limit) -> Result<Vec<Row>, AllocError>
-    ensures { IfOk result (λ rows. map begun_of rows.items ≡ begin_at origin.now) }
+    ensures { IfOk result (ListsRows (begin_at origin.now)) }
 {
     let mut rows = Vec::new(alloc);
     if origin.from > origin.text.len() {
@@ -225,8 +219,7 @@ fn rows_of_parts(
     origin: &Origin<'_>,
     limit: &mut Limit,
 ) -> Result<Vec<Row>, AllocError>
-    ensures { IfOk result (λ rows. map begun_of rows.items ≡
-        all_rows origin.now.text.now (trees_in all.now) (begin_at origin.now)) }
+    ensures { IfOk result (ListsRows (parts_at origin.now (trees_in all.now))) }
 {
     let mut rows = start(alloc, origin, limit)?;
     for part in all.as_slice() {
@@ -245,7 +238,7 @@ fn rows_of_members(
     more: usize,
     limit: &mut Limit,
 ) -> Result<Vec<Row>, AllocError>
-    ensures { IfOk result (λ rows. map begun_of rows.items ≡ members_at origin.now (view inner.now) least more) }
+    ensures { IfOk result (ListsRows (members_at origin.now (view inner.now) least more)) }
 {
     let mut rows = start(alloc, origin, limit)?;
     for _ in 0..least {
@@ -266,8 +259,7 @@ fn rows_of_members(
 
 /// The derivations of a concatenation from those of its parts in a row.
 fn found_parts(alloc: Global, rows: Vec<Row>) -> Result<Vec<Derivation>, AllocError>
-    ensures { IfOk result (λ found. map found_of found.items ≡
-        map (found_of_row parts) (map begun_of rows.items)) }
+    ensures { IfOk result (Lists (map (found_of_row parts) (map begun_of rows.items))) }
 {
     let mut found = Vec::new(alloc);
     for row in rows {
@@ -282,8 +274,7 @@ fn found_parts(alloc: Global, rows: Vec<Row>) -> Result<Vec<Derivation>, AllocEr
 
 /// The derivations of a repeat from those of its members in a row.
 fn found_members(alloc: Global, rows: Vec<Row>) -> Result<Vec<Derivation>, AllocError>
-    ensures { IfOk result (λ found. map found_of found.items ≡
-        map (found_of_row members) (map begun_of rows.items)) }
+    ensures { IfOk result (Lists (map (found_of_row members) (map begun_of rows.items))) }
 {
     let mut found = Vec::new(alloc);
     for row in rows {
@@ -304,8 +295,7 @@ fn found_in_group(
     from: usize,
     limit: &mut Limit,
 ) -> Result<Vec<Derivation>, AllocError>
-    ensures { IfOk result (λ found. map found_of found.items ≡
-        map (found_inside number from) (map found_of held.items)) }
+    ensures { IfOk result (Lists (map (found_inside number from) (map found_of held.items))) }
 {
     let mut found = Vec::new(alloc);
     for one in held {
@@ -330,8 +320,7 @@ fn put_chosen(
     found: &mut Vec<Derivation>,
     limit: &mut Limit,
 ) -> Result<(), AllocError>
-    ensures { OnOk result (map found_of found.new.items ≡
-        map found_of found.old.items ++ map (found_chosen index) (map found_of held.items)) }
+    ensures { OnOk result (AddsChosen index held found.old found.new) }
 {
     for one in held {
         limit.take(3)?;
@@ -353,7 +342,7 @@ fn ways_of_alternatives(
     origin: &Origin<'_>,
     limit: &mut Limit,
 ) -> Result<Vec<Derivation>, AllocError>
-    ensures { IfOk result (λ found. map found_of found.items ≡ all_at origin.now (trees.alt (trees_in all.now))) }
+    ensures { IfOk result (Lists (all_at origin.now (trees.alt (trees_in all.now)))) }
 {
     let mut found = Vec::new(alloc);
     for (index, one) in all.as_slice().iter().enumerate() {
@@ -385,8 +374,7 @@ fn ways_of_repeat(
     origin: &Origin<'_>,
     limit: &mut Limit,
 ) -> Result<Vec<Derivation>, AllocError>
-    ensures { IfOk result (λ found. map found_of found.items
-        ≡ all_at origin.now (trees.repeat (view inner.now) least most)) }
+    ensures { IfOk result (Lists (all_at origin.now (trees.repeat (view inner.now) least most))) }
 {
     match further_members(least, most, origin.text.len().saturating_sub(origin.from)) {
         None => Ok(Vec::new(alloc)),
@@ -405,7 +393,7 @@ fn ways_of(
     origin: &Origin<'_>,
     limit: &mut Limit,
 ) -> Result<Vec<Derivation>, AllocError>
-    ensures { IfOk result (λ found. map found_of found.items ≡ all_at origin.now (view ere.now)) }
+    ensures { IfOk result (Lists (all_at origin.now (view ere.now))) }
 {
     let text = origin.text;
     let from = origin.from;
@@ -447,10 +435,10 @@ pub fn derivations(
     from: usize,
     limit: &mut Limit,
 ) -> Result<Vec<Derivation>, AllocError>
-    ensures sound { IfOk result (λ found. AreDerivations text.now (view ere.now) from empty found.items) }
-    ensures complete { IfOk result (λ found.
-        AreAllDerivations text.now (view ere.now) from empty found.items) }
-    ensures order { IfOk result (λ found. map found_of found.items ≡ all_ways text.now (view ere.now) from empty) }
+    ensures sound { IfOk result (λ all. AreDerivations text.now (view ere.now) from empty all.items) }
+    ensures complete { IfOk result (λ all.
+        AreAllDerivations text.now (view ere.now) from empty all.items) }
+    ensures order { IfOk result (Lists (all_ways text.now (view ere.now) from empty)) }
 {
     let unset = Settings::none(alloc);
     let origin = Origin {
@@ -470,8 +458,7 @@ fn is_preferred(one: &Derivation, other: &Derivation) -> bool
 
 /// The most preferred of some derivations and one more.
 fn better(held: Option<Derivation>, one: Derivation) -> Derivation
-    ensures { (ds : List Derivation) → MatchOption held (ds ≡ []) (IsMostPreferred ds)
-        → IsMostPreferred (ds ++ one ∷ []) result }
+    ensures { (ds : List Derivation) → IsBestOf ds held → IsMostPreferred (ds ++ one ∷ []) result }
 {
     match held {
         None => one,
@@ -481,7 +468,7 @@ fn better(held: Option<Derivation>, one: Derivation) -> Derivation
 
 /// Of derivations from one place, one to which no other is preferred. None if there are none.
 fn most_preferred(found: Vec<Derivation>) -> Option<Derivation>
-    ensures { MatchOption result (found.items ≡ []) (IsMostPreferred found.items) }
+    ensures { IsBestOf found.items result }
 {
     let mut best = None;
     for one in found {
@@ -530,9 +517,7 @@ fn derived_from(
     limit: &mut Limit,
 ) -> Result<Option<Derivation>, AllocError>
     requires { HasNoHitBefore slice.now (view ere.now) start }
-    ensures { IfOk result (λ found. MatchOption found
-        (HasNoHitBefore slice.now (view ere.now) (start + 1))
-        (λ best. IsHit slice.now (view ere.now) start best.to (captures_of best.captures))) }
+    ensures { IfOk result (DerivesFrom slice.now (view ere.now) start) }
 {
     if !may_begin(ere, slice, start) {
         return Ok(None);
@@ -546,9 +531,7 @@ fn first_derived(
     ere: &Ere,
     slice: &[u8],
 ) -> Result<Option<(usize, Derivation)>, AllocError>
-    ensures { IfOk result (λ found. MatchOption found
-        (HasNoHit slice.now (view ere.now))
-        (λ hit. IsHit slice.now (view ere.now) hit.0 hit.1.to (captures_of hit.1.captures))) }
+    ensures { IfOk result (FindsDerived slice.now (view ere.now)) }
 {
     let mut limit = Limit::new();
     for start in 0..slice.len() + 1 {
@@ -576,10 +559,9 @@ fn raised(
     start: usize,
     best: &Derivation,
 ) -> Result<Hit, AllocError>
-    requires hit { IsHit slice.now (view ere.now) start best.now.to (captures_of best.now.captures) }
+    requires hit { ShowsHit slice.now (view ere.now) start best.now }
     requires fits { from + length slice.now < 2 ^ 64 }
-    ensures { IfOk result (λ hit. (text : List ℕ) → drop from text ≡ slice.now
-        → TellsHit text (view ere.now) from hit) }
+    ensures { IfOk result (TellsHitOf slice.now (view ere.now) from) }
 {
     let groups = all_caps(alloc, &best.captures, ere.groups(), from)?;
     Ok(Hit {
@@ -617,9 +599,7 @@ pub fn slow_hit_from(
     limit: &mut Limit,
 ) -> Result<Option<Hit>, AllocError>
     requires before { HasNoHitBefore (drop from text.now) (view ere.now) start }
-    ensures hit { IfOk result (λ found. MatchOption found
-        (HasNoHitBefore (drop from text.now) (view ere.now) (start + 1))
-        (TellsHit text.now (view ere.now) from)) }
+    ensures hit { IfOk result (FindsHitAt text.now (view ere.now) from start) }
 {
     let slice = behind(text, from);
     match derived_from(alloc, ere, slice, start, limit)? {
