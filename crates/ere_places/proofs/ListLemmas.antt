@@ -6,6 +6,7 @@ use Rattle.std.specs.Prelude.{◌⊎◌}
 use Rattle.std.specs.List.{Contains}
 use Rattle.std.proofs.lemmas.List.{take_more, take-append-le}
 use Rattle.std.proofs.lemmas.List.Elements.{Contains-append_left, Contains-push, Contains-push_cases}
+use Rattle.ere_places.specs.Places.{AreBoth}
 
 pub not_false : (v : Bool) → not v ≡ false → v ≡ true
 not_false true is = refl
@@ -58,10 +59,6 @@ same_stay old new list place more held same q = (to, back)
 
     back : Contains list q → IsTrue (new q)
     back h = more q ∙ or_left (old q) (q == place) ((same q).1 h)
-
--- the list has these places and those
-abbrev pub AreBoth : List ℕ → List ℕ → List ℕ → Type 0
-AreBoth old found list = (q : ℕ) → Contains list q ↔ (Contains old q ⊎ Contains found q)
 
 pub both_none : (old : List ℕ) → AreBoth old [] old
 both_none old q = (λ h. inl h, λ h. elim h [ inl is ↦ is | inr is ↦ absurd (omega (arith, is.1)) ])

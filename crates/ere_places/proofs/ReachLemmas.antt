@@ -20,10 +20,9 @@ use Rattle.ere_tree.specs.Tree.{Tree, cat, alt, repeat, trees_of}
 use Rattle.ere_places.specs.declared.window.Direction.{Direction}
 use Rattle.ere_places.specs.declared.window.Direction.TheVariants.{Ahead, Back}
 use Rattle.ere_places.specs.declared.window.Window.{Window}
-use Rattle.ere_places.specs.Places.{IsInside, Leads, LeadsInside, IsReached, AreReached}
+use Rattle.ere_places.specs.Places.{AreBoth, IsInside, Leads, LeadsInside, IsReached, AreReached}
 use Rattle.ere_places.specs.Seen.{is_beyond}
 use Rattle.ere_places.specs.Steps.{Chain, ChainUpTo, Through, ByOne, in_order, place_in, further_members}
-use Rattle.ere_places.proofs.ListLemmas.{AreBoth}
 use Rattle.ere_places.proofs.SpanLemmas.{spans_part}
 use Rattle.ere_places.proofs.StepsLemmas.{chain_push, chain_last}
 use Rattle.ere_places.proofs.WindowLemmas.{cat_steps, alt_steps, repeat_steps, repeat_nowhere}

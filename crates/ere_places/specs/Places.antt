@@ -1,7 +1,8 @@
 -- Places that an expression leads to.
 -- Own rule: what an expression spans is told place by place, in either direction, so that its spans need not be
 -- listed.
-use Rattle.std.specs.Prelude.{◌≡◌, ◌↔◌, ℕ, ◌+◌, ◌≤◌, Bool, true, false, List, [], ◌∷◌, length, ◌⊎◌}
+use Rattle.std.specs.Prelude.{◌≡◌, ◌↔◌, ℕ, ◌+◌, ◌≤◌, Bool, true, false, List, [], ◌∷◌, length, ◌⊎◌, Vec}
+use Rattle.std.specs.declared.alloc.Global.{Global}
 use Rattle.std.specs.List.{Contains}
 use Rattle.ere_tree.specs.Tree.{Tree, empty, plain, set, line_start, line_end}
 use Rattle.ere_tree.specs.Derivation.{Spans}
@@ -29,6 +30,17 @@ IsReached R from q = (p : ℕ) × Contains from p × R p q
 -- these are exactly the places to which the relation leads from some of those
 abbrev pub AreReached : (ℕ → ℕ → Type 0) → List ℕ → List ℕ → Type 0
 AreReached R from found = (q : ℕ) → Contains found q ↔ IsReached R from q
+
+-- the list has exactly those places; and exactly those of a window to which the tree leads
+abbrev pub Reaches : (ℕ → ℕ → Type 0) → List ℕ → Vec ℕ Global → Type 0
+Reaches R from found = AreReached R from found.items
+
+abbrev pub Finds : List ℕ → Tree → Window → List ℕ → Vec ℕ Global → Type 0
+Finds s t window from found = Reaches (LeadsInside s t window) from found
+
+-- the list has these places and those
+abbrev pub AreBoth : List ℕ → List ℕ → List ℕ → Type 0
+AreBoth old found list = (q : ℕ) → Contains list q ↔ (Contains old q ⊎ Contains found q)
 
 -- whether a tree has no trees inside
 abbrev pub is_leaf : Tree → Bool

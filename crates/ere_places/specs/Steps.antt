@@ -16,6 +16,10 @@ Chain R (suc n) p q = (r : ℕ) × R p r × Chain R n r q
 abbrev pub ChainUpTo : (ℕ → ℕ → Type 0) → ℕ → ℕ → ℕ → Type 0
 ChainUpTo R most p q = (n : ℕ) × (n ≤ most) × Chain R n p q
 
+-- up to so many members one behind the other
+abbrev pub MembersUpTo : List ℕ → Tree → Window → ℕ → ℕ → ℕ → Type 0
+MembersUpTo s t window most p q = ChainUpTo (LeadsInside s t window) most p q
+
 -- through each of the trees, in order
 abbrev pub Through : List ℕ → Window → List Tree → ℕ → ℕ → Type 0
 Through s window [] p q = p ≡ q

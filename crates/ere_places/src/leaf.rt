@@ -3,8 +3,9 @@ ghost use Rattle.std.specs.Prelude.{◌≡◌, ℕ, ◌↔◌, ◌≤◌, ◌+�
 ghost use Rattle.std.specs.List.{All};
 ghost use Rattle.ere_tree.specs.Derivation.{part};
 ghost use Rattle.ere_tree.specs.View.{view, members_of};
-ghost use Rattle.ere_places.specs.Places.{IsInside, OtherEnd, LeadsInside, AreReached, is_leaf};
+ghost use Rattle.ere_places.specs.Places.{IsInside, OtherEnd, LeadsInside, Finds, is_leaf};
 ghost use Rattle.ere_tree.specs.Tree as trees;
+ghost use Rattle.ere_tree.specs.Tree.{plain};
 
 use crate::window::{Direction, Window};
 use ere_tree::{ByteSet, Ere};
@@ -69,7 +70,7 @@ fn stands(text: &[u8], start: usize, bytes: &[u8]) -> bool
 fn past_bytes(text: &[u8], window: Window, place: usize, bytes: &[u8]) -> Option<usize>
     requires inside { IsInside window place }
     requires window { window.high ≤ length text.now }
-    ensures { (q : ℕ) → (result ≡ Some q) ↔ LeadsInside text.now (trees.plain bytes.now) window place q }
+    ensures { (q : ℕ) → (result ≡ Some q) ↔ LeadsInside text.now (plain bytes.now) window place q }
 {
     match other_end(window, place, bytes.len()) {
         Some((start, end)) => if stands(text, start, bytes) {
@@ -126,7 +127,7 @@ pub(crate) fn past_leaves(
     requires leaf { IsTrue (is_leaf (view ere.now)) }
     requires inside { All (IsInside window) from.now }
     requires window { window.high ≤ length text.now }
-    ensures { IfOk result (λ found. AreReached (LeadsInside text.now (view ere.now) window) from.now found.items) }
+    ensures { IfOk result (Finds text.now (view ere.now) window from.now) }
 {
     let mut found = Vec::new(alloc);
     for place in from {

@@ -1,6 +1,7 @@
 //! Lists of places, each once.
-ghost use Rattle.std.specs.Prelude.{◌≡◌, ℕ, ◌↔◌, ◌⊎◌, IsTrue, OnOk, take, length};
+ghost use Rattle.std.specs.Prelude.{◌≡◌, ℕ, ◌↔◌, IsTrue, OnOk, take, length};
 ghost use Rattle.std.specs.List.{Contains, All};
+ghost use Rattle.ere_places.specs.Places.{AreBoth};
 ghost use Rattle.ere_places.specs.Seen.{is_beyond, is_held};
 
 use crate::seen::Seen;
@@ -41,8 +42,7 @@ pub(crate) fn put_new(
     requires same { (q : ℕ) → IsTrue (is_held seen.old q) ↔ Contains list.old.items q }
     requires beyond { All (λ q. IsTrue (is_beyond seen.old.direction seen.old.base q)) found.now }
     ensures same { OnOk result ((q : ℕ) → IsTrue (is_held seen.new q) ↔ Contains list.new.items q) }
-    ensures all { OnOk result ((q : ℕ) → Contains list.new.items q
-        ↔ (Contains list.old.items q ⊎ Contains found.now q)) }
+    ensures all { OnOk result (AreBoth list.old.items found.now list.new.items) }
     ensures front { OnOk result (take (length list.old.items) list.new.items ≡ list.old.items) }
     ensures base { OnOk result (seen.new.base ≡ seen.old.base) }
     ensures direction { OnOk result (seen.new.direction ≡ seen.old.direction) }

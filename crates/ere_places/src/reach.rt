@@ -5,8 +5,8 @@ ghost use Rattle.ere_tree.specs.Shape.{has_refs, any_has_refs};
 ghost use Rattle.ere_tree.specs.Tree as trees;
 ghost use Rattle.ere_tree.specs.Tree.{trees_of};
 ghost use Rattle.ere_tree.specs.View.{view};
-ghost use Rattle.ere_places.specs.Places.{IsInside, LeadsInside, AreReached};
-ghost use Rattle.ere_places.specs.Steps.{ChainUpTo, Through, ByOne, in_order, place_in, further_members};
+ghost use Rattle.ere_places.specs.Places.{AreReached, Finds, IsInside, Reaches};
+ghost use Rattle.ere_places.specs.Steps.{ByOne, MembersUpTo, Through, in_order, place_in, further_members};
 
 use crate::leaf::past_leaves;
 use crate::list::{nearest, put_new};
@@ -63,8 +63,7 @@ fn by_one(
     requires no_refs { any_has_refs (trees_of (map view choices.now)) ≡ false }
     requires window { window.high ≤ length text.now }
     requires inside { All (IsInside window) from.now }
-    ensures { IfOk result (λ found. AreReached
-        (ByOne text.now window (map view choices.now)) from.now found.items) }
+    ensures { IfOk result (Reaches (ByOne text.now window (map view choices.now)) from.now) }
 {
     let mut seen = Seen::new(alloc, window.direction, nearest(window.direction, from));
     let mut all = Vec::new(alloc);
@@ -88,8 +87,7 @@ fn by_members(
     requires no_refs { has_refs (view inner.now) ≡ false }
     requires window { window.high ≤ length text.now }
     requires inside { All (IsInside window) from.now }
-    ensures { IfOk result (λ found. AreReached
-        (ChainUpTo (LeadsInside text.now (view inner.now) window) most) from.now found.items) }
+    ensures { IfOk result (Reaches (MembersUpTo text.now (view inner.now) window most) from.now) }
 {
     let mut seen = Seen::new(alloc, window.direction, nearest(window.direction, from));
     let mut all = Vec::new(alloc);
@@ -131,8 +129,7 @@ pub fn image_of_repeat(
     requires no_refs { has_refs (view inner.now) ≡ false }
     requires window { window.high ≤ length text.now }
     requires inside { All (IsInside window) from.now }
-    ensures { IfOk result (λ found. AreReached
-        (LeadsInside text.now (trees.repeat (view inner.now) least most) window) from.now found.items) }
+    ensures { IfOk result (Finds text.now (trees.repeat (view inner.now) least most) window from.now) }
 {
     match further_members(least, most, window.high.saturating_sub(window.low)) {
         None => Ok(Vec::new(alloc)),
@@ -159,8 +156,7 @@ pub fn image(
     requires no_refs { has_refs (view ere.now) ≡ false }
     requires window { window.high ≤ length text.now }
     requires inside { All (IsInside window) from.now }
-    ensures { IfOk result (λ found. AreReached
-        (LeadsInside text.now (view ere.now) window) from.now found.items) }
+    ensures { IfOk result (Finds text.now (view ere.now) window from.now) }
 {
     match ere {
         Ere::Cat(parts) => through(alloc, parts.as_slice(), text, window, from),

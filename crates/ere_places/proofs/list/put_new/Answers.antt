@@ -2,8 +2,9 @@
 -- A place that is new is pushed, another one stays.
 use Rattle.std.proofs.Common.{◌≡◌, ℕ, true, List, length, take, get_or, sym, ap, ◌∙◌, subst, ◌+◌}
 use Rattle.std.proofs.lemmas.List.{take_all}
+use Rattle.ere_places.specs.Places.{AreBoth}
 use Rattle.ere_places.specs.Seen.{is_held}
-use Rattle.ere_places.proofs.ListLemmas.{AreSame, AreBoth, not_false, same_push, same_stay, both_push, both_stay, front_push}
+use Rattle.ere_places.proofs.ListLemmas.{AreSame, not_false, same_push, same_stay, both_push, both_stay, front_push}
 use Rattle.ere_places.proofs.list.put_new.Goals as goal
 use Rattle.ere_places.proofs.list.put_new.Goals.{then-new+in_ok-push, else-new}
 

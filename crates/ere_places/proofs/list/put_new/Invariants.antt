@@ -1,6 +1,7 @@
 use Rattle.std.proofs.Common.{◌≡◌, length, take}
+use Rattle.ere_places.specs.Places.{AreBoth}
 use Rattle.ere_places.specs.Seen.{is_held}
-use Rattle.ere_places.proofs.ListLemmas.{AreSame, AreBoth}
+use Rattle.ere_places.proofs.ListLemmas.{AreSame}
 use Rattle.ere_places.proofs.list.put_new.Given as goal
 
 abbrev pub invariant-loop-place : goal.invariant-loop-place

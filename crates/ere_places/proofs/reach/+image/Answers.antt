@@ -15,10 +15,9 @@ use Rattle.ere_tree.specs.View.{view}
 use Rattle.ere_tree.specs.declared.ere.Ere.{Ere}
 use denote.Param.Weighed.{most}
 use Rattle.ere_tree.proofs.ere.Ere.TheLaws.{the_size}
-use Rattle.ere_places.specs.Places.{IsInside, LeadsInside, IsReached, AreReached}
+use Rattle.ere_places.specs.Places.{AreBoth, IsInside, LeadsInside, IsReached, AreReached}
 use Rattle.ere_places.specs.Seen.{is_beyond}
 use Rattle.ere_places.specs.Steps.{Chain, ChainUpTo, Through, ByOne, in_order, further_members}
-use Rattle.ere_places.proofs.ListLemmas.{AreBoth}
 use Rattle.ere_places.proofs.ReachLemmas.{Round, all_each, reached_inside, reached_beyond, through_more, through_over, through_reached, one_more, one_over, one_reached, round_more, round_first, round_last, round_over, least_more, least_over, repeat_reached, view_no_refs, at_order, length_order, views_from, then_both, turned, no_deeper}
 use Rattle.ere_places.proofs.WindowLemmas.{group_steps}
 use Rattle.ere_places.proofs.reach.+image.Goals as goal
