@@ -1,6 +1,6 @@
 //! Where the parts of a concatenation end.
 ghost use Rattle.std.specs.Prelude.{◌≡◌, ◌<◌, ◌≤◌, ◌∷◌, false, length, map, IfSome, IfOk, OnOk, vec_len};
-ghost use Rattle.ere_captures.specs.Walk.{AreRestsIn, IsPartEnd};
+ghost use Rattle.ere_captures.specs.Walk.{AreRestsIn, IsPartEnd, IsPartEndIn};
 ghost use Rattle.ere_places.specs.Places.{SpanAll};
 ghost use Rattle.ere_tree.specs.Shape.{has_refs, any_has_refs};
 ghost use Rattle.ere_tree.specs.Tree.{trees_of};
@@ -62,8 +62,7 @@ pub(crate) fn part_end(
     requires order { input.now.from ≤ from }
     requires span { SpanAll input.now.text.now (view first.now ∷ map view others.now) from input.now.to }
     requires held { AreRestsIn input.now others.now held.old }
-    ensures end { IfOk result
-        (IsPartEnd input.now.text.now (view first.now) (map view others.now) from input.now.to) }
+    ensures end { IfOk result (IsPartEndIn input.now first.now others.now from) }
     ensures held { AreRestsIn input.now others.now held.new }
 {
     let text = input.text;

@@ -1,6 +1,6 @@
 //! From which places the members of a repeat lead on to its end.
 ghost use Rattle.std.specs.Prelude.{◌≡◌, ◌-◌, ◌≤◌, false, length, IfOk};
-ghost use Rattle.ere_captures.specs.Walk.{less_one, RestIn};
+ghost use Rattle.ere_captures.specs.Walk.{less_one, RestIn, RestBehind};
 ghost use Rattle.ere_tree.specs.Shape.{has_refs};
 ghost use Rattle.ere_tree.specs.View.{view};
 
@@ -54,8 +54,8 @@ pub(crate) fn rest_behind(
     requires no_refs { has_refs (view inner.now) ≡ false }
     requires order { input.now.from ≤ input.now.to }
     requires within { input.now.to ≤ length input.now.text.now }
-    requires held { RestIn input.now (view inner.now) (least - 1) (less_one most) set }
-    ensures { IfOk result (RestIn input.now (view inner.now) (least - 1 - 1) (less_one (less_one most))) }
+    requires held { RestBehind input.now (view inner.now) least most set }
+    ensures { IfOk result (RestBehind input.now (view inner.now) (least - 1) (less_one most)) }
 {
     if least == 0 && most.is_none() {
         return Ok(set);

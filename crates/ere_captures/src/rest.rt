@@ -1,6 +1,6 @@
 //! Which ends lead on to the end of a span, and the greatest of them.
-ghost use Rattle.std.specs.Prelude.{◌≡◌, ℕ, ◌↔◌, ◌≤◌, false, length, IsTrue, IfOk};
-ghost use Rattle.ere_captures.specs.Walk.{IsGreatest, IsGreatestEnd, greater};
+ghost use Rattle.std.specs.Prelude.{◌≡◌, ◌↔◌, ◌≤◌, false, length, IsTrue, IfOk};
+ghost use Rattle.ere_captures.specs.Walk.{HasEnd, IsGreatest, IsGreatestEnd, greater};
 ghost use Rattle.ere_places.specs.Seen.{is_held};
 ghost use Rattle.ere_tree.specs.Derivation.{Spans};
 ghost use Rattle.ere_tree.specs.Shape.{has_refs};
@@ -45,7 +45,7 @@ pub(crate) fn greatest_end(
     requires no_refs { has_refs (view ere.now) ≡ false }
     requires order { from ≤ to }
     requires within { to ≤ length text.now }
-    requires some { (k : ℕ) × Spans text.now (view ere.now) from k × (k ≤ to) × IsTrue (is_held set.now k) }
+    requires some { HasEnd text.now (view ere.now) set.now from to }
     ensures { IfOk result (IsGreatestEnd text.now (view ere.now) set.now from to) }
 {
     let window = Window {

@@ -1,10 +1,8 @@
 //! The preferred way down an expression, and the captures that it sets.
 ghost use Rattle.std.specs.Prelude.{◌≡◌, ℕ, ◌+◌, ◌<◌, ◌≤◌, ◌^◌, false, length, map, IfOk, OnOk};
-ghost use Rattle.std.specs.FinMap.{insert};
 ghost use Rattle.ere_captures.specs.Best.{AreBestCaps};
-ghost use Rattle.ere_captures.specs.Walk.{SetsBest};
+ghost use Rattle.ere_captures.specs.Walk.{SetsGroup, SetsPart, SetsSpan, views};
 ghost use Rattle.ere_places.specs.Places.{SpanAll, SpanOne};
-ghost use Rattle.ere_tree.specs.Captures.{Captures, caps_of};
 ghost use Rattle.ere_tree.specs.Derivation.{Spans};
 ghost use Rattle.ere_tree.specs.Shape.{has_refs, any_has_refs, greatest_group, greatest_group_of};
 ghost use Rattle.ere_tree.specs.Tree as trees;
@@ -32,8 +30,7 @@ fn set_group(caps: &mut [Option<Cap>], number: u32, part: Part)
     requires number { number ≤ length caps.old }
     requires from { part.start + part.from < 2 ^ 64 }
     requires to { part.start + part.to < 2 ^ 64 }
-    ensures { (d : Captures) → caps.old ≡ caps_of part.start d (length caps.old)
-        → caps.new ≡ caps_of part.start (insert d number (part.from, part.to)) (length caps.old) }
+    ensures { SetsGroup part number caps.old caps.new }
 {
     if number > 0 {
         caps[(number - 1) as usize] = Some(Cap {
@@ -56,8 +53,7 @@ fn walk_parts(
     requires span { SpanAll text.now (map view parts.now) part.from part.to }
     requires room { greatest_group_of (trees_of (map view parts.now)) ≤ length caps.old }
     requires fits { part.start + length text.now < 2 ^ 64 }
-    ensures { OnOk result (SetsBest text.now (trees.cat (trees_of (map view parts.now))) part.start part.from part.to
-        (length caps.old) caps.old caps.new) }
+    ensures { OnOk result (SetsPart text.now (trees.cat (views parts.now)) part caps.old caps.new) }
 {
     let input = Input {
         text,
@@ -89,8 +85,7 @@ fn walk_one(
     requires span { SpanOne text.now (map view choices.now) part.from part.to }
     requires room { greatest_group_of (trees_of (map view choices.now)) ≤ length caps.old }
     requires fits { part.start + length text.now < 2 ^ 64 }
-    ensures { OnOk result (SetsBest text.now (trees.alt (trees_of (map view choices.now))) part.start part.from part.to
-        (length caps.old) caps.old caps.new) }
+    ensures { OnOk result (SetsPart text.now (trees.alt (views choices.now)) part caps.old caps.new) }
 {
     for one in choices {
         if spans(alloc, one, text, part.from, part.to)? {
@@ -115,8 +110,7 @@ fn walk_members(
     requires span { Spans text.now (trees.repeat (view inner.now) least most) part.from part.to }
     requires room { greatest_group (view inner.now) ≤ length caps.old }
     requires fits { part.start + length text.now < 2 ^ 64 }
-    ensures { OnOk result (SetsBest text.now (trees.repeat (view inner.now) least most) part.start part.from part.to
-        (length caps.old) caps.old caps.new) }
+    ensures { OnOk result (SetsPart text.now (trees.repeat (view inner.now) least most) part caps.old caps.new) }
 {
     let mut from = part.from;
     let mut least = least;
@@ -152,8 +146,7 @@ fn walk(
     requires span { Spans text.now (view ere.now) part.from part.to }
     requires room { greatest_group (view ere.now) ≤ length caps.old }
     requires fits { part.start + length text.now < 2 ^ 64 }
-    ensures { OnOk result (SetsBest text.now (view ere.now) part.start part.from part.to
-        (length caps.old) caps.old caps.new) }
+    ensures { OnOk result (SetsPart text.now (view ere.now) part caps.old caps.new) }
 {
     if ere.groups() == 0 {
         return Ok(());
@@ -188,8 +181,7 @@ pub fn set_captures(
     requires span { Spans slice.now (view ere.now) span.from span.to }
     requires room { greatest_group (view ere.now) ≤ length caps.old }
     requires fits { start + length slice.now < 2 ^ 64 }
-    ensures { OnOk result (SetsBest slice.now (view ere.now) start span.from span.to
-        (length caps.old) caps.old caps.new) }
+    ensures { OnOk result (SetsSpan slice.now (view ere.now) start span caps.old caps.new) }
 {
     let Cap { from, to } = span;
     walk(alloc, ere, slice, Part { start, from, to }, caps)
