@@ -1,6 +1,8 @@
 -- Places of a text, block by block, and those that are led to from them.
 -- Own rule: sets of places are told by a test, so that they need not be listed.
 use Rattle.std.specs.Prelude.{◌≡◌, ◌↔◌, ℕ, Bool, List, length, ◌/◌, ◌%◌, ◌==◌, ◌&&◌, ◌≤◌, ◌<◌, IsTrue}
+use Rattle.ere_tree.specs.Derivation.{Spans}
+use Rattle.ere_tree.specs.Tree.{Tree}
 use Rattle.ere_tree.specs.View.{has_bit}
 use Rattle.ere_places.specs.Steps.{Chain}
 use Rattle.ere_whole.specs.declared.places.Places.{Places}
@@ -24,6 +26,10 @@ AreReached R from found = (q : ℕ) → IsTrue (is_held found q) ↔ ((q / 256 �
 -- at least and at most so many steps
 abbrev pub ChainBetween : (ℕ → ℕ → Type 0) → ℕ → ℕ → ℕ → ℕ → Type 0
 ChainBetween R least most p q = (n : ℕ) × (least ≤ n) × (n ≤ most) × Chain R n p q
+
+-- these are exactly the places of their block to which at least and at most so many members lead from some of those
+abbrev pub AreMembers : List ℕ → Tree → ℕ → ℕ → Places → Places → Type 0
+AreMembers s t least most from found = AreReached (ChainBetween (Spans s t) least most) from found
 
 -- any number of steps
 abbrev pub ChainAny : (ℕ → ℕ → Type 0) → ℕ → ℕ → Type 0

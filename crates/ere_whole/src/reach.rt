@@ -6,7 +6,7 @@ ghost use Rattle.ere_tree.specs.Shape.{has_refs, any_has_refs};
 ghost use Rattle.ere_tree.specs.Tree.{trees_of, repeat};
 ghost use Rattle.ere_tree.specs.View.{view};
 ghost use Rattle.ere_places.specs.Places.{SpanAll, SpanOne};
-ghost use Rattle.ere_whole.specs.Places.{AreInside, AreReached, ChainAny, ChainBetween, PastBlock};
+ghost use Rattle.ere_whole.specs.Places.{AreInside, AreMembers, AreReached, ChainAny, PastBlock};
 
 use crate::leaf::past_leaf;
 use crate::places::{Places, WIDTH};
@@ -59,6 +59,26 @@ fn by_one(choices: &[Ere], text: &[u8], from: &Places, block: usize) -> Places
     found
 }
 
+/// The places of a block to which at least so many members lead, and at most one.
+#[cycle(image)]
+fn by_one_member(inner: &Ere, least: usize, text: &[u8], from: &Places, block: usize) -> Places
+    requires no_refs { has_refs (view inner.now) ≡ false }
+    requires bounds { least ≤ 1 }
+    requires order { from.now.block ≤ block }
+    requires within { block * 256 ≤ length text.now }
+    requires inside { AreInside text.now from.now }
+    ensures block { result.block ≡ block }
+    ensures exact { AreMembers text.now (view inner.now) least 1 from.now result }
+{
+    let mut found = image(inner, text, from, block);
+    if least == 1 {
+        return found;
+    }
+    let none_more = from.only_in(block);
+    found.add(&none_more);
+    found
+}
+
 /// The places of a block to which at least and at most so many members lead.
 #[cycle(image)]
 fn by_members(
@@ -75,8 +95,7 @@ fn by_members(
     requires within { block * 256 ≤ length text.now }
     requires inside { AreInside text.now from.now }
     ensures block { result.block ≡ block }
-    ensures exact { AreReached
-        (ChainBetween (Spans text.now (view inner.now)) least most) from.now result }
+    ensures exact { AreMembers text.now (view inner.now) least most from.now result }
 {
     if most == 0 {
         return from.only_in(block);
@@ -85,29 +104,17 @@ fn by_members(
         return Places::none(block);
     }
     if most == 1 {
-        let mut found = image(inner, text, from, block);
-        if least == 1 {
-            return found;
-        }
-        let none_more = from.only_in(block);
-        found.add(&none_more);
-        return found;
+        return by_one_member(inner, least, text, from, block);
     }
     let half = most / 2;
+    let rest = least.saturating_sub(half);
     let mut found = Places::none(block);
     for middle in from.block..block + 1 {
         let between = by_members(inner, least.min(half), half, text, from, middle);
         if least == 0 && block == from.block && between.is_same(from) {
             return between;
         }
-        let there = by_members(
-            inner,
-            least.saturating_sub(half),
-            most - half,
-            text,
-            &between,
-            block,
-        );
+        let there = by_members(inner, rest, most - half, text, &between, block);
         found.add(&there);
     }
     found

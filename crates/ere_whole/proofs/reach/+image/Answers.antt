@@ -1,7 +1,7 @@
 -- The functions that go through an expression: parts, alternatives, members, and the whole. Each loop adds what is
 -- reached through one block of middle places more, or by one alternative more; each return turns the relation that is
 -- reached so into what the tree spans. The hard ones are those of `by_any`, where one member leads into the later blocks.
-use Rattle.std.proofs.Common.{◌≡◌, ◌+◌, ◌-◌, ◌/◌, ◌<◌, ◌≤◌, min, None, List, [], ◌∷◌, ◌++◌, length, map, take, false, sym, ap, ◌∙◌, subst, arith, rules}
+use Rattle.std.proofs.Common.{◌≡◌, ◌+◌, ◌-◌, ◌/◌, ◌<◌, ◌≤◌, min, None, Some, List, [], ◌∷◌, ◌++◌, length, map, take, false, sym, ap, ◌∙◌, subst, arith, rules}
 use Rattle.std.proofs.lemmas.List.{length-map, take_all}
 use Rattle.ere_tree.proofs.ViewLemmas.{view_Cat, view_Alt, view_Repeat, view_Group}
 use Rattle.ere_tree.specs.Derivation.{Spans}
@@ -22,28 +22,31 @@ use Rattle.ere_whole.proofs.reach.+image.Goals as goal
 
 -- MEMBERS
 
-pub by_members-returns-then-least-eq1-clause-exact : goal.by_members-returns-then-least-eq1-clause-exact
-by_members-returns-then-least-eq1-clause-exact t c =
+pub by_one_member-returns-then-least-eq1-clause-exact : goal.by_one_member-returns-then-least-eq1-clause-exact
+by_one_member-returns-then-least-eq1-clause-exact t c =
     let R = Spans c.args.text.now (view c.args.inner.now) in
-    subst (λ n. AreReached (ChainBetween R n c.args.most) c.args.from.now c.image-found.result) (sym c.if-least-eq1.true)
-    (subst (λ n. AreReached (ChainBetween R 1 n) c.args.from.now c.image-found.result) (sym c.if-most-eq1.true)
+    subst (λ n. AreReached (ChainBetween R n 1) c.args.from.now c.image-found.result) (sym c.if-least-eq1.true)
     (reached_as R (ChainBetween R 1 1) c.args.from.now c.image-found.result (λ p q has here. between_one R p q)
-    c.image-found.ensures.exact))
+    c.image-found.ensures.exact)
 
-pub by_members-returns-then-most-eq1-clause-exact : goal.by_members-returns-then-most-eq1-clause-exact
-by_members-returns-then-most-eq1-clause-exact t c =
+pub by_one_member-returns-clause-exact : goal.by_one_member-returns-clause-exact
+by_one_member-returns-clause-exact t c =
     let R = Spans c.args.text.now (view c.args.inner.now) in
     let from = c.args.from.now in
     let new = c.add.new.self in
     let none : c.args.least ≡ 0 = omega (arith, c.requires.bounds) in
-    subst (λ n. AreReached (ChainBetween R n c.args.most) from new) (sym none)
-    (subst (λ n. AreReached (ChainBetween R 0 n) from new) (sym c.if-most-eq1.true)
+    subst (λ n. AreReached (ChainBetween R n 1) from new) (sym none)
     (reached_as _ (ChainBetween R 0 1) from new (λ p q has here. between_upto_one R p q)
     (reached_or R (λ p q. p ≡ q) from c.image-found.result c.only_in-none_more.result new (sym c.add.ensures.block)
     (c.only_in-none_more.ensures.block ∙ sym c.image-found.ensures.block ∙ sym c.add.ensures.block)
     c.add.ensures.held c.image-found.ensures.exact
     (reached_stay from c.only_in-none_more.result c.args.block c.only_in-none_more.ensures.block
-    c.only_in-none_more.ensures.held))))
+    c.only_in-none_more.ensures.held)))
+
+pub by_members-returns-then-most-eq1-clause-exact : goal.by_members-returns-then-most-eq1-clause-exact
+by_members-returns-then-most-eq1-clause-exact t c =
+    subst (λ n. AreReached (ChainBetween (Spans c.args.text.now (view c.args.inner.now)) c.args.least n) c.args.from.now
+    c.by_one_member.result) (sym c.if-most-eq1.true) c.by_one_member.ensures.exact
 
 pub by_members-loop-middle-init : goal.by_members-loop-middle-init
 by_members-loop-middle-init t c =
@@ -85,13 +88,14 @@ by_members-by_members-there-requires t c =
       (
         c.requires.no_refs,
         (
-          omega (arith, c.requires.bounds, c.saturating_sub.ensures),
+          omega (arith, c.requires.bounds, c.saturating_sub-rest.ensures),
           (
             omega (arith, between.ensures.block),
             (
               c.requires.within,
-              reached_inside s _ c.args.from.now between.result
-                  (λ p q has. between_within s inner _ _ p q (c.requires.inside p has)) between.ensures.exact,
+              reached_inside s (ChainBetween (Spans s inner) c.min.result (c.args.most / 2)) c.args.from.now
+                  between.result (λ p q has. between_within s inner _ _ p q (c.requires.inside p has))
+                  between.ensures.exact,
             ),
           ),
         ),
@@ -106,7 +110,7 @@ by_members-loop-middle-preserved t c =
     let known = c.loop-middle.invariant in
     let between = c.by_members-between in
     let there = c.by_members-there in
-    let add = c.add-in-loop-middle in
+    let add = c.add in
     record {
       block = add.ensures.block ∙ known.block;
       reached = middle_more (ChainBetween R (min c.args.least half) half)
@@ -115,7 +119,7 @@ by_members-loop-middle-preserved t c =
           (there.ensures.block ∙ sym known.block ∙ sym add.ensures.block) add.ensures.held known.reached
           (subst (λ n. AreReached (ChainBetween R n half) from between.result) c.min.ensures between.ensures.exact)
           (subst (λ n. AreReached (ChainBetween R n (c.args.most - half)) between.result there.result)
-          c.saturating_sub.ensures there.ensures.exact);
+          c.saturating_sub-rest.ensures there.ensures.exact);
     }
 
 pub by_members-returns-clause-exact : goal.by_members-returns-clause-exact
@@ -195,8 +199,8 @@ by_at_least-by_any-there-requires t c =
           omega (arith, between.ensures.block),
           (
             c.requires.within,
-            reached_inside s _ c.args.from.now between.result
-                (λ p q has. between_within s (view c.args.inner.now) _ _ p q (c.requires.inside p has))
+            reached_inside s (ChainBetween (Spans s (view c.args.inner.now)) c.args.least c.args.least) c.args.from.now
+                between.result (λ p q has. between_within s (view c.args.inner.now) _ _ p q (c.requires.inside p has))
                 between.ensures.exact,
           ),
         ),
@@ -293,7 +297,7 @@ by_any-returns-then-from-block-clause-exact t c =
     let inner = view c.args.inner.now in
     let from = c.args.from.now in
     let found = c.by_members.result in
-    reached_as _ (ChainAny (Spans s inner)) from found
+    reached_as (ChainBetween (Spans s inner) 0 256) (ChainAny (Spans s inner)) from found
     (λ p q has here. any_near s inner c.requires.no_refs p q (c.requires.inside p has)
     (sym (held_block from p has) ∙ c.if-from-block.true ∙ sym c.by_members.ensures.block ∙ sym here))
     c.by_members.ensures.exact
@@ -371,7 +375,8 @@ by_repeat-returns-in-Some-2-clause-exact t c =
     let inner = view c.args.inner.now in
     subst (λ most. AreReached (Spans s (repeat inner c.args.least most)) c.args.from.now c.by_members.result)
     (sym c.in-Some-2.is)
-    (reached_as _ _ c.args.from.now c.by_members.result
+    (reached_as (ChainBetween (Spans s inner) c.args.least c.in-Some-2.most)
+    (Spans s (repeat inner c.args.least (Some c.in-Some-2.most))) c.args.from.now c.by_members.result
     (λ p q has here. repeat_between s inner c.requires.no_refs c.args.least c.in-Some-2.most p q (c.requires.inside p has))
     c.by_members.ensures.exact)
 

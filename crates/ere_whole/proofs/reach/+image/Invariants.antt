@@ -68,6 +68,9 @@ decreases-by_one l = 2 * weight_of (length l.text.now) (trees_of (map view l.cho
 abbrev pub decreases-by_members : goal.decreases-by_members
 decreases-by_members l = 2 * weight (length l.text.now) (view l.inner.now) + 2 * l.most + 2
 
+abbrev pub decreases-by_one_member : goal.decreases-by_one_member
+decreases-by_one_member l = 2 * weight (length l.text.now) (view l.inner.now) + 3
+
 abbrev pub decreases-by_repeat : goal.decreases-by_repeat
 decreases-by_repeat l = 2 * weight (length l.text.now) (repeat (view l.inner.now) l.least l.most)
 
