@@ -93,8 +93,8 @@ HeaderFails head out err status =
     ⊎ ((status ≡ 3) × StopsBehind [] head out × Told (cannot_write (codes "lit")) err)
 
 -- so the header of a report of so many tests failed, on the streams as they were and are
-abbrev pub StopsAtHeader : {O E : Type 0} → OfSink O → OfSink E → Detail → ℕ → O → O → E → E → ℕ → Type 0
-StopsAtHeader on_out on_err detail tests out written err told status =
+abbrev pub NoHeader : {O E : Type 0} → OfSink O → OfSink E → Detail → ℕ → O → O → E → E → ℕ → Type 0
+NoHeader on_out on_err detail tests out written err told status =
     HeaderFails (header detail tests) (stream_of on_out out written) (stream_of on_err err told) status
 
 -- there was no header
