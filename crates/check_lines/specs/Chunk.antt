@@ -6,7 +6,6 @@ use Rattle.std.specs.Simd.Lanes.{mask_l}
 use Rattle.check_lines.specs.Canonical.{is_kept}
 use Rattle.check_lines.specs.declared.chunk.Row.{Row}
 use Rattle.check_lines.specs.declared.chunk.Rows.{Rows}
-use Rattle.check_lines.specs.declared.chunk.TheConstants.{CHUNK, HALF}
 
 -- for each byte of a text, whether something stands for it
 unfoldable pub kept_flags : Bool → List ℕ → List Bool
@@ -37,11 +36,11 @@ pub record IsRow (code : ℕ) (row : Row) : Type 0 where
 
 -- behind what was done stand, up to an end, the bytes of a chunk whose flags a row tells, or the bits of a number
 abbrev pub RowPuts : Row → List ℕ → ℕ → List ℕ → List ℕ → ℕ → Type 0
-RowPuts row chunk done old new end = (flags : List Bool) → length flags ≡ HALF → IsRow (mask_l flags) row
+RowPuts row chunk done old new end = (flags : List Bool) → length flags ≡ 8 → IsRow (mask_l flags) row
     → take end new ≡ take done old ++ flagged flags chunk
 
 abbrev pub ChunkPuts : ℕ → List ℕ → ℕ → List ℕ → List ℕ → ℕ → Type 0
-ChunkPuts kept chunk done old new end = (flags : List Bool) → length flags ≡ CHUNK → mask_l flags ≡ kept
+ChunkPuts kept chunk done old new end = (flags : List Bool) → length flags ≡ 16 → mask_l flags ≡ kept
     → take end new ≡ take done old ++ flagged flags chunk
 
 -- each number below 256 has its row
