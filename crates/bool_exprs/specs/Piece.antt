@@ -52,11 +52,18 @@ abbrev pub bytes_at : List ℕ → ℕ → Front
 bytes_at text zero = none
 bytes_at text (suc count) = piece (bytes (take (suc count) text)) (suc count)
 
+-- where the first `}}` behind a `{{` stands, and where the bytes of a name end
+abbrev pub regex_end : List ℕ → Option ℕ
+regex_end text = first_in text (codes "}}") 2 (length text)
+
+abbrev pub name_end : List ℕ → ℕ
+name_end text = prefix_len is_in_name text
+
 -- what begins at the front of a text
 unfoldable pub front : List ℕ → Front
 front text =
-    if begins_with text (codes "{{") then regex_at text (first_in text (codes "}}") 2 (length text))
-    else bytes_at text (prefix_len is_in_name text)
+    if begins_with text (codes "{{") then regex_at text (regex_end text)
+    else bytes_at text (name_end text)
 
 -- the pieces of a name and how many bytes it has, with a piece before them
 abbrev pub behind_piece : Piece → ℕ → Option (List Piece × ℕ) → Option (List Piece × ℕ)
@@ -86,7 +93,11 @@ abbrev pub tree_of : Piece → Tree
 tree_of (bytes word) = plain word
 tree_of (regex tree) = tree
 
+-- the pieces of a name as one expression
+abbrev pub match_of : List Piece → Expr
+match_of pieces = match (cat (trees_of (map tree_of pieces)))
+
 -- what the pieces of a name say
 abbrev pub operand_of : List Piece → Expr
 operand_of (bytes word ∷ []) = word_of word
-operand_of pieces = match (cat (trees_of (map tree_of pieces)))
+operand_of pieces = match_of pieces

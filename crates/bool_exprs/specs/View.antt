@@ -1,10 +1,11 @@
 -- The definitions' values that the code's values stand for.
-use Rattle.std.specs.Prelude.{ℕ, ◌<◌, ◌≤◌, List, map, reverse}
+use Rattle.std.specs.Prelude.{◌≡◌, ℕ, ◌<◌, ◌≤◌, List, Option, map, reverse}
+use Rattle.std.specs.Option.{option_map}
 use Rattle.ere_tree.specs.View.{view}
 use Rattle.bool_exprs.specs.Expr.{Expr, expr_of}
 use Rattle.bool_exprs.specs.Piece.{Piece, bytes, regex, Front, none, refused, piece}
 use Rattle.bool_exprs.specs.Token.{Token, operand, bang, both, either, open_paren, close_paren, comma, star}
-use Rattle.bool_exprs.specs.Place.{Frame, denied, and_behind, or_behind, paren, Place, wants, has, starred, State}
+use Rattle.bool_exprs.specs.Place.{Frame, denied, and_behind, or_behind, paren, Place, wants, has, starred, State, step}
 use Rattle.bool_exprs.specs.declared.expr.BoolExpr.{BoolExpr}
 use Rattle.bool_exprs.specs.declared.piece.Piece as pieces
 use Rattle.bool_exprs.specs.declared.piece.Piece.TheVariants as code
@@ -54,6 +55,10 @@ token_view token.Star = star
 abbrev pub found_view : tokens.Token × ℕ → Token × ℕ
 found_view found = (token_view found.0, found.1)
 
+-- this token was found, or none
+abbrev pub FindsToken : Option (Token × ℕ) → Option (tokens.Token × ℕ) → Type 0
+FindsToken there found = option_map found_view found ≡ there
+
 abbrev pub frame_view : frames.Frame → Frame Expr
 frame_view frame.Denied = denied
 frame_view (frame.And left) = and_behind (expr_of left)
@@ -72,6 +77,14 @@ at_last fs last.Starred = starred
 abbrev pub place_view : places.Place → Place Expr
 place_view place = at_last (frames_view place.frames.items) place.last
 
+-- the value is this place
+abbrev pub IsPlace : Place Expr → places.Place → Type 0
+IsPlace there place = place_view place ≡ there
+
+-- the value is the place behind a token, or none where it can't be read on
+abbrev pub StepsTo : Place Expr → tokens.Token → Option places.Place → Type 0
+StepsTo from token found = option_map place_view found ≡ step from (token_view token)
+
 -- the expressions of a list
 abbrev pub exprs_of : List BoolExpr → List Expr
 exprs_of = map expr_of
@@ -79,6 +92,10 @@ exprs_of = map expr_of
 -- an expression with what is open round it
 abbrev pub opened_view : opens.Opened → List (Frame Expr) × Expr
 opened_view found = (frames_view found.frames.items, expr_of found.expr)
+
+-- the value is this expression, with this open round it
+abbrev pub IsOpened : List (Frame Expr) × Expr → opens.Opened → Type 0
+IsOpened there found = opened_view found ≡ there
 
 -- what was read of a list
 abbrev pub reader_view : readers.Reader → State

@@ -1,13 +1,9 @@
 //! Pieces of names.
-ghost use Rattle.std.specs.Prelude.{◌≡◌, ◌≤◌, IfOk, length, codes, map};
-ghost use Rattle.std.specs.List.{prefix_len};
+ghost use Rattle.std.specs.Prelude.{◌≡◌, ◌≤◌, IfOk, length, map};
 ghost use Rattle.std.specs.Option.{option_map};
-ghost use Rattle.ere_tree.specs.Tree.{cat, trees_of};
 ghost use Rattle.ere_tree.specs.View.{view};
-ghost use Rattle.tt_base.specs.Occurrence.{first_in};
-ghost use Rattle.bool_exprs.specs.Expr as expr;
 ghost use Rattle.bool_exprs.specs.Expr.{expr_of};
-ghost use Rattle.bool_exprs.specs.Piece.{bytes_at, front, is_in_name, operand_of, regex_at, regex_of, tree_of, word_of};
+ghost use Rattle.bool_exprs.specs.Piece.{bytes_at, front, match_of, name_end, operand_of, regex_at, regex_end, regex_of, tree_of, word_of};
 ghost use Rattle.bool_exprs.specs.View.{FrontWithin, front_view, piece_view};
 
 use crate::expr::BoolExpr;
@@ -51,8 +47,7 @@ fn regex_of(alloc: Global, text: &[u8]) -> Result<Option<Ere>, NoMemory>
 /// The piece that begins with a `{{`.
 fn regex_at(alloc: Global, text: &[u8]) -> Result<Front, NoMemory>
     requires { 2 ≤ length text.now }
-    ensures exact { IfOk result (λ found. front_view found
-        ≡ regex_at text.now (first_in text.now (codes "}}") 2 (length text.now))) }
+    ensures exact { IfOk result (λ found. front_view found ≡ regex_at text.now (regex_end text.now)) }
     ensures within { IfOk result (FrontWithin (length text.now)) }
 {
     let Some(end) = find_in(text, b"}}", 2, text.len()) else {
@@ -66,7 +61,7 @@ fn regex_at(alloc: Global, text: &[u8]) -> Result<Front, NoMemory>
 
 /// The bytes of a name at the front of a text.
 fn bytes_at(alloc: Global, text: &[u8]) -> Result<Front, NoMemory>
-    ensures exact { IfOk result (λ found. front_view found ≡ bytes_at text.now (prefix_len is_in_name text.now)) }
+    ensures exact { IfOk result (λ found. front_view found ≡ bytes_at text.now (name_end text.now)) }
     ensures within { IfOk result (FrontWithin (length text.now)) }
 {
     let count = name_length(text);
@@ -117,7 +112,7 @@ impl Piece {
 
 /// The pieces as one regular expression.
 fn match_of(alloc: Global, pieces: Vec<Piece>) -> Result<BoolExpr, NoMemory>
-    ensures { IfOk result (λ made. expr_of made ≡ expr.match (cat (trees_of (map tree_of (map piece_view pieces.items))))) }
+    ensures { IfOk result (λ made. expr_of made ≡ match_of (map piece_view pieces.items)) }
 {
     let mut parts = Vec::new(alloc);
     for piece in pieces {

@@ -3,8 +3,8 @@ ghost use Rattle.std.specs.Prelude.{◌≡◌, [], ◌∷◌, IfOk};
 ghost use Rattle.std.specs.Option.{option_map};
 ghost use Rattle.bool_exprs.specs.Expr.{expr_of};
 ghost use Rattle.bool_exprs.specs.Expr as expr;
-ghost use Rattle.bool_exprs.specs.Place.{closed, finished, has, star_at, step, summed, taken, wants};
-ghost use Rattle.bool_exprs.specs.View.{exprs_of, frame_view, frames_view, opened_view, place_view, token_view};
+ghost use Rattle.bool_exprs.specs.Place.{closed, finished, has, star_at, summed, taken, wants};
+ghost use Rattle.bool_exprs.specs.View.{IsOpened, IsPlace, StepsTo, exprs_of, frame_view, frames_view, opened_view, place_view};
 
 use crate::expr::BoolExpr;
 use crate::token::Token;
@@ -80,7 +80,7 @@ fn either(alloc: Global, left: BoolExpr, right: BoolExpr) -> Result<BoolExpr, No
 
 /// The place with one more open.
 fn wanting(mut frames: Vec<Frame>, frame: Frame) -> Result<Place, NoMemory>
-    ensures { IfOk result (λ place. place_view place ≡ wants (frame_view frame ∷ frames_view frames.items)) }
+    ensures { IfOk result (IsPlace (wants (frame_view frame ∷ frames_view frames.items))) }
 {
     match frames.push(frame) {
         Ok(()) => Ok(Place {
@@ -93,7 +93,7 @@ fn wanting(mut frames: Vec<Frame>, frame: Frame) -> Result<Place, NoMemory>
 
 /// The place behind an expression, with this open behind what is open.
 fn read_in(mut frames: Vec<Frame>, frame: Frame, expr: BoolExpr) -> Result<Place, NoMemory>
-    ensures { IfOk result (λ place. place_view place ≡ has (frame_view frame ∷ frames_view frames.items) (expr_of expr)) }
+    ensures { IfOk result (IsPlace (has (frame_view frame ∷ frames_view frames.items) (expr_of expr))) }
 {
     match frames.push(frame) {
         Ok(()) => Ok(Place {
@@ -106,7 +106,7 @@ fn read_in(mut frames: Vec<Frame>, frame: Frame, expr: BoolExpr) -> Result<Place
 
 /// The place behind an operand.
 fn taken(alloc: Global, mut frames: Vec<Frame>, operand: BoolExpr) -> Result<Place, NoMemory>
-    ensures { IfOk result (λ place. place_view place ≡ taken (frames_view frames.items) (expr_of operand)) }
+    ensures { IfOk result (IsPlace (taken (frames_view frames.items) (expr_of operand))) }
 {
     match frames.pop() {
         Some(Frame::Denied) => {
@@ -130,7 +130,7 @@ fn taken(alloc: Global, mut frames: Vec<Frame>, operand: BoolExpr) -> Result<Pla
 
 /// An expression behind which no `&&` stands.
 fn summed(alloc: Global, mut frames: Vec<Frame>, expr: BoolExpr) -> Result<Opened, NoMemory>
-    ensures { IfOk result (λ found. opened_view found ≡ summed (frames_view frames.items) (expr_of expr)) }
+    ensures { IfOk result (IsOpened (summed (frames_view frames.items) (expr_of expr))) }
 {
     match frames.pop() {
         Some(Frame::Or(left)) => {
@@ -172,8 +172,7 @@ fn starred(frames: Vec<Frame>) -> Option<Place>
 
 /// The place behind a token where an operand is wanted, unless it can't be read on.
 fn behind_wanted(alloc: Global, frames: Vec<Frame>, token: Token) -> Result<Option<Place>, NoMemory>
-    ensures { IfOk result (λ found. option_map place_view found
-        ≡ step (wants (frames_view frames.items)) (token_view token)) }
+    ensures { IfOk result (StepsTo (wants (frames_view frames.items)) token) }
 {
     match token {
         Token::Operand(expr) => Ok(Some(taken(alloc, frames, expr)?)),
@@ -191,8 +190,7 @@ fn behind_read(
     expr: BoolExpr,
     token: Token,
 ) -> Result<Option<Place>, NoMemory>
-    ensures { IfOk result (λ found. option_map place_view found
-        ≡ step (has (frames_view frames.items) (expr_of expr)) (token_view token)) }
+    ensures { IfOk result (StepsTo (has (frames_view frames.items) (expr_of expr)) token) }
 {
     match token {
         Token::Both => Ok(Some(wanting(frames, Frame::And(expr))?)),
@@ -214,7 +212,7 @@ pub(crate) fn finished(
     mut list: Items<BoolExpr>,
     place: Place,
 ) -> Result<Option<Items<BoolExpr>>, NoMemory>
-    ensures { IfOk result (λ found. option_map exprs_of found ≡ finished (exprs_of list) (place_view place)) }
+    ensures { IfOk result (λ it. option_map exprs_of it ≡ finished (exprs_of list) (place_view place)) }
 {
     let Place { frames, last } = place;
     match last {
@@ -247,7 +245,7 @@ impl Place {
 
     /// The place behind a token of an item, unless it can't be read on.
     pub(crate) fn step(self, alloc: Global, token: Token) -> Result<Option<Place>, NoMemory>
-        ensures { IfOk result (λ found. option_map place_view found ≡ step (place_view self) (token_view token)) }
+        ensures { IfOk result (StepsTo (place_view self) token) }
     {
         let Place { frames, last } = self;
         match last {

@@ -1,10 +1,9 @@
 //! The tokens of a list of expressions.
 ghost use Rattle.std.specs.Prelude.{◌≡◌, ◌≤◌, ◌<◌, IfOk, IfSome, length};
-ghost use Rattle.std.specs.Option.{option_map};
 ghost use Rattle.bool_exprs.specs.Piece.{pieces_from};
 ghost use Rattle.bool_exprs.specs.Place.{is_comma, weight};
 ghost use Rattle.bool_exprs.specs.Token.{name_token, token};
-ghost use Rattle.bool_exprs.specs.View.{found_view, token_view};
+ghost use Rattle.bool_exprs.specs.View.{FindsToken, token_view};
 
 use crate::expr::BoolExpr;
 use crate::front::begins;
@@ -52,7 +51,7 @@ impl Token {
 
 /// The token of a name at the front of a text.
 fn name_at(alloc: Global, text: &[u8]) -> Result<Option<(Token, usize)>, NoMemory>
-    ensures exact { IfOk result (λ found. option_map found_view found ≡ name_token (pieces_from 0 text.now)) }
+    ensures exact { IfOk result (FindsToken (name_token (pieces_from 0 text.now))) }
     ensures some { IfOk result (λ found. IfSome found (λ token. 0 < token.1)) }
     ensures within { IfOk result (λ found. IfSome found (λ token. token.1 ≤ length text.now)) }
 {
@@ -74,7 +73,7 @@ pub(crate) fn token_at(
     xfail: bool,
     text: &[u8],
 ) -> Result<Option<(Token, usize)>, NoMemory>
-    ensures exact { IfOk result (λ found. option_map found_view found ≡ token xfail text.now) }
+    ensures exact { IfOk result (FindsToken (token xfail text.now)) }
     ensures some { IfOk result (λ found. IfSome found (λ token. 0 < token.1)) }
     ensures within { IfOk result (λ found. IfSome found (λ token. token.1 ≤ length text.now)) }
 {
