@@ -20,6 +20,10 @@ spelling (Of Xfail) = codes "XFAIL:"
 spelling (Of Retries) = codes "ALLOW_RETRIES:"
 spelling End = codes "END."
 
+-- how many bytes it has
+abbrev pub width : Keyword → ℕ
+width keyword = length (spelling keyword)
+
 abbrev pub keywords : List Keyword
 keywords = Of Run ∷ Of Requires ∷ Of Unsupported ∷ Of Xfail ∷ Of Retries ∷ End ∷ []
 

@@ -5,7 +5,7 @@
 use Rattle.std.specs.Prelude.{ℕ, ◌+◌, ◌-◌, ◌==◌, List, length, take, drop, slice_index, Option, Some, None, if◌then◌else◌}
 use Rattle.std.specs.List.{list_all, prefix_len, suffix_len}
 use Rattle.ere_tree.specs.Class.{is_blank}
-use Rattle.lit_directives.specs.Keyword.{mark_of, spelling}
+use Rattle.lit_directives.specs.Keyword.{mark_of, width}
 use Rattle.lit_directives.specs.declared.keyword.Keyword.{Keyword}
 use Rattle.lit_directives.specs.declared.keyword.Keyword.TheVariants.{Of, End}
 use Rattle.lit_directives.specs.declared.keyword.Kind.{Kind}
@@ -25,7 +25,7 @@ said_by End rest = if list_all is_blank rest then stop else nothing
 -- what a line says with its mark
 abbrev pub said_at : List ℕ → Option Mark → Said
 said_at line None = nothing
-said_at line (Some mark) = said_by mark.keyword (drop (mark.at + length (spelling mark.keyword)) line)
+said_at line (Some mark) = said_by mark.keyword (drop (mark.at + width mark.keyword) line)
 
 -- what a line says
 abbrev pub read_line : List ℕ → Said

@@ -1,6 +1,6 @@
 //! Keywords of directives.
 ghost use Rattle.std.specs.Prelude.{◌≡◌, ◌+◌, ◌≤◌, IfSome, length};
-ghost use Rattle.lit_directives.specs.Keyword.{IsMark, is_word, keyword_of, mark_at, mark_of, spelling};
+ghost use Rattle.lit_directives.specs.Keyword.{IsMark, is_word, keyword_of, mark_at, mark_of, width};
 
 /// What a directive is for.
 #[derive(Clone, Copy, Debug, PartialEq, Eq)]
@@ -35,7 +35,7 @@ pub struct Mark {
 
 /// How many bytes a keyword has.
 pub(crate) fn length_of(keyword: Keyword) -> usize
-    ensures { result ≡ length (spelling keyword) }
+    ensures { result ≡ width keyword }
 {
     match keyword {
         Keyword::Of(Kind::Run) => 4,
@@ -50,7 +50,7 @@ pub(crate) fn length_of(keyword: Keyword) -> usize
 /// The keyword at the front of a text.
 fn keyword_of(text: &[u8]) -> Option<Keyword>
     ensures value { result ≡ keyword_of text.now }
-    ensures within { IfSome result (λ keyword. length (spelling keyword) ≤ length text.now) }
+    ensures within { IfSome result (λ keyword. width keyword ≤ length text.now) }
 {
     if text.starts_with(b"RUN:") {
         Some(Keyword::Of(Kind::Run))
@@ -79,7 +79,7 @@ fn is_word(byte: u8) -> bool
 /// The mark at an offset, where no word is before it.
 fn mark_at(behind_word: bool, at: usize, text: &[u8]) -> Option<Mark>
     ensures value { result ≡ mark_at behind_word at text.now }
-    ensures within { IfSome result (λ mark. (mark.at ≡ at) × (length (spelling mark.keyword) ≤ length text.now)) }
+    ensures within { IfSome result (λ mark. (mark.at ≡ at) × (width mark.keyword ≤ length text.now)) }
 {
     if behind_word {
         return None;
@@ -94,7 +94,7 @@ fn mark_at(behind_word: bool, at: usize, text: &[u8]) -> Option<Mark>
 pub(crate) fn mark_of(line: &[u8]) -> Option<Mark>
     ensures least { IsMark line.now result }
     ensures value { result ≡ mark_of line.now }
-    ensures within { IfSome result (λ mark. mark.at + length (spelling mark.keyword) ≤ length line.now) }
+    ensures within { IfSome result (λ mark. mark.at + width mark.keyword ≤ length line.now) }
 {
     let mut behind_word = false;
     for at in 0..line.len() {
