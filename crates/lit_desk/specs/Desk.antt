@@ -77,13 +77,6 @@ pub record Refused (old : DeskNow) (place : ℕ) (test : Kept) (stop : DeskStop)
   pub kept : new.kept ≡ old.kept
   pub cause : StopCause old place test stop new
 
--- the same of the desks themselves, for a test that keeps so many bytes, and of which this is told
-abbrev pub Takes : {O : Type 0} → OfSink O → LitDesk O → ℕ → ℕ → TestReport → LitDesk O → Type 0
-Takes sink old place kept told new = Took (desk sink old) place (keeping kept told) (desk sink new)
-
-abbrev pub Refuses : {O : Type 0} → OfSink O → LitDesk O → ℕ → ℕ → TestReport → LitDesk O → DeskStop → Type 0
-Refuses sink old place kept told new stop = Refused (desk sink old) place (keeping kept told) stop (desk sink new)
-
 -- tests are put on a desk one by one, from a place on
 abbrev pub PutFrom : {D X : Type 0} → (D → ℕ → X → D → Type 0) → D → ℕ → List X → D → Type 0
 PutFrom Takes old place [] new = old ≡ new

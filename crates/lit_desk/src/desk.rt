@@ -1,6 +1,6 @@
 //! The desk.
 ghost use Rattle.std.specs.Prelude.{◌≡◌, ◌<◌, ◌≤◌, ◌^◌, IfErr, OnOk};
-ghost use Rattle.lit_desk.specs.Desk.{Refuses, Takes};
+ghost use Rattle.lit_desk.specs.Desk.{Refused, Took, desk, keeping};
 
 use crate::stop::DeskStop;
 use lit_report::{Reported, part_of};
@@ -34,8 +34,10 @@ impl<'a, O: Sink> LitDesk<'a, O> {
         test: &T,
     ) -> Result<(), DeskStop>
         requires { place < 2 ^ 32 }
-        ensures took { OnOk result (Takes O.Sink self.old place kept (T.told test.now) self.new) }
-        ensures refused { IfErr result (Refuses O.Sink self.old place kept (T.told test.now) self.new) }
+        ensures took { OnOk result (Took (desk O.Sink self.old) place
+            (keeping kept (T.told test.now)) (desk O.Sink self.new)) }
+        ensures refused { IfErr result (λ stop. Refused (desk O.Sink self.old) place
+            (keeping kept (T.told test.now)) stop (desk O.Sink self.new)) }
         ensures same_stream { self.new.out.ghost_name ≡ self.old.out.ghost_name }
     {
         let sum = self.kept.saturating_add(kept);
