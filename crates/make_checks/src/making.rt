@@ -1,5 +1,5 @@
 //! A check file that is made from an output.
-ghost use Rattle.std.specs.Prelude.{◌≡◌, ◌≤◌, ◌^◌, IfOk, length};
+ghost use Rattle.std.specs.Prelude.{◌≤◌, ◌^◌, IfOk, length};
 ghost use Rattle.make_checks.specs.Adding.{IsAnswer};
 ghost use Rattle.exact_laws.specs.Exact.{IsExactFor};
 ghost use Rattle.make_checks.specs.Made.{made_checks, refreshed};

@@ -1,9 +1,7 @@
 //! A check file before it is written, and how it is.
-ghost use Rattle.std.specs.Prelude.{◌≡◌};
-ghost use Rattle.quote_laws.specs.Quote.{body_of, quote};
 ghost use Rattle.file_laws.specs.Made.{made_text};
 ghost use Rattle.make_checks.specs.Directives.{directive_text, line_text};
-ghost use Rattle.make_checks.specs.Made.{lines_in, trimmed};
+ghost use Rattle.make_checks.specs.Made.{lines_in};
 ghost use Rattle.tt_pieces.specs.Telling.{Puts};
 
 use crate::directives::{Directive, Left, parted};
@@ -27,7 +25,7 @@ pub struct MadeFile {
 impl Model for MadeFile {
     ghost use Rattle.std.specs.Prelude.{◌++◌, List, ℕ};
     ghost use Rattle.file_laws.specs.Made.{made_text};
-    ghost use Rattle.make_checks.specs.Made.{lines_in, trimmed};
+    ghost use Rattle.make_checks.specs.Made.{lines_in};
 
     ghost Value = { List ℕ };
 

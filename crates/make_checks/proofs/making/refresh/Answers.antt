@@ -2,8 +2,6 @@
 -- Shown: the lines that are gone through are those of the canonical text, so what is told is what is due; and what is answered with Ok stands for
 -- its output, since it is what is due. The hard one is the return with Ok, where what is kept and what is made are the whole.
 use Rattle.std.proofs.Common.{◌≡◌, ◌-◌, List, ℕ, false, ◌++◌, None, Some, Ok, ap, sym, ◌∙◌, refl, subst}
-use Rattle.check_lines.specs.Canonical.{canon}
-use Rattle.exact_laws.specs.Exact.{IsExactFor}
 use Rattle.make_checks.proofs.AddLemmas.{refused}
 use Rattle.make_checks.proofs.ExactLemmas.{ok_exact}
 use Rattle.make_checks.proofs.MadeLemmas.{answer_large, answer_refused, answer_whole, refreshed_is}

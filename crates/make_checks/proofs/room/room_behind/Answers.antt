@@ -1,4 +1,4 @@
-use Rattle.std.proofs.Common.{◌++◌, length, ap, arith, length-append}
+use Rattle.std.proofs.Common.{length, ap, arith, length-append}
 use Rattle.std.specs.List.{flat_map}
 use Rattle.file_laws.specs.Made.{made_line}
 use Rattle.make_checks.specs.Directives.{directive_text, text_left}

@@ -1,6 +1,6 @@
-use Rattle.std.proofs.Common.{◌≡◌, ◌+◌, List, ℕ, ap, arith, drop, get_or, length, length-drop, subst, sym}
+use Rattle.std.proofs.Common.{◌+◌, List, ℕ, ap, arith, length, length-drop, subst, sym}
 use Rattle.std.proofs.lemmas.List.{take_rest}
-use Rattle.quote_laws.specs.Quote.{quote, quote_byte}
+use Rattle.quote_laws.specs.Quote.{quote}
 use Rattle.make_checks.proofs.DirectiveLemmas.{room_left}
 use Rattle.make_checks.proofs.QuoteLemmas.{quote_length, quote_none}
 use Rattle.make_checks.specs.Directives.{LeavesRoom}
