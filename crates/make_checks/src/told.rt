@@ -25,7 +25,7 @@ pub struct MadeFile {
 impl Model for MadeFile {
     ghost use Rattle.std.specs.Prelude.{◌++◌, List, ℕ};
     ghost use Rattle.file_laws.specs.Made.{made_text};
-    ghost use Rattle.make_checks.specs.Made.{lines_in};
+    ghost use Rattle.make_checks.specs.Made.{lines_in, trimmed};
 
     ghost Value = { List ℕ };
 
