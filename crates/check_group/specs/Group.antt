@@ -89,10 +89,11 @@ IsTriedIn context ranges check place from = IsTriedFrom context.text.now context
 abbrev pub AreSameText : Check → Check → Type 0
 AreSameText one other = (bytes : List ℕ) × IsPlain one.pattern bytes × IsPlain other.pattern bytes
 
--- a member is sought as the same bytes as the one before it
-abbrev pub IsRepeated : List Check → ℕ → Type 0
-IsRepeated checks index =
-    (0 < index) × ((one : Check) → AreSameText (get_or checks (index - 1) one) (get_or checks index one))
+-- tries begin behind the match of the member before, which is sought as the same bytes
+abbrev pub BeginsBehind : List Check → ℕ → ℕ → ℕ → Type 0
+BeginsBehind checks index behind from =
+    (from ≡ behind) × (0 < index)
+    × ((one : Check) → AreSameText (get_or checks (index - 1) one) (get_or checks index one))
 
 -- ---- the group
 

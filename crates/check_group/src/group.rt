@@ -2,7 +2,7 @@
 ghost use Rattle.std.specs.Prelude.{◌≡◌, ◌⊎◌, ◌<◌, ◌≤◌, None, All, IfOk, IsTrue, OnErr, length};
 ghost use Rattle.check_group.specs.Changes.{IsReady};
 ghost use Rattle.check_group.specs.Continues.{ComesFrom, LiesIn, StopsFrom};
-ghost use Rattle.check_group.specs.Group.{AreInOrder, AreSameText, EndsBy, IsRepeated, IsTriedIn, dags_at, lowest, placed_in, reach};
+ghost use Rattle.check_group.specs.Group.{AreInOrder, AreSameText, BeginsBehind, EndsBy, IsTriedIn, dags_at, lowest, placed_in, reach};
 ghost use Rattle.check_group.specs.Matches.{FitsIn};
 ghost use Rattle.check_group.specs.Near.{BeginsNowhere};
 
@@ -80,7 +80,7 @@ fn is_same_text(one: &Check, other: &Check) -> bool
 /// Where the tries of a member begin: behind the match of the member before it, if both are the same text.
 fn first_try(checks: &[Check], index: usize, place: usize, behind: usize) -> usize
     requires within { index < length checks.now }
-    ensures { (result ≡ place) ⊎ ((result ≡ behind) × IsRepeated checks.now index) }
+    ensures { (result ≡ place) ⊎ BeginsBehind checks.now index behind result }
 {
     if index > 0 && is_same_text(&checks[index - 1], &checks[index]) {
         behind
