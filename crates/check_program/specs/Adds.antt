@@ -40,8 +40,3 @@ Adds opts number checks old body (Err (Bad directive fault)) more new =
     IsRefusal opts number old body directive fault new
 Adds opts number checks old body (Err NoMemory) more new =
     (new ≡ old) ⊎ ((check : Check) × IsOneMore opts number old body check new)
-
--- the same of a body that stands in a text
-abbrev pub AddsRaw : CompileOpts → ℕ → List Check → Formats → RawBody → Result (Unit {0}) CompileFail → List Check
-    → Formats → Type 0
-AddsRaw opts number checks old body result more new = Adds opts number checks old (body_seen body) result more new

@@ -37,11 +37,8 @@ names_at (number num format) = names_in_block num
 abbrev pub names_in : List Item → List (List ℕ)
 names_in items = flat_map names_at items
 
-abbrev pub names_in_check : Check → List (List ℕ)
-names_in_check check = names_in (items_view check.pattern.pieces)
-
 abbrev pub names_all : List Check → List (List ℕ)
-names_all checks = flat_map names_in_check checks
+names_all checks = flat_map (λ check. names_in (items_view check.pattern.pieces)) checks
 
 -- each once
 abbrev pub names_once : List Check → List (List ℕ)

@@ -1,6 +1,6 @@
 //! Compiling directives.
 ghost use Rattle.std.specs.Prelude.{◌≡◌, ◌+◌, ◌++◌, [], ◌∷◌, All, IfOk, IfSome, length, map, min};
-ghost use Rattle.check_program.specs.Adds.{AddsRaw, IsOne, body_seen};
+ghost use Rattle.check_program.specs.Adds.{Adds, IsOne, body_seen};
 ghost use Rattle.check_program.specs.Compiled.{Comes, Compiles, EndsBy, bodies_of, body_of, implicit_bodies};
 ghost use Rattle.check_program.specs.Ready.{IsScannable};
 
@@ -61,7 +61,7 @@ fn add_check(
     opts: &CompileOpts,
     known: &mut Formats,
 ) -> Result<(), CompileFail>
-    ensures { AddsRaw opts.now number checks.old known.old body.now result checks.new known.new }
+    ensures { Adds opts.now number checks.old known.old (body_seen body.now) result checks.new known.new }
 {
     match check_of(alloc, body, number, opts, known) {
         Ok(check) => match checks.push(check) {

@@ -1,10 +1,10 @@
 //! The names that patterns define or use.
-ghost use Rattle.std.specs.Prelude.{◌≡◌, ◌++◌, IfOk, OnOk};
+ghost use Rattle.std.specs.Prelude.{◌≡◌, ◌++◌, ℕ, IfOk, List, OnOk};
 ghost use Rattle.num_base.specs.Term.{term_of};
 ghost use Rattle.num_exprs.specs.View.{num_view};
-ghost use Rattle.check_program.specs.Names.{named_in, names_all, names_at, names_in_block, names_in_check, names_once};
-ghost use Rattle.pattern_instance.specs.Views.{ToldFirst};
-ghost use Rattle.pattern_parse.specs.PieceView.{item_view};
+ghost use Rattle.check_program.specs.Names.{named_in, names_all, names_at, names_in, names_in_block, names_once};
+ghost use Rattle.pattern_instance.specs.Views.{still_told};
+ghost use Rattle.pattern_parse.specs.PieceView.{item_view, items_view};
 
 use check_group::Check;
 use num_base::Expr;
@@ -17,7 +17,8 @@ use tt_base::{Bytes, Items, NoMemory};
 /// Adds the names of an expression.
 #[cycle(names)]
 fn add_expr(alloc: Global, names: &mut NameList, expr: &Expr) -> Result<(), NoMemory>
-    ensures { OnOk result (ToldFirst names.old names.new (named_in (term_of expr.now))) }
+    ensures { OnOk result ((rest : List (List ℕ)) →
+        still_told names.new rest ≡ still_told names.old (named_in (term_of expr.now) ++ rest)) }
 {
     match expr {
         Expr::Literal(_) => Ok(()),
@@ -32,7 +33,8 @@ fn add_expr(alloc: Global, names: &mut NameList, expr: &Expr) -> Result<(), NoMe
 
 /// Adds the names of a numeric block.
 fn add_block(alloc: Global, names: &mut NameList, block: &NumBlock) -> Result<(), NoMemory>
-    ensures { OnOk result (ToldFirst names.old names.new (names_in_block (num_view block.now))) }
+    ensures { OnOk result ((rest : List (List ℕ)) →
+        still_told names.new rest ≡ still_told names.old (names_in_block (num_view block.now) ++ rest)) }
 {
     if let Some(name) = &block.defines {
         names.add(alloc, name.as_slice())?;
@@ -45,7 +47,8 @@ fn add_block(alloc: Global, names: &mut NameList, block: &NumBlock) -> Result<()
 
 /// Adds the names of a piece.
 fn add_piece(alloc: Global, names: &mut NameList, piece: &Piece) -> Result<(), NoMemory>
-    ensures { OnOk result (ToldFirst names.old names.new (names_at (item_view piece.now))) }
+    ensures { OnOk result ((rest : List (List ℕ)) →
+        still_told names.new rest ≡ still_told names.old (names_at (item_view piece.now) ++ rest)) }
 {
     match piece {
         Piece::Plain(_) => Ok(()),
@@ -58,7 +61,8 @@ fn add_piece(alloc: Global, names: &mut NameList, piece: &Piece) -> Result<(), N
 
 /// Adds the names of a directive's pattern.
 fn add_check(alloc: Global, names: &mut NameList, check: &Check) -> Result<(), NoMemory>
-    ensures { OnOk result (ToldFirst names.old names.new (names_in_check check.now)) }
+    ensures { OnOk result ((rest : List (List ℕ)) →
+        still_told names.new rest ≡ still_told names.old (names_in (items_view check.now.pattern.pieces) ++ rest)) }
 {
     for piece in check.pattern.pieces.as_slice() {
         add_piece(alloc, names, piece)?;
@@ -68,7 +72,8 @@ fn add_check(alloc: Global, names: &mut NameList, check: &Check) -> Result<(), N
 
 /// Adds the names of directives.
 fn add_checks(alloc: Global, names: &mut NameList, checks: &[Check]) -> Result<(), NoMemory>
-    ensures { OnOk result (ToldFirst names.old names.new (names_all checks.now)) }
+    ensures { OnOk result ((rest : List (List ℕ)) →
+        still_told names.new rest ≡ still_told names.old (names_all checks.now ++ rest)) }
 {
     for check in checks {
         add_check(alloc, names, check)?;

@@ -1,5 +1,5 @@
 -- The definitions' words that the code's values stand for.
-use Rattle.std.specs.Prelude.{◌≡◌, ℕ, IfOk, List, map, Result}
+use Rattle.std.specs.Prelude.{ℕ, List, map}
 use Rattle.num_base.specs.Term.{term_of}
 use Rattle.define_words.specs.Word.{Word, text, number, bad}
 use Rattle.define_words.specs.declared.word.Says.{Says}
@@ -10,10 +10,6 @@ abbrev pub word_view : Says → Word
 word_view (says.Text name bytes) = text name bytes
 word_view (says.Number name format expr) = number name format (term_of expr)
 word_view says.Nothing = bad
-
--- a value says this word, unless memory ran out
-abbrev pub SaysWord : {E : Type 0} → Result Says E → Word → Type 0
-SaysWord result word = IfOk result (λ told. word_view told ≡ word)
 
 -- a value with what it says
 abbrev pub read_view : reads.Read → List ℕ × Word

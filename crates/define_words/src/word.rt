@@ -4,7 +4,7 @@ ghost use Rattle.std.specs.FinMap as map;
 ghost use Rattle.std.specs.List.{list_all, position_from};
 ghost use Rattle.num_base.specs.Term.{term_of};
 ghost use Rattle.num_exprs.specs.Block.{reading};
-ghost use Rattle.define_words.specs.View.{SaysWord, word_view};
+ghost use Rattle.define_words.specs.View.{word_view};
 ghost use Rattle.define_words.specs.Word.{block_in, block_of, in_format, is_inside, known_with, number_word, said_in, text_behind, text_word, word_of};
 
 use crate::format::word_format;
@@ -42,7 +42,7 @@ pub(crate) struct Read {
 
 /// What a value says where these formats are known; from then on that of the number that it defines is, too.
 pub(crate) fn says_of(alloc: Global, known: &mut Formats, value: &[u8]) -> Result<Says, NoMemory>
-    ensures says { SaysWord result (word_of (map.get known.old) value.now) }
+    ensures says { IfOk result (λ says. word_view says ≡ word_of (map.get known.old) value.now) }
     ensures known { IfOk result (λ says. known.new ≡ known_with known.old (word_view says)) }
 {
     if !begins(value, b'#') {
@@ -54,7 +54,7 @@ pub(crate) fn says_of(alloc: Global, known: &mut Formats, value: &[u8]) -> Resul
 // ---- texts
 
 fn text_says(alloc: Global, value: &[u8]) -> Result<Says, NoMemory>
-    ensures { SaysWord result (text_word value.now) }
+    ensures { IfOk result (λ says. word_view says ≡ text_word value.now) }
 {
     match name_at(value) {
         Ok(long) => text_behind(alloc, long, value),
@@ -65,7 +65,7 @@ fn text_says(alloc: Global, value: &[u8]) -> Result<Says, NoMemory>
 /// A text behind a name of this length.
 fn text_behind(alloc: Global, long: usize, value: &[u8]) -> Result<Says, NoMemory>
     requires { long ≤ length value.now }
-    ensures { SaysWord result (text_behind long value.now) }
+    ensures { IfOk result (λ says. word_view says ≡ text_behind long value.now) }
 {
     let (name, rest) = value.split_at(long);
     if !begins(rest, b'=') {
@@ -119,7 +119,7 @@ fn block_of(alloc: Global, head: &[u8], tail: &[u8]) -> Result<Option<Bytes>, No
 
 /// What a definition says, as `%x,N=3`.
 fn number_says(alloc: Global, known: &mut Formats, definition: &[u8]) -> Result<Says, NoMemory>
-    ensures says { SaysWord result (number_word (map.get known.old) definition.now) }
+    ensures says { IfOk result (λ says. word_view says ≡ number_word (map.get known.old) definition.now) }
     ensures known { IfOk result (λ says. known.new ≡ known_with known.old (word_view says)) }
 {
     match block_in(alloc, definition)? {
@@ -130,7 +130,7 @@ fn number_says(alloc: Global, known: &mut Formats, definition: &[u8]) -> Result<
 
 /// What the block of a definition says.
 fn block_says(alloc: Global, known: &mut Formats, block: &[u8]) -> Result<Says, NoMemory>
-    ensures says { SaysWord result (said_in (map.get known.old) (reading block.now)) }
+    ensures says { IfOk result (λ says. word_view says ≡ said_in (map.get known.old) (reading block.now)) }
     ensures known { IfOk result (λ says. known.new ≡ known_with known.old (word_view says)) }
 {
     let BlockReading {
@@ -155,7 +155,7 @@ fn number_says_in(
     format: Option<Format>,
     expr: Expr,
 ) -> Result<Says, NoMemory>
-    ensures says { SaysWord result (in_format name (term_of expr) format) }
+    ensures says { IfOk result (λ says. word_view says ≡ in_format name (term_of expr) format) }
     ensures known { IfOk result (λ says. known.new ≡ known_with known.old (word_view says)) }
 {
     match format {

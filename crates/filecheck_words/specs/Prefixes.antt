@@ -2,14 +2,13 @@
 -- After LLVM Command Guide, FileCheck: --check-prefix, --check-prefixes and --comment-prefixes take the place of CHECK, and of
 -- COM and RUN; the last two are lists with commas between. Own rules: how a prefix is spelled, that no two that hold are
 -- equal, and that the first of the words that is refused is told.
-use Rattle.std.specs.Prelude.{ℕ, Bool, true, false, ◌==◌, ◌&&◌, not, nat_le, nat_lt, if◌then◌else◌, List, [], ◌∷◌, ◌++◌, codes, Option, Some, None, Result, Ok, String}
+use Rattle.std.specs.Prelude.{ℕ, Bool, true, false, ◌==◌, ◌&&◌, not, nat_le, nat_lt, if◌then◌else◌, List, [], ◌∷◌, ◌++◌, codes, Option, Some, None, Result, Ok}
 use Rattle.std.specs.List.{flat_map, list_all, list_any, slice_split}
 use Rattle.std.specs.Option.{option_or}
 use Rattle.std.specs.Str.{bytes_eq}
-use Rattle.std.specs.declared.alloc.Global.{Global}
 use Rattle.check_lines.specs.Class.{is_letter}
 use Rattle.check_lines.specs.Decision.{is_word}
-use Rattle.opt_words.specs.Step.{texts, value_of}
+use Rattle.opt_words.specs.Step.{value_of}
 use Rattle.opt_words.specs.declared.step.Given.{Given}
 use Rattle.filecheck_words.specs.Fault.{unless}
 use Rattle.filecheck_words.specs.declared.prefixes.Prefixes.{Prefixes}
@@ -26,22 +25,14 @@ is_prefix (byte ∷ rest) = is_letter byte && list_all is_word rest
 abbrev pub is_comma : ℕ → Bool
 is_comma byte = byte == 44
 
--- what stands between the commas of a list
-abbrev pub comma_parts : List ℕ → List (List ℕ)
-comma_parts list = slice_split is_comma list
-
 -- the prefixes that a value spells, by the row of its option: it is one, or has one on each side of a comma
 abbrev pub spelled_by : ℕ → List ℕ → List (List ℕ)
-spelled_by row value = if row == 0 then value ∷ [] else comma_parts value
+spelled_by row value = if row == 0 then value ∷ [] else slice_split is_comma value
 
 -- the same of the rows from one up to another
 abbrev pub spelled_at : ℕ → ℕ → List (List ℕ) → Given → List (List ℕ)
 spelled_at from to words given =
     if nat_le from given.row && nat_lt given.row to then spelled_by given.row (value_of words given) else []
-
--- of words as they are
-abbrev pub spelled_in : ℕ → ℕ → List (String Global) → Given → List (List ℕ)
-spelled_in from to words given = spelled_at from to (texts words) given
 
 -- the prefixes that the options of these rows spell, in the order of the words
 abbrev pub spelled : ℕ → ℕ → List (List ℕ) → List Given → List (List ℕ)

@@ -1,11 +1,11 @@
 //! The prefixes of a check file.
 ghost use Rattle.std.specs.Prelude.{◌≡◌, ◌++◌, ◌∷◌, [], All, IfOk, OnOk, map};
-ghost use Rattle.std.specs.List.{list_all, list_any};
+ghost use Rattle.std.specs.List.{list_all, list_any, slice_split};
 ghost use Rattle.std.specs.Str.{bytes_eq};
 ghost use Rattle.check_lines.specs.Class.{is_letter};
 ghost use Rattle.check_lines.specs.Decision.{is_word};
 ghost use Rattle.opt_words.specs.Step.{Stands, texts};
-ghost use Rattle.filecheck_words.specs.Prefixes.{check_names, comment_names, comma_parts, first_fault, held_by, held_prefixes, is_prefix, is_some, names_beside, or_else, prefix_fault, spelled, spelled_by, spelled_in};
+ghost use Rattle.filecheck_words.specs.Prefixes.{check_names, comment_names, first_fault, held_by, held_prefixes, is_comma, is_prefix, is_some, names_beside, or_else, prefix_fault, spelled, spelled_at, spelled_by};
 ghost use Rattle.filecheck_words.specs.Fault.{Gives};
 
 use crate::fault::{WordsFail, WordsFault, refuse};
@@ -91,7 +91,7 @@ fn add_spelled(
     to: usize,
 ) -> Result<(), NoMemory>
     requires { Stands (texts words.now) given.now }
-    ensures { OnOk result (prefixes.new ≡ prefixes.old ++ spelled_in from to words.now given.now) }
+    ensures { OnOk result (prefixes.new ≡ prefixes.old ++ spelled_at from to (texts words.now) given.now) }
 {
     if from <= given.row && given.row < to {
         return add_value(alloc, prefixes, given.row, given.value(words));
@@ -134,7 +134,7 @@ fn add_parts(alloc: Global, prefixes: &mut Items<Bytes>, parts: &[&[u8]]) -> Res
 
 /// What stands between the commas of a list.
 fn parts(alloc: Global, list: &[u8]) -> Result<Vec<&[u8]>, AllocError>
-    ensures { IfOk result (λ parts. map (λ part. part.now) parts.items ≡ comma_parts list.now) }
+    ensures { IfOk result (λ parts. map (λ part. part.now) parts.items ≡ slice_split is_comma list.now) }
 {
     list.split(|byte| *byte == b',').collect(alloc)
 }
