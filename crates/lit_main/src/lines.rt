@@ -13,7 +13,7 @@ use tt_base::NoMemory;
 fn hushes(word: &[u8]) -> bool
     ensures { result ≡ hushes word.now }
 {
-    word == b"-q" || word == b"--json" || word == b"-json"
+    word == b"-q".as_slice() || word == b"--json".as_slice() || word == b"-json".as_slice()
 }
 
 /// Whether the words ask for failures alone, or for a report in JSON: then no line is shown.

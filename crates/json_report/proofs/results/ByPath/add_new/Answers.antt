@@ -23,6 +23,6 @@ returns c old new both agrees =
     let lines = c.args.lines.now in
     let past : length lines ≤ c.loop-line.line-index = omega (arith, c.loop-line-test.false) in
     subst (λ results. Agrees c.loop-line.self old results (with_lines both lines))
-        (sym (at_drop_all (with_lines now) lines c.loop-line.line-index past) ∙ rest)
-        (subst (λ paths. Agrees c.loop-line.self old now paths)
-        (sym (at_drop_all (with_lines all) lines c.loop-line.line-index past) ∙ others) are)
+    (sym (at_drop_all (with_lines now) lines c.loop-line.line-index past) ∙ rest)
+    (subst (λ paths. Agrees c.loop-line.self old now paths)
+    (sym (at_drop_all (with_lines all) lines c.loop-line.line-index past) ∙ others) are)

@@ -18,4 +18,4 @@ pub returns : goal.returns
 returns c known agrees =
     let (now, are, rest) = c.loop-line.invariant known agrees in
     subst (λ results. Agrees c.loop-line.self results [] results)
-        (sym (at_drop_all (with_lines now) c.args.lines.now c.loop-line.line-index (omega (arith, c.loop-line-test.false))) ∙ rest) are
+    (sym (at_drop_all (with_lines now) c.args.lines.now c.loop-line.line-index (omega (arith, c.loop-line-test.false))) ∙ rest) are
