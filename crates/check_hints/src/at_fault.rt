@@ -1,7 +1,7 @@
 //! What variables hold where a directive is tried, and where its block ends.
 ghost use Rattle.std.specs.Prelude.{◌≡◌, ◌≤◌, ◌<◌, All, IfOk, IfSome, OnOk, length};
-ghost use Rattle.check_group.specs.Changes.{IsReady, Variables};
-ghost use Rattle.check_scan.specs.Runs.{AreAmiss, Binds};
+ghost use Rattle.check_group.specs.Changes.{IsReady, Variables, changed};
+ghost use Rattle.check_scan.specs.Verdict.{scan};
 
 use check_group::{Check, Fault, look};
 use check_scan::{Subject, scan};
@@ -23,8 +23,10 @@ pub fn faults_in(
 ) -> Result<Items<Fault>, NoMemory>
     requires ready { All (IsReady vars.old) checks.now }
     requires always_ready { All (IsReady vars.old) subject.now.always.now }
-    ensures value { IfOk result (AreAmiss subject.now checks.now scope vars.old) }
-    ensures vars { OnOk result (Binds subject.now checks.now scope vars.old vars.new) }
+    ensures value { IfOk result (λ faults. faults
+        ≡ (scan checks.now subject.now.always.now scope subject.now.text.now vars.old).faults) }
+    ensures vars { OnOk result (vars.new
+        ≡ changed vars.old (scan checks.now subject.now.always.now scope subject.now.text.now vars.old).changes) }
 {
     scanned::<Brand>(subject, checks, scope, vars, Blank::new(1))
 }
@@ -71,8 +73,10 @@ fn scanned<L: Ledger>(
     requires some_part { 0 < blank.parts }
     requires ready { All (IsReady vars.old) checks.now }
     requires always_ready { All (IsReady vars.old) subject.now.always.now }
-    ensures value { IfOk result (AreAmiss subject.now checks.now scope vars.old) }
-    ensures vars { OnOk result (Binds subject.now checks.now scope vars.old vars.new) }
+    ensures value { IfOk result (λ faults. faults
+        ≡ (scan checks.now subject.now.always.now scope subject.now.text.now vars.old).faults) }
+    ensures vars { OnOk result (vars.new
+        ≡ changed vars.old (scan checks.now subject.now.always.now scope subject.now.text.now vars.old).changes) }
 {
     let mut steps = Steps::<L>::new(blank);
     let verdict = scan(subject, checks, scope, vars, &mut steps)?;

@@ -1,7 +1,7 @@
 -- The tests of files.
 -- Shown: a file in a directory of a suite lies below the suite's root, and its test is right. Idea: a text tells its path.
 -- The hard one is `below`.
-use Rattle.std.proofs.Common.{◌≡◌, true, ℕ, List, [], ◌∷◌, ◌++◌, drop, length, Some, Result, IfOk, refl, sym, ap, ◌∙◌, subst}
+use Rattle.std.proofs.Common.{◌≡◌, ◌≢◌, true, ℕ, List, [], ◌∷◌, ◌++◌, drop, length, Some, Result, IfOk, refl, sym, ap, ◌∙◌, subst}
 use Rattle.std.specs.List.{list_all}
 use Rattle.std.proofs.Math.Seq.{drop-append_seam}
 use Rattle.std.proofs.lemmas.Result.{IfOk-weaker}
@@ -11,7 +11,7 @@ use Rattle.tt_outside.specs.declared.test_data.Test.{Test}
 use Rattle.tt_outside.specs.declared.tree.Node.{Node}
 use Rattle.tt_outside.proofs.EqualLemmas.{equal_tests}
 use Rattle.lit_paths.specs.Paths.{Parts, dir_of, path_in, text_of}
-use Rattle.lit_dirs.specs.Tests.{GivesTest, IsTestOf}
+use Rattle.lit_dirs.specs.Tests.{IsTestOf}
 use Rattle.lit_look.specs.Suites.{LiesIn, nearest, rooted_at}
 use Rattle.lit_look.specs.declared.root.SuiteRoot.{SuiteRoot}
 use Rattle.lit_find.specs.Discovery.{IsTest}
@@ -66,7 +66,9 @@ module _ (root : SuiteRoot) (dir : Parts) (name text : List ℕ) (lies : LiesIn 
 
 -- what is made by the directory and the suite of a file is its test
 pub test_made : (file : TestFile) (root : SuiteRoot) (dir : Parts) (made : Result Test NoMemory) → IsFiled file
-    → root ≡ file.suite → dir ≡ root.dir → GivesTest dir root.suite file.path made → IfOk made (λ test. test ≡ test_in file)
+    → root ≡ file.suite → dir ≡ root.dir
+    → ((below : Parts) → file.path ≡ text_of (dir ++ below) → list_all is_part below ≡ true → below ≢ []
+    → IfOk made (IsTestOf dir root.suite below)) → IfOk made (λ test. test ≡ test_in file)
 test_made file root dir made is same at gives =
     let its : dir ≡ file.suite.dir = at ∙ ap (λ one. one.dir) same in
     IfOk-weaker made (IsTestOf dir root.suite (below_of file)) (λ test. test ≡ test_in file)

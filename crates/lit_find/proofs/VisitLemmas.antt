@@ -32,7 +32,7 @@ use Rattle.lit_find.specs.Found.{IsRight}
 use Rattle.lit_find.specs.Places.{IsBefore}
 use Rattle.lit_find.specs.Refusals.{IsRefusedDown}
 use Rattle.lit_find.specs.Sorting.{with_items}
-use Rattle.lit_find.specs.Walk.{Enters, GivesWalk, HasMore, HasPath, HasTest, IsAhead, IsDone, IsState, IsWalk, Walked, has_text, same_text, was_walked, with_first}
+use Rattle.lit_find.specs.Walk.{Enters, GivesWalk, HasPath, HasTest, IsAhead, IsDone, IsState, IsWalk, Walked, has_text, same_text, was_walked, with_first}
 use Rattle.lit_find.specs.declared.place.Place.{Place}
 use Rattle.lit_find.specs.declared.walk.Walk.{Walk}
 use Rattle.lit_find.proofs.InsideLemmas.{IsOf, ahead_in, is_of, item_in, its_item, right_in}
@@ -89,7 +89,7 @@ first_done place old new here keeps waits finds Other path done = tt
 -- a directory that wasn't walked through yet is, by the text of its path
 pub entered : {A E : Type 0} {path : List ℕ} {all : Walk} (looked : Looked) (known : SuiteRoot) (old new : Walk)
     (walked : BTreeSet (Vec ℕ Global)) (result : Result A E) → path ≡ text_of looked.dir → was_walked old path ≡ false
-    → HasMore path old.walked walked → new.walked ≡ walked
+    → ((text : List ℕ) → has_text walked text ≡ (same_text text path || was_walked old text)) → new.walked ≡ walked
     → all ≡ with_items (unwrap_or looked.suite known) looked.dir
     (record { found = old.found; walked = walked; pending = old.pending }) looked.items
     → OnOk result (new ≡ all) → OnOk result (Enters looked known old new)
@@ -131,7 +131,7 @@ module _ (nodes : List Node) (words : List Parts) (word : Parts) (first old : Li
       }
 
   through_next : (items : List Item) (root : SuiteRoot) (new : Walk) → IsOf nodes place.path items root
-      → HasMore (text_of place.path) before.walked new.walked
+      → ((text : List ℕ) → was_walked new text ≡ (same_text text (text_of place.path) || was_walked before text))
       → new ≡ with_items root place.path (record { found = before.found; walked = new.walked; pending = before.pending }) items
       → IsNext nodes words word place before new
   through_next items root new of marked sorted = record {

@@ -1,7 +1,7 @@
 -- Directories that are to be walked through, in order.
 -- Own rule: they stand in the order of their lists of parts, so one stands before those below it and siblings stand in
 -- byte order.
-use Rattle.std.specs.Prelude.{◌≡◌, ℕ, List, [], ◌∷◌, All, map, MatchOption, Option, Vec}
+use Rattle.std.specs.Prelude.{◌≡◌, ℕ, List, [], ◌∷◌, All, map, Vec}
 use Rattle.std.specs.declared.alloc.Global.{Global}
 use Rattle.std.specs.Cmp.Lexicographic.{slice_cmp}
 use Rattle.std.specs.Ordering.{match_ordering, nat_cmp}
@@ -37,10 +37,6 @@ pub record IsFirst (old new : List Place) (place : Place) : Type 0 where
   pub first : old ≡ place ∷ new
   pub least : All (λ other. IsBefore place.path other.path) new
   pub inside : IsInside place
-
--- the first of some places is taken from them, if there is one
-abbrev pub TakesFirst : List Place → List Place → Option Place → Type 0
-TakesFirst old new found = MatchOption found ((old ≡ []) × (new ≡ [])) (IsFirst old new)
 
 -- ---- keys
 

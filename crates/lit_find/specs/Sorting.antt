@@ -1,6 +1,6 @@
 -- What a directory lists, for a walk.
 -- After LLVM Command Guide, lit, 'TEST DISCOVERY'. Own rule: names are passed over by the suite of the directory.
-use Rattle.std.specs.Prelude.{◌≡◌, ℕ, Bool, Some, ◌&&◌, if◌then◌else◌, List, [], ◌∷◌, ◌++◌, Result, IfOk}
+use Rattle.std.specs.Prelude.{Bool, Some, ◌&&◌, if◌then◌else◌, List, [], ◌∷◌, ◌++◌}
 use Rattle.std.specs.List.{fold}
 use Rattle.tt_outside.specs.declared.tree.Item.{Item}
 use Rattle.tt_outside.specs.declared.tree.ItemKind.{ItemKind}
@@ -8,16 +8,11 @@ use Rattle.tt_outside.specs.declared.tree.ItemKind.TheVariants.{File, Dir, Other
 use Rattle.tt_outside.specs.TreeMap.{is_part}
 use Rattle.lit_look.specs.Suites.{rooted_at}
 use Rattle.lit_look.specs.declared.root.SuiteRoot.{SuiteRoot}
-use Rattle.lit_paths.specs.Paths.{Parts, slashed, text_of}
+use Rattle.lit_paths.specs.Paths.{Parts, text_of}
 use Rattle.lit_find.specs.Discovery.{takes}
 use Rattle.lit_find.specs.Files.{test_in}
 use Rattle.lit_find.specs.Places.{path_order, put}
 use Rattle.lit_find.specs.declared.walk.Walk.{Walk}
-
--- behind what stands before the names in a directory, a name makes the text of its path
-abbrev pub GivesText : {E : Type 0} → List ℕ → List ℕ → Result (List ℕ) E → Type 0
-GivesText front name result =
-    (dir : Parts) → front ≡ slashed dir ++ 47 ∷ [] → IfOk result (λ text. text ≡ text_of (dir ++ name ∷ []))
 
 -- an item is a directory that is walked through, or a test
 abbrev pub is_kept : SuiteRoot → Parts → Item → Bool

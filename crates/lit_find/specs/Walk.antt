@@ -44,10 +44,6 @@ same_text one other = is_eq (slice_cmp nat_cmp one other)
 abbrev pub has_text : BTreeSet (Vec ℕ Global) → List ℕ → Bool
 has_text texts text = list_any (λ key. same_text text key.items) texts.keys
 
--- a set of texts has one more
-abbrev pub HasMore : List ℕ → BTreeSet (Vec ℕ Global) → BTreeSet (Vec ℕ Global) → Type 0
-HasMore more old new = (text : List ℕ) → has_text new text ≡ (same_text text more || has_text old text)
-
 -- the directory of this text was walked through
 abbrev pub was_walked : Walk → List ℕ → Bool
 was_walked walk text = has_text walk.walked text
@@ -66,7 +62,7 @@ IsDone walk Other path = ⊤
 
 -- a directory is walked through: what it lists is sorted by its suite
 pub record IsThrough (looked : Looked) (known : SuiteRoot) (old new : Walk) : Type 0 where
-  pub marked : HasMore (text_of looked.dir) old.walked new.walked
+  pub marked : (text : List ℕ) → was_walked new text ≡ (same_text text (text_of looked.dir) || was_walked old text)
   pub sorted : new ≡ with_items (unwrap_or looked.suite known) looked.dir
       (record { found = old.found; walked = new.walked; pending = old.pending }) looked.items
 

@@ -1,6 +1,6 @@
 //! The directories that a walk has before it.
-ghost use Rattle.std.specs.Prelude.{◌≡◌, ◌∷◌, ◌++◌, IfOk, OnOk, []};
-ghost use Rattle.lit_find.specs.Places.{IsInside, TakesFirst, parts_of, path_order, place_of_entry, put};
+ghost use Rattle.std.specs.Prelude.{◌≡◌, ◌∷◌, ◌++◌, IfOk, MatchOption, OnOk, []};
+ghost use Rattle.lit_find.specs.Places.{IsFirst, IsInside, parts_of, path_order, put};
 
 use crate::place::Place;
 use lit_look::SharedRoot;
@@ -80,8 +80,8 @@ impl Pending {
 
     /// Adds a directory.
     pub(crate) fn put(&mut self, key: Vec<Vec<u8>>, suite: SharedRoot) -> Result<(), NoMemory>
-        requires { IsInside (place_of_entry (key, suite)) }
-        ensures { OnOk result (self.new ≡ put path_order (place_of_entry (key, suite)) self.old) }
+        requires { IsInside (record { path = parts_of key; suite = suite }) }
+        ensures { OnOk result (self.new ≡ put path_order (record { path = parts_of key; suite = suite }) self.old) }
     {
         match self.held.insert(key, suite) {
             Ok(_) => Ok(()),
@@ -91,7 +91,7 @@ impl Pending {
 
     /// Takes the first directory.
     pub(crate) fn pop(&mut self, alloc: Global) -> Result<Option<Place>, NoMemory>
-        ensures { IfOk result (TakesFirst self.old self.new) }
+        ensures { IfOk result (λ found. MatchOption found ((self.old ≡ []) × (self.new ≡ [])) (IsFirst self.old self.new)) }
     {
         let Some((key, suite)) = self.held.pop_first() else {
             return Ok(None);

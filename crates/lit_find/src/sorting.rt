@@ -1,8 +1,8 @@
 //! What a directory lists, for a walk.
-ghost use Rattle.std.specs.Prelude.{◌≡◌, ◌++◌, ◌∷◌, [], OnOk};
+ghost use Rattle.std.specs.Prelude.{◌≡◌, ◌++◌, ◌∷◌, [], IfOk, OnOk};
 ghost use Rattle.lit_look.specs.Suites.{LiesIn};
-ghost use Rattle.lit_paths.specs.Paths.{slashed};
-ghost use Rattle.lit_find.specs.Sorting.{GivesText, with_item, with_items};
+ghost use Rattle.lit_paths.specs.Paths.{Parts, slashed, text_of};
+ghost use Rattle.lit_find.specs.Sorting.{with_item, with_items};
 ghost use Rattle.tt_outside.specs.TreeMap.{is_part};
 
 use crate::pending::key_in;
@@ -25,7 +25,8 @@ fn is_part(name: &[u8]) -> bool
 /// The text of an item's path. `front` stands before the names in its directory.
 #[tactic(auto, using(crate::proofs::PathLemmas::name_text))]
 fn text_in(alloc: Global, front: &[u8], item: &Item) -> Result<Bytes, NoMemory>
-    ensures { GivesText front.now item.now.name result }
+    ensures { (dir : Parts) → front.now ≡ slashed dir ++ 47 ∷ []
+        → IfOk result (λ text. text ≡ text_of (dir ++ item.now.name ∷ [])) }
 {
     chained(alloc, &[front, item.name.as_slice()])
 }

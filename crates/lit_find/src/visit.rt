@@ -1,9 +1,9 @@
 //! The walk through directories.
-ghost use Rattle.std.specs.Prelude.{◌≡◌, ◌≤◌, [], IfErr, OnOk};
+ghost use Rattle.std.specs.Prelude.{◌≡◌, ◌≤◌, ◌||◌, [], ℕ, IfErr, List, OnOk};
 ghost use Rattle.std.specs.Option.{unwrap_or};
 ghost use Rattle.lit_dirs.specs.Looks.{IsGone};
 ghost use Rattle.lit_find.specs.Places.{IsInside};
-ghost use Rattle.lit_find.specs.Walk.{Enters, GoesOn, GoesThrough, HasMore, room};
+ghost use Rattle.lit_find.specs.Walk.{Enters, GoesOn, GoesThrough, has_text, room, same_text};
 ghost use Rattle.lit_look.specs.Seen.{HasRoot};
 ghost use Rattle.lit_look.specs.Suites.{LiesIn};
 ghost use Rattle.lit_look.specs.Trees.{Leaves, fault_of};
@@ -31,7 +31,8 @@ fn own_or<'a>(looked: &'a Looked, known: &'a SharedRoot) -> &'a SharedRoot
 
 /// Marks a directory as walked through.
 fn mark(walked: &mut BTreeSet<Vec<u8>>, path: Vec<u8>) -> Result<(), NoMemory>
-    ensures { OnOk result (HasMore path.items walked.old walked.new) }
+    ensures { OnOk result ((text : List ℕ)
+        → has_text walked.new text ≡ (same_text text path.items || has_text walked.old text)) }
 {
     let Ok(_) = walked.insert(path) else {
         return Err(NoMemory);

@@ -1,27 +1,22 @@
 -- What a look at a directory gives, and a look for its suite, where the tree tells what stands in it.
 -- Own rule: directories are looked at from the one whose suite is wanted upward, to the first with a suite file.
-use Rattle.std.specs.Prelude.{◌≡◌, ◌≢◌, ℕ, true, List, ◌∷◌, ◌++◌, Option, None, Some, MatchOption, Result, ◌⊎◌, slice_get}
+use Rattle.std.specs.Prelude.{◌≡◌, ◌≢◌, ℕ, List, ◌∷◌, ◌++◌, Option, None, Some, Result, ◌⊎◌, slice_get}
 use Rattle.std.specs.List.{Contains}
 use Rattle.tt_outside.specs.declared.tree.Node.{Node}
 use Rattle.tt_outside.specs.declared.tree.ItemKind.TheVariants.{Dir, File}
-use Rattle.tt_outside.specs.TreeMap.{are_nested}
 use Rattle.lit_paths.specs.Paths.{Parts, text_of}
 use Rattle.lit_dirs.specs.Looks.{kind_of}
 use Rattle.lit_dirs.specs.declared.fault.DiscoverFault.{DiscoverFault}
 use Rattle.lit_dirs.specs.declared.fault.DiscoverFault.TheVariants.{Missing, NoSuite}
 use Rattle.lit_look.specs.declared.root.SuiteRoot.{SuiteRoot}
 use Rattle.lit_look.specs.declared.seen.Looked.{Looked}
-use Rattle.lit_look.specs.Seen.{AreLooks, AreSeen, Has, Refuses, RefusesNext}
+use Rattle.lit_look.specs.Seen.{AreSeen, Has, Refuses, RefusesNext}
 use Rattle.lit_look.specs.Suites.{looked_up, nearest, rooted_at}
 use Rattle.lit_look.specs.Trees.{Gives}
 
 -- this is the number of a directory
 abbrev pub IsNumberOf : List Looked → Parts → ℕ → Type 0
 IsNumberOf seen dir number = (looked : Looked) × (slice_get seen number ≡ Some looked) × (looked.dir ≡ dir)
-
--- this is found of a directory: its number, or none where it wasn't looked at
-abbrev pub FindsNumber : List Looked → Parts → Option ℕ → Type 0
-FindsNumber seen dir found = MatchOption found (¬ (Has seen dir)) (IsNumberOf seen dir)
 
 -- the suite that a directory is the root of
 abbrev pub suite_of : Option Looked → Option SuiteRoot
@@ -52,15 +47,6 @@ GivesLook nodes dir old new =
 abbrev pub GivesDirLook : List Node → Parts → List Looked → List Looked → Result ℕ DiscoverFault → Type 0
 GivesDirLook nodes dir old new =
     Gives (λ number. AreSeen nodes (λ one. Has old one ⊎ (one ≡ dir)) new) (RefusesNext nodes old dir)
-
--- so it is behind looks, where the tree tells what stands in it
-abbrev pub LooksAt : Option (List Node) → Parts → List Looked → List Looked → Result (Option ℕ) DiscoverFault → Type 0
-LooksAt told dir old new result =
-    (nodes : List Node) → told ≡ Some nodes → AreLooks nodes old → GivesLook nodes dir old new result
-
-abbrev pub LooksIn : Option (List Node) → Parts → List Looked → List Looked → Result ℕ DiscoverFault → Type 0
-LooksIn told dir old new result =
-    (nodes : List Node) → told ≡ Some nodes → AreLooks nodes old → GivesDirLook nodes dir old new result
 
 -- ---- the directories up to a suite
 
@@ -94,10 +80,3 @@ abbrev pub GivesNearest : List Node → Parts → Parts → List Looked → List
 GivesNearest nodes dir word old new =
     Gives (IsNearest nodes dir old new)
     (λ fault. IsAbsent nodes dir fault ⊎ ((kind_of nodes dir ≡ Some Dir) × RefusesUp nodes (Has old) dir word fault))
-
--- so it is behind looks, where the tree tells what stands in it, and that is nested
-abbrev pub LooksUp : Option (List Node) → Parts → Parts → List Looked → List Looked
-    → Result (Option SuiteRoot) DiscoverFault → Type 0
-LooksUp told dir word old new result =
-    (nodes : List Node) → told ≡ Some nodes → AreLooks nodes old → are_nested nodes ≡ true
-    → GivesNearest nodes dir word old new result

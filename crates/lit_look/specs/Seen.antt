@@ -1,12 +1,12 @@
 -- The directories that were looked at.
 -- Own rule: each directory is looked at once, and what all of them list has a limit.
-use Rattle.std.specs.Prelude.{◌≡◌, ◌≢◌, ℕ, ◌+◌, ◌≤◌, nat_lt, if◌then◌else◌, List, map, length, All, Option, Some, None, IfSome, Ok}
-use Rattle.std.specs.List.{AllPairs, Contains, sum_by}
+use Rattle.std.specs.Prelude.{◌≡◌, ◌≢◌, ℕ, ◌+◌, ◌≤◌, nat_lt, true, if◌then◌else◌, List, map, length, All, Option, Some, None, IfSome, Ok}
+use Rattle.std.specs.List.{AllPairs, Contains, list_all, sum_by}
 use Rattle.std.specs.Option.{option_map}
 use Rattle.tt_outside.specs.declared.tree.Node.{Node}
 use Rattle.tt_outside.specs.declared.tree.Item.{Item}
-use Rattle.tt_outside.specs.TreeMap.{Lists}
-use Rattle.lit_paths.specs.Paths.{AreParts, Parts, text_of}
+use Rattle.tt_outside.specs.TreeMap.{Lists, is_part}
+use Rattle.lit_paths.specs.Paths.{Parts, text_of}
 use Rattle.lit_suite.specs.declared.suite_file.Suite.{Suite}
 use Rattle.lit_dirs.specs.Looks.{fault_in}
 use Rattle.lit_dirs.specs.Suites.{suite_at}
@@ -21,19 +21,15 @@ Has seen dir = Contains (map (λ looked. looked.dir) seen) dir
 
 -- the directory is made of parts
 abbrev pub HasParts : Looked → Type 0
-HasParts looked = AreParts looked.dir
-
--- a directory is the root of a suite, if there is one
-abbrev pub LiesAt : Parts → Option SuiteRoot → Type 0
-LiesAt dir root = IfSome root (λ one. one.dir ≡ dir)
+HasParts looked = list_all is_part looked.dir ≡ true
 
 -- it is the root of its suite, if it has one
 abbrev pub HasRoot : Looked → Type 0
-HasRoot looked = LiesAt looked.dir looked.suite
+HasRoot looked = IfSome looked.suite (λ root. root.dir ≡ looked.dir)
 
 -- a suite with its directory
 abbrev pub Roots : Parts → Option Suite → Option SuiteRoot → Type 0
-Roots dir suite root = (option_map (λ one. one.suite) root ≡ suite) × LiesAt dir root
+Roots dir suite root = (option_map (λ one. one.suite) root ≡ suite) × IfSome root (λ one. one.dir ≡ dir)
 
 -- this is what a look at the directory gives, which nothing refuses
 pub record IsLook (nodes : List Node) (looked : Looked) : Type 0 where

@@ -1,7 +1,9 @@
 -- The suite of a directory.
 -- Own rule: a directory's suite is the one at it, or at the nearest directory above.
-use Rattle.std.specs.Prelude.{◌≡◌, List, [], ◌∷◌, ◌++◌, Option, None, Some, Result, Ok, Err, map, reverse}
-use Rattle.lit_paths.specs.Paths.{AreParts, Parts}
+use Rattle.std.specs.Prelude.{◌≡◌, true, List, [], ◌∷◌, ◌++◌, Option, None, Some, Result, Ok, Err, map, reverse}
+use Rattle.std.specs.List.{list_all}
+use Rattle.tt_outside.specs.TreeMap.{is_part}
+use Rattle.lit_paths.specs.Paths.{Parts}
 use Rattle.lit_dirs.specs.Suites.{suite_at}
 use Rattle.lit_suite.specs.declared.suite_file.Suite.{Suite}
 use Rattle.lit_suite.specs.declared.suite_file.SuiteFault.{SuiteFault}
@@ -62,4 +64,4 @@ nearest nodes dir = first_suite nodes (upward dir)
 pub record LiesIn (dir path : Parts) : Type 0 where
   pub rest : Parts
   pub is : path ≡ dir ++ rest
-  pub parts : AreParts path
+  pub parts : list_all is_part path ≡ true

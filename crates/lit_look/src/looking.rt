@@ -1,12 +1,14 @@
 //! A look at a directory.
-ghost use Rattle.std.specs.Prelude.{IfErr, IfOk, IfSome};
+ghost use Rattle.std.specs.Prelude.{◌≡◌, IfErr, IfOk, IfSome, List, true};
+ghost use Rattle.std.specs.List.{list_all};
 ghost use Rattle.lit_suite.specs.Whole.{IsWhole};
 ghost use Rattle.lit_dirs.specs.Looks.{IsGone};
-ghost use Rattle.lit_paths.specs.Paths.{AreParts, text_of};
-ghost use Rattle.lit_look.specs.Looks.{Extends, IsNumberOf, LooksAt, LooksIn};
-ghost use Rattle.lit_look.specs.Seen.{Has, Roots};
+ghost use Rattle.lit_paths.specs.Paths.{text_of};
+ghost use Rattle.lit_look.specs.Looks.{Extends, GivesDirLook, GivesLook, IsNumberOf};
+ghost use Rattle.lit_look.specs.Seen.{AreLooks, Has, Roots};
 ghost use Rattle.lit_look.specs.Trees.{Leaves, fault_of};
-ghost use Rattle.tt_outside.specs.TreeMap.{Lists};
+ghost use Rattle.tt_outside.specs.declared.tree.Node.{Node};
+ghost use Rattle.tt_outside.specs.TreeMap.{Lists, is_part};
 
 use crate::root::{SharedRoot, SuiteRoot};
 use crate::seen::{Looked, Seen};
@@ -43,10 +45,11 @@ fn enter<T: Tree>(
     dir: &[Bytes],
     items: Items<Item>,
 ) -> Result<usize, DiscoverFault>
-    requires parts { AreParts dir.now }
+    requires parts { list_all is_part dir.now ≡ true }
     requires lists { IfSome (T.nodes tree.old) (λ nodes. Lists nodes (text_of dir.now) items) }
     requires new { ¬ (Has seen.old dir.now) }
-    ensures gives { LooksIn (T.nodes tree.old) dir.now seen.old seen.new result }
+    ensures gives { (nodes : List Node) → T.nodes tree.old ≡ Some nodes → AreLooks nodes seen.old
+        → GivesDirLook nodes dir.now seen.old seen.new result }
     ensures gone { IfErr result (IsGone dir.now) }
     ensures number { IfOk result (IsNumberOf seen.new dir.now) }
     ensures extends { Extends seen.old seen.new }
@@ -76,8 +79,9 @@ pub fn look<T: Tree>(
     seen: &mut Seen,
     dir: &[Bytes],
 ) -> Result<Option<usize>, DiscoverFault>
-    requires parts { AreParts dir.now }
-    ensures gives { LooksAt (T.nodes tree.old) dir.now seen.old seen.new result }
+    requires parts { list_all is_part dir.now ≡ true }
+    ensures gives { (nodes : List Node) → T.nodes tree.old ≡ Some nodes → AreLooks nodes seen.old
+        → GivesLook nodes dir.now seen.old seen.new result }
     ensures gone { IfErr result (IsGone dir.now) }
     ensures number { IfOk result (λ found. IfSome found (IsNumberOf seen.new dir.now)) }
     ensures extends { Extends seen.old seen.new }

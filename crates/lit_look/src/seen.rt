@@ -1,8 +1,9 @@
 //! The directories that a discovery has looked at.
-ghost use Rattle.std.specs.Prelude.{◌≡◌, ◌+◌, ◌<◌, ◌≤◌, ◌++◌, ◌∷◌, ◌↔◌, [], All, IfOk, IsTrue, OnErr, OnOk, Some, length, slice_get};
-ghost use Rattle.lit_look.specs.Looks.{FindsNumber};
+ghost use Rattle.std.specs.Prelude.{◌≡◌, ◌+◌, ◌<◌, ◌≤◌, ◌++◌, ◌∷◌, ◌↔◌, [], All, IfOk, IsTrue, MatchOption, OnErr, OnOk, Some, length, slice_get, true};
+ghost use Rattle.std.specs.List.{list_all};
+ghost use Rattle.lit_look.specs.Looks.{IsNumberOf};
 ghost use Rattle.lit_look.specs.Seen.{Has, HasParts, HasRoot, count_items};
-ghost use Rattle.lit_paths.specs.Paths.{AreParts};
+ghost use Rattle.tt_outside.specs.TreeMap.{is_part};
 
 use crate::root::SharedRoot;
 use lit_paths::text_of;
@@ -76,8 +77,8 @@ impl Seen {
 
     /// The number of a directory, if it was looked at.
     pub(crate) fn number_of(&self, alloc: Global, dir: &[Bytes]) -> Result<Option<usize>, NoMemory>
-        requires { AreParts dir.now }
-        ensures { IfOk result (FindsNumber self.now dir.now) }
+        requires { list_all is_part dir.now ≡ true }
+        ensures { IfOk result (λ found. MatchOption found (¬ (Has self.now dir.now)) (IsNumberOf self.now dir.now)) }
     {
         let path = text_of(alloc, dir)?;
         Ok(self.numbers.get(path.as_slice()).copied())

@@ -1,10 +1,13 @@
 //! The nearest suite of a directory.
-ghost use Rattle.std.specs.Prelude.{◌≡◌, ◌<◌, IfOk, IfSome, length, slice_get};
-ghost use Rattle.lit_look.specs.Looks.{Extends, IsNumberOf, LooksUp, suite_of};
-ghost use Rattle.lit_look.specs.Seen.{LiesAt};
+ghost use Rattle.std.specs.Prelude.{◌≡◌, ◌<◌, IfOk, IfSome, List, Some, length, slice_get, true};
+ghost use Rattle.std.specs.List.{list_all};
+ghost use Rattle.lit_look.specs.Looks.{Extends, GivesNearest, IsNumberOf, suite_of};
+ghost use Rattle.lit_look.specs.Seen.{AreLooks};
 ghost use Rattle.lit_look.specs.Suites.{LiesIn};
 ghost use Rattle.lit_look.specs.Trees.{Leaves, fault_of};
-ghost use Rattle.lit_paths.specs.Paths.{AreParts, Parts};
+ghost use Rattle.lit_paths.specs.Paths.{Parts};
+ghost use Rattle.tt_outside.specs.declared.tree.Node.{Node};
+ghost use Rattle.tt_outside.specs.TreeMap.{are_nested, is_part};
 
 use crate::looking::look;
 use crate::root::SharedRoot;
@@ -19,7 +22,8 @@ use tt_outside::Tree;
 fn suite_of(seen: &Seen, number: usize) -> Result<Option<SharedRoot>, NoMemory>
     requires { number < length seen.now }
     ensures suite { IfOk result (λ root. root ≡ suite_of (slice_get seen.now number)) }
-    ensures here { (dir : Parts) → IsNumberOf seen.now dir number → IfOk result (LiesAt dir) }
+    ensures here { (dir : Parts) → IsNumberOf seen.now dir number
+        → IfOk result (λ root. IfSome root (λ one. one.dir ≡ dir)) }
 {
     match &seen.at(number).suite {
         Some(root) => Ok(Some(root.share()?)),
@@ -36,8 +40,9 @@ pub fn nearest<T: Tree>(
     dir: &[Bytes],
     word: &[Bytes],
 ) -> Result<Option<SharedRoot>, DiscoverFault>
-    requires parts { AreParts dir.now }
-    ensures gives { LooksUp (T.nodes tree.old) dir.now word.now seen.old seen.new result }
+    requires parts { list_all is_part dir.now ≡ true }
+    ensures gives { (nodes : List Node) → T.nodes tree.old ≡ Some nodes → AreLooks nodes seen.old
+        → are_nested nodes ≡ true → GivesNearest nodes dir.now word.now seen.old seen.new result }
     ensures above { IfOk result (λ found. IfSome found (λ root. LiesIn root.dir dir.now)) }
     ensures extends { Extends seen.old seen.new }
     ensures tree { Leaves T.nodes T.root T.faults T.steady tree.old tree.new (fault_of result) }

@@ -3,11 +3,8 @@
 -- is found. Found means that the expression has a hit in the name, leftmost and longest, after POSIX.1 XBD 9.4.
 use Rattle.std.specs.Prelude.{ℕ, Bool, true, false, List, Option, None, Some, is_some, if◌then◌else◌, not}
 use Rattle.std.specs.List.{filter}
-use Rattle.std.specs.Option.{option_map}
 use Rattle.ere_hit.specs.Value.{hit_in}
 use Rattle.ere_tree.specs.Tree.{Tree}
-use Rattle.ere_tree.specs.View.{view}
-use Rattle.ere_tree.specs.declared.ere.Ere.{Ere}
 use Rattle.tt_outside.specs.declared.test_data.Test.{Test}
 
 -- an expression is found in a text
@@ -30,7 +27,3 @@ chosen_by is_wanted (Some tree) tests = chosen is_wanted tree tests
 -- those that the first expression keeps, without those that the second drops
 abbrev pub selected : Option Tree → Option Tree → List Test → List Test
 selected keep drop tests = chosen_by false drop (chosen_by true keep tests)
-
--- the same, of expressions by their trees
-abbrev pub selected_by : Option Ere → Option Ere → List Test → List Test
-selected_by keep drop tests = selected (option_map view keep) (option_map view drop) tests

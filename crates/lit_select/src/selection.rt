@@ -1,7 +1,8 @@
 //! The tests that a run keeps.
 ghost use Rattle.std.specs.Prelude.{◌≡◌, ◌<◌, IfOk};
+ghost use Rattle.std.specs.Option.{option_map};
 ghost use Rattle.ere_tree.specs.View.{view};
-ghost use Rattle.lit_select.specs.Selection.{chosen, selected_by};
+ghost use Rattle.lit_select.specs.Selection.{chosen, selected};
 
 use crate::finder::Finder;
 use ere_auto::Steps;
@@ -44,7 +45,7 @@ fn select_by<L: Ledger>(
     requires name { blank.name ≡ L.name }
     requires parts { blank.parts ≡ L.parts }
     requires some_part { 0 < blank.parts }
-    ensures { IfOk result (λ kept. kept ≡ selected_by keep.now drop.now tests) }
+    ensures { IfOk result (λ kept. kept ≡ selected (option_map view keep.now) (option_map view drop.now) tests) }
 {
     let mut steps = Steps::<L>::new(blank);
     let tests = match keep {
@@ -64,7 +65,7 @@ pub fn select(
     keep: &Option<Ere>,
     drop: &Option<Ere>,
 ) -> Result<Items<Test>, NoMemory>
-    ensures { IfOk result (λ kept. kept ≡ selected_by keep.now drop.now tests) }
+    ensures { IfOk result (λ kept. kept ≡ selected (option_map view keep.now) (option_map view drop.now) tests) }
 {
     select_by::<Brand>(alloc, tests, keep, drop, Blank::new(1))
 }

@@ -9,10 +9,9 @@ use Rattle.lit_tool.specs.declared.stop.Stop.{Stop}
 use Rattle.lit_tool.specs.declared.stop.Stop.TheVariants.{Discovery}
 use Rattle.run_report.specs.Message.{unplaced}
 use Rattle.run_report.specs.Run.{Rests}
-use Rattle.tt_outside.specs.declared.sink.Sink.{Ghosts as OfSink}
 use Rattle.tt_outside.specs.declared.test_data.Test.{Test}
 use Rattle.tt_run.specs.Frame.{cannot_write, newline, out_of_memory}
-use Rattle.tt_run.specs.Run.{Answered, Stream, Told, Written, stream_of}
+use Rattle.tt_run.specs.Run.{Answered, Stream, Told, Written}
 use Rattle.tt_run.specs.declared.answer.Answer.{Answer}
 
 -- ---- want of memory
@@ -58,11 +57,6 @@ TellsStop stop status err =
 abbrev pub WritesNames : List (List ℕ) → ℕ → Stream → Stream → Type 0
 WritesNames names status out err =
     LacksMemory status out err ⊎ Written (cannot_write (codes "lit")) (showing (shown_names names)) status out err
-
--- so they are written on the streams as they were and are
-abbrev pub WritesOn : {O E : Type 0} → OfSink O → OfSink E → List (List ℕ) → ℕ → O → O → E → E → Type 0
-WritesOn on_out on_err names status out written err told =
-    WritesNames names status (stream_of on_out out written) (stream_of on_err err told)
 
 -- the names of these tests are written, or why there are none
 abbrev pub TellsNames : Result (List Test) Stop → ℕ → Stream → Stream → Type 0

@@ -1,7 +1,7 @@
 //! What is written where nothing is run.
 ghost use Rattle.std.specs.Prelude.{◌≡◌, ◌≤◌, ◌++◌, IfOk, OnOk};
 ghost use Rattle.tt_run.specs.Run.{stream_of};
-ghost use Rattle.lit_tool.specs.Answer.{TellsStop, WritesOn, name_line, shown_names, status_of};
+ghost use Rattle.lit_tool.specs.Answer.{TellsStop, WritesNames, name_line, shown_names, status_of};
 ghost use Rattle.lit_tool.specs.Message.{text_of};
 
 use crate::message::message_of;
@@ -40,7 +40,8 @@ pub(crate) fn write_names<O: Sink, E: Sink>(
     out: &mut O,
     err: &mut E,
 ) -> u8
-    ensures { WritesOn O.Sink E.Sink names.now result out.old out.new err.old err.new }
+    ensures { WritesNames names.now result
+        (stream_of O.Sink out.old out.new) (stream_of E.Sink err.old err.new) }
 {
     let Ok(text) = shown_names(alloc, names) else {
         return LIT.out_of_memory(err);

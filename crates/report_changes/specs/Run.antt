@@ -7,8 +7,7 @@ use Rattle.json_report.specs.declared.changed.Change.{Change}
 use Rattle.json_report.specs.declared.line.Line.{Line}
 use Rattle.json_report.specs.declared.line.ReportFault.{ReportFault}
 use Rattle.tt_outside.specs.declared.files.Files.{Ghosts as OfFiles}
-use Rattle.tt_outside.specs.declared.sink.Sink.{Ghosts as OfSink}
-use Rattle.tt_run.specs.Run.{Answers, Files, FileRead, FilesRest, IsKept, LacksMemory, Stream, files_of, stream_of}
+use Rattle.tt_run.specs.Run.{Answers, Files, FileRead, FilesRest, IsKept, Stream, files_of}
 use Rattle.tt_run.specs.declared.answer.Answer.{Answer}
 use Rattle.tt_run.specs.declared.reading.Reading.{Reading}
 use Rattle.tt_run.specs.declared.reading.Reading.TheVariants as reading
@@ -72,8 +71,3 @@ AnswerOf of first last words answer =
 abbrev pub Compares : {F : Type 0} → List (List ℕ) → OfFiles F → F → F → ℕ → Stream → Stream → Type 0
 Compares words of first last result out err =
     Answers (codes "lit_changes") (AnswerOf of first last words) result out err
-
--- or the want of memory, on the streams as they were and are
-abbrev pub TellsLack : {O E : Type 0} → OfSink O → OfSink E → ℕ → O → O → E → E → Type 0
-TellsLack on_out on_err status out written err told =
-    LacksMemory (codes "lit_changes") status (stream_of on_out out written) (stream_of on_err err told)

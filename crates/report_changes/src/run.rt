@@ -1,9 +1,9 @@
 //! The top call.
-ghost use Rattle.std.specs.Prelude.{◌≡◌, ◌⊎◌, ◌<◌, ◌≤◌, ◌≢◌, IfErr, IfOk, length};
+ghost use Rattle.std.specs.Prelude.{◌≡◌, ◌⊎◌, ◌<◌, ◌≤◌, ◌≢◌, IfErr, IfOk, codes, length};
 ghost use Rattle.opt_words.specs.Step.{texts};
-ghost use Rattle.report_changes.specs.Run.{AnswerOf, Compares, OutcomeOf, ReportRead, TellsLack};
+ghost use Rattle.report_changes.specs.Run.{AnswerOf, Compares, OutcomeOf, ReportRead};
 ghost use Rattle.report_changes.specs.Stop.{IsToldOf, word_at};
-ghost use Rattle.tt_run.specs.Run.{Failed, IsKept, files_of, stream_of};
+ghost use Rattle.tt_run.specs.Run.{Failed, IsKept, LacksMemory, files_of, stream_of};
 
 use crate::answer::answer_to;
 use crate::asked::asked;
@@ -38,7 +38,7 @@ pub fn changes_run<F: Files, O: Sink, E: Sink>(
         ⊎ Failed O.faults out.old out.new ⊎ Failed E.faults err.old err.new }
     ensures calm { F.steady files.old → result ≡ 3 →
         Failed O.faults out.old out.new ⊎ Failed E.faults err.old err.new }
-    ensures memory { TellsLack O.Sink E.Sink result out.old out.new err.old err.new }
+    ensures memory { LacksMemory (codes "lit_changes") result (stream_of O.Sink out.old out.new) (stream_of E.Sink err.old err.new) }
     ensures files_stay { IsKept F.Files files.old files.new }
     ensures no_other { result ≤ 4 }
 {

@@ -1,16 +1,14 @@
 -- A run of tests with its report, by where it stopped.
 -- After LLVM Command Guide, lit, for the report and its status. Own rules: the header goes before a hand is hired, a fault of the
 -- report is told once on the other stream, and hands are dismissed however the run ends.
-use Rattle.std.specs.Prelude.{◌≡◌, ◌≢◌, ◌⊎◌, ℕ, ◌+◌, ◌<◌, ◌≤◌, Bool, true, List, [], ◌++◌, codes, length, map, Option, None, Some, Result, Ok, Err}
+use Rattle.std.specs.Prelude.{◌≡◌, ◌≢◌, ◌⊎◌, ℕ, ◌+◌, ◌<◌, ◌≤◌, Bool, true, List, [], ◌++◌, codes, length, map, Option, None, Some, Ok, Err}
 use Rattle.std.specs.List.{list_all, sum_by}
 use Rattle.std.specs.Io.KnownBytes.{Appends}
 use Rattle.tt_outside.specs.Faults.{Rose}
 use Rattle.tt_outside.specs.Gave.{Gave}
-use Rattle.tt_outside.specs.declared.crew.Left.{Left}
-use Rattle.tt_outside.specs.declared.sink.Sink.{Ghosts as OfSink}
 use Rattle.tt_outside.specs.declared.test_data.Test.{Test}
 use Rattle.tt_run.specs.Frame.{cannot_write, out_of_memory}
-use Rattle.tt_run.specs.Run.{Answered, Crew, Stream, Taken, Told, stream_of}
+use Rattle.tt_run.specs.Run.{Answered, Crew, Stream, Taken, Told}
 use Rattle.lit_words.specs.declared.asked.Detail.{Detail}
 use Rattle.lit_words.specs.declared.asked.Detail.TheVariants.{Quiet, Whole, Verbose, Plain, Json}
 use Rattle.lit_test.specs.declared.trial.Trial.{Trial}
@@ -92,11 +90,6 @@ HeaderFails head out err status =
     ((status ≡ 4) × Rests out × Told (out_of_memory (codes "lit")) err)
     ⊎ ((status ≡ 3) × StopsBehind [] head out × Told (cannot_write (codes "lit")) err)
 
--- so the header of a report of so many tests failed, on the streams as they were and are
-abbrev pub NoHeader : {O E : Type 0} → OfSink O → OfSink E → Detail → ℕ → O → O → E → E → ℕ → Type 0
-NoHeader on_out on_err detail tests out written err told status =
-    HeaderFails (header detail tests) (stream_of on_out out written) (stream_of on_err err told) status
-
 -- there was no header
 abbrev pub LacksHeader : List ℕ → Around → LitEnd → Type 0
 LacksHeader head a end = (end ≡ untried end.status) × HeaderFails head a.out a.err end.status × NoHand a.hired
@@ -123,14 +116,6 @@ pub record StopsTests (before : List ℕ) (detail : Detail) (tests : List Test) 
   pub trials : AreTrials gave 0 done (returned stop)
   pub within : kept_by stop.trials ≤ MAX_KEPT
   pub wrote : StopWrites before detail (length tests) stop.trials stop.other stop.why out
-
--- so tests were run up to a stop, the first part of a report on a stream as it was and is
-abbrev pub StopsIn : {O : Type 0} → OfSink O → Detail → List Test → Gave → O → O → PoolStop → Type 0
-StopsIn on_out detail tests gave out written stop = StopsTests [] detail tests gave (stream_of on_out out written) stop
-
--- the hands that a crew dismissed in a run of these tests
-abbrev pub Dismisses : {C : Type 0} → (C → List Left) → ℕ → List Test → Result (List Trial) PoolStop → C → C → Type 0
-Dismisses hands workers tests ended old new = LeavesHands workers (length tests) ended (hands old) (hands new)
 
 -- what is told of it, and its status
 abbrev pub StopTells : PoolWhy → ℕ → Stream → Type 0
@@ -161,21 +146,11 @@ abbrev pub ReportEnds : Detail → ℕ → List Trial → ℕ → Stream → Str
 ReportEnds detail tests trials status out err =
     EndWrites [] (end_text detail tests trials) (status_of (map told_of trials)) status out err
 
--- so it ends on the streams as they were and are
-abbrev pub EndsReport : {O E : Type 0} → OfSink O → OfSink E → Detail → ℕ → List Trial → ℕ → O → O → E → E → Type 0
-EndsReport on_out on_err detail tests trials status out written err told =
-    ReportEnds detail tests trials status (stream_of on_out out written) (stream_of on_err err told)
-
 -- the parts of trials were written, which keep no more than they may; so much room is left
 abbrev pub PartsWrite : Detail → ℕ → Stream → ℕ → List Trial → Type 0
 PartsWrite detail tests out room trials =
     Taken (parts_from detail tests 0 (map told_of trials)) out × (kept_by trials ≤ MAX_KEPT)
     × (out.room ≤ room + length (parts_from detail tests 0 (map told_of trials)))
-
--- so they were written on a stream as it was and is
-abbrev pub WritesParts : {O : Type 0} → OfSink O → Detail → List Test → O → O → List Trial → Type 0
-WritesParts on_out detail tests out written trials =
-    PartsWrite detail (length tests) (stream_of on_out out written) (on_out.room written) trials
 
 -- every test was run: there is a trial of each, in order, and the report is of these
 pub record RunsAll (detail : Detail) (workers : ℕ) (tests : List Test) (a : Around) (end : LitEnd) : Type 0 where

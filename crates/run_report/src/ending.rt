@@ -1,9 +1,10 @@
 //! How a run of lit ends.
 ghost use Rattle.std.specs.Prelude.{◌≡◌, IfOk, map, true};
+ghost use Rattle.tt_run.specs.Run.{stream_of};
 ghost use Rattle.std.specs.List.{list_all};
 ghost use Rattle.lit_json.specs.Trials.{is_text, test_of};
 ghost use Rattle.lit_pool.specs.Pool.{told_of};
-ghost use Rattle.run_report.specs.Run.{EndsReport, are_told, end_text, untried};
+ghost use Rattle.run_report.specs.Run.{ReportEnds, are_told, end_text, untried};
 
 use crate::message::LIT;
 use crate::parts::write_piece;
@@ -85,7 +86,8 @@ pub(crate) fn write_end<O: Sink, E: Sink>(
     err: &mut E,
 ) -> u8
     requires { are_told detail (map test_of trials.now) ≡ true }
-    ensures { EndsReport O.Sink E.Sink detail count trials.now result out.old out.new err.old err.new }
+    ensures { ReportEnds detail count trials.now result
+        (stream_of O.Sink out.old out.new) (stream_of E.Sink err.old err.new) }
 {
     let Ok(told) = reported(alloc, trials) else {
         return LIT.out_of_memory(err);

@@ -3,7 +3,8 @@ ghost use Rattle.std.specs.Prelude.{◌≡◌, ◌≤◌, ◌+◌, ◌<◌, [], 
 ghost use Rattle.tt_outside.specs.Gave.{SameGave};
 ghost use Rattle.tt_run.specs.Run.{Taken, stream_of};
 ghost use Rattle.lit_round.specs.Trials.{AreTrials};
-ghost use Rattle.run_report.specs.Run.{Dismisses, StopsBehind, StopsIn, WritesParts};
+ghost use Rattle.lit_pool.specs.Crew.{LeavesHands};
+ghost use Rattle.run_report.specs.Run.{PartsWrite, StopsBehind, StopsTests};
 
 use lit_desk::LitDesk;
 use lit_pool::{PoolStop, run_all};
@@ -38,9 +39,11 @@ pub(crate) fn report_each<R: Threads + Wait + Sync, C: Crew, O: Sink>(
     requires workers { (0 < asked.now.workers) × (asked.now.workers ≤ 64) }
     requires ready { C.ready from.old }
     ensures trials { IfOk result (AreTrials (C.gave from.old) 0 tests.now) }
-    ensures wrote { IfOk result (WritesParts O.Sink asked.now.detail tests.now out.old out.new) }
-    ensures stopped { IfErr result (StopsIn O.Sink asked.now.detail tests.now (C.gave from.old) out.old out.new) }
-    ensures hands { Dismisses C.hands asked.now.workers tests.now result from.old from.new }
+    ensures wrote { IfOk result (PartsWrite asked.now.detail (length tests.now)
+        (stream_of O.Sink out.old out.new) (O.room out.new)) }
+    ensures stopped { IfErr result (StopsTests [] asked.now.detail tests.now (C.gave from.old)
+        (stream_of O.Sink out.old out.new)) }
+    ensures hands { LeavesHands asked.now.workers (length tests.now) result (C.hands from.old) (C.hands from.new) }
     ensures gave { SameGave (C.gave from.new) (C.gave from.old) }
     ensures ready { C.ready from.new }
 {

@@ -3,7 +3,7 @@ ghost use Rattle.std.specs.Prelude.{◌≡◌, ◌<◌, ◌≤◌, ◌+◌, IfEr
 ghost use Rattle.tt_outside.specs.Gave.{SameGave};
 ghost use Rattle.tt_run.specs.Run.{Taken, crew_of, stream_of};
 ghost use Rattle.lit_report.specs.Report.{header};
-ghost use Rattle.run_report.specs.Run.{NoHeader, RunEnds, are_told, around};
+ghost use Rattle.run_report.specs.Run.{HeaderFails, RunEnds, are_told, around};
 
 use crate::ending::{LitEnd, write_end};
 use crate::message::{LIT, tell_stop};
@@ -27,7 +27,8 @@ fn write_header<O: Sink, E: Sink>(
     ensures taken { OnOk result (Taken (header detail tests) (stream_of O.Sink out.old out.new)) }
     ensures room { OnOk result (O.room out.old ≤ O.room out.new + length (header detail tests)) }
     ensures calm { OnOk result (err.new ≡ err.old) }
-    ensures fails { IfErr result (NoHeader O.Sink E.Sink detail tests out.old out.new err.old err.new) }
+    ensures fails { IfErr result (HeaderFails (header detail tests)
+        (stream_of O.Sink out.old out.new) (stream_of E.Sink err.old err.new)) }
 {
     let Ok(text) = header(alloc, detail, tests) else {
         return Err(LIT.out_of_memory(err));

@@ -2,9 +2,7 @@
 -- After the GNU Coding Standards, Command-Line Interfaces: `--help` and `--version`. Own rule: only where it is the only word.
 use Rattle.std.specs.Prelude.{◌≡◌, ◌⊎◌, ℕ, ◌||◌, if◌then◌else◌, List, [], ◌∷◌, Option, Some, None, codes}
 use Rattle.std.specs.Str.{bytes_eq}
-use Rattle.tt_outside.specs.declared.sink.Sink.{Ghosts as OfSink}
-use Rattle.tt_run.specs.Frame.{cannot_write}
-use Rattle.tt_run.specs.Run.{Stopped, Stream, Taken, Told, stream_of}
+use Rattle.tt_run.specs.Run.{Stopped, Stream, Taken, Told}
 use Rattle.tt_main.specs.declared.page.Page.{Page}
 use Rattle.tt_main.specs.declared.page.Page.TheVariants.{Help, Version}
 
@@ -23,8 +21,3 @@ page_of (word ∷ (other ∷ more)) = None
 abbrev pub Shown : List ℕ → List ℕ → ℕ → Stream → Stream → Type 0 → Type 0
 Shown text fault status out err untouched =
     ((status ≡ 0) × Taken text out × untouched) ⊎ ((status ≡ 3) × Stopped text out × Told fault err)
-
--- so the tool of a name shows a page on its two streams
-abbrev pub Shows : {O E : Type 0} → OfSink O → OfSink E → List ℕ → List ℕ → ℕ → O → O → E → E → Type 0
-Shows on_out on_err text name status out written err told =
-    Shown text (cannot_write name) status (stream_of on_out out written) (stream_of on_err err told) (told ≡ err)

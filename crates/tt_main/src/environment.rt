@@ -1,6 +1,7 @@
 //! The words that a variable of the environment puts before those of the command line.
-ghost use Rattle.std.specs.Prelude.{◌≡◌, ◌++◌, ◌∷◌, [], IfOk, OnOk, filter, map};
-ghost use Rattle.tt_main.specs.Environment.{is_between, is_word, parts_in, texts, words_in};
+ghost use Rattle.std.specs.Prelude.{◌≡◌, ◌++◌, ◌∷◌, [], IfOk, OnOk, filter, map, string_bytes};
+ghost use Rattle.std.specs.List.{slice_split};
+ghost use Rattle.tt_main.specs.Environment.{is_between, is_word, words_in};
 
 use std::alloc::{AllocError, Global};
 use std::env::{self, Env, VarError};
@@ -24,7 +25,8 @@ pub fn with_variable<R: Env + AllocGlobal>(
 
 /// The words of a variable's value, and behind them the words.
 pub fn put_before(alloc: Global, value: &[u8], words: Vec<String>) -> io::Result<Vec<String>>
-    ensures { IfOk result (λ all. texts all.items ≡ words_in value.now ++ texts words.items) }
+    ensures { IfOk result (λ all. map string_bytes all.items
+        ≡ words_in value.now ++ map string_bytes words.items) }
 {
     let mut words = words;
     let mut all = words_of(alloc, value)?;
@@ -34,7 +36,7 @@ pub fn put_before(alloc: Global, value: &[u8], words: Vec<String>) -> io::Result
 
 /// The words of a variable's value.
 fn words_of(alloc: Global, value: &[u8]) -> io::Result<Vec<String>>
-    ensures { IfOk result (λ words. texts words.items ≡ words_in value.now) }
+    ensures { IfOk result (λ words. map string_bytes words.items ≡ words_in value.now) }
 {
     let parts = parts(alloc, value)?;
     words_among(alloc, parts.as_slice())
@@ -42,7 +44,8 @@ fn words_of(alloc: Global, value: &[u8]) -> io::Result<Vec<String>>
 
 /// Those of the parts that are words.
 fn words_among(alloc: Global, parts: &[&[u8]]) -> io::Result<Vec<String>>
-    ensures { IfOk result (λ words. texts words.items ≡ filter is_word (map (λ part. part.now) parts.now)) }
+    ensures { IfOk result (λ words. map string_bytes words.items
+        ≡ filter is_word (map (λ part. part.now) parts.now)) }
 {
     let mut words = Vec::new(alloc);
     for part in parts {
@@ -55,7 +58,7 @@ fn words_among(alloc: Global, parts: &[&[u8]]) -> io::Result<Vec<String>>
 
 /// What stands between blanks and newlines.
 fn parts(alloc: Global, value: &[u8]) -> Result<Vec<&[u8]>, AllocError>
-    ensures { IfOk result (λ parts. map (λ part. part.now) parts.items ≡ parts_in value.now) }
+    ensures { IfOk result (λ parts. map (λ part. part.now) parts.items ≡ slice_split is_between value.now) }
 {
     value.split(|byte| is_between(*byte)).collect(alloc)
 }
@@ -69,7 +72,8 @@ fn is_between(byte: u8) -> bool
 
 /// Adds a word.
 fn add_word(alloc: Global, words: &mut Vec<String>, word: &[u8]) -> io::Result<()>
-    ensures { OnOk result (texts words.new.items ≡ texts words.old.items ++ (word.now ∷ [])) }
+    ensures { OnOk result (map string_bytes words.new.items
+        ≡ map string_bytes words.old.items ++ (word.now ∷ [])) }
 {
     match str::from_utf8(word) {
         Ok(text) => Ok(words.push(String::from_str(alloc, text)?)?),

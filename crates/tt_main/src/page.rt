@@ -1,6 +1,8 @@
 //! The pages that a program shows of itself.
 ghost use Rattle.std.specs.Prelude.{◌≡◌, map, string_bytes};
-ghost use Rattle.tt_main.specs.Page.{Shows, page_named, page_of};
+ghost use Rattle.tt_main.specs.Page.{Shown, page_named, page_of};
+ghost use Rattle.tt_run.specs.Frame.{cannot_write};
+ghost use Rattle.tt_run.specs.Run.{stream_of};
 
 use tt_outside::{Sink, write_all};
 use tt_run::Frame;
@@ -54,7 +56,8 @@ fn page_named(word: &[u8]) -> Option<Page>
 
 /// Shows a page: 0, or 3 where `out` fails, which is told on `err`.
 pub fn show_page<O: Sink, E: Sink>(text: &[u8], frame: Frame, out: &mut O, err: &mut E) -> u8
-    ensures shown { Shows O.Sink E.Sink text.now frame.name.now result out.old out.new err.old err.new }
+    ensures shown { Shown text.now (cannot_write frame.name.now) result (stream_of O.Sink out.old out.new)
+        (stream_of E.Sink err.old err.new) (err.new ≡ err.old) }
 {
     match write_all(out, text) {
         Ok(()) => 0,

@@ -1,9 +1,9 @@
-use Rattle.std.proofs.Common.{◌≡◌, List, subst, sym, ◌∙◌}
+use Rattle.std.proofs.Common.{◌≡◌, List, [], MatchOption, subst, sym, ◌∙◌}
 use Rattle.tt_outside.specs.declared.tree.Node.{Node}
 use Rattle.lit_paths.specs.Paths.{Parts}
 use Rattle.lit_look.specs.declared.seen.Looked.{Looked}
 use Rattle.lit_look.proofs.TreeLemmas.{leaves_on}
-use Rattle.lit_find.specs.Places.{TakesFirst}
+use Rattle.lit_find.specs.Places.{IsFirst}
 use Rattle.lit_find.specs.Walk.{IsWalk}
 use Rattle.lit_find.specs.declared.place.Place.{Place}
 use Rattle.lit_find.specs.declared.walk.Walk.{Walk}
@@ -20,7 +20,8 @@ with_pending {nodes = nodes} {words = words} {word = word} {first = first} {seen
 pub loop-place-preserved : goal.loop-place-preserved
 loop-place-preserved g c =
     let walk = c.loop-place.walk in
-    let first = subst (TakesFirst walk.pending c.pop.new.self) c.in-Some.is c.in_ok-place.ensures in
+    let first = subst (λ found. MatchOption found ((walk.pending ≡ []) × (c.pop.new.self ≡ []))
+    (IsFirst walk.pending c.pop.new.self)) c.in-Some.is c.in_ok-place.ensures in
     record {
       tree = leaves_on c.loop-place.invariant.tree c.in-Ok.ensures.tree;
       walk = λ nodes words word start told is.
@@ -31,12 +32,14 @@ loop-place-preserved g c =
 pub returns-in-Err-clause-gives : goal.returns-in-Err-clause-gives
 returns-in-Err-clause-gives g c = λ nodes words word start told is.
     let walk = c.loop-place.walk in
-    let first = subst (TakesFirst walk.pending c.pop.new.self) c.in-Some.is c.in_ok-place.ensures in
+    let first = subst (λ found. MatchOption found ((walk.pending ≡ []) × (c.pop.new.self ≡ []))
+    (IsFirst walk.pending c.pop.new.self)) c.in-Some.is c.in_ok-place.ensures in
     c.in-Err.ensures.gives first.least nodes words word start (c.loop-place.invariant.tree.nodes ∙ told)
     (with_pending _ first.first (c.loop-place.invariant.walk nodes words word start told is))
 
 pub returns-clause-gives : goal.returns-clause-gives
 returns-clause-gives g c = λ nodes words word start told is.
     let walk = c.loop-place.walk in
-    let none = subst (TakesFirst walk.pending c.pop.new.self) c.in_default.is c.in_ok-place.ensures in
+    let none = subst (λ found. MatchOption found ((walk.pending ≡ []) × (c.pop.new.self ≡ []))
+    (IsFirst walk.pending c.pop.new.self)) c.in_default.is c.in_ok-place.ensures in
     with_pending _ (none.0 ∙ sym none.1) (c.loop-place.invariant.walk nodes words word start told is)

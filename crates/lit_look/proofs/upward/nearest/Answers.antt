@@ -6,7 +6,6 @@ use Rattle.std.proofs.lemmas.Option.{slice_get_within}
 use Rattle.lit_look.proofs.ClimbLemmas.{climbs_next, climbs_refused, climbs_start, climbs_to_root, climbs_to_suite, extends_more, lies_above, no_parts, parts_above, step_of}
 use Rattle.lit_look.proofs.TreeLemmas.{leaves_on, leaves_still}
 use Rattle.lit_look.specs.Looks.{IsNumberOf}
-use Rattle.lit_look.specs.Seen.{LiesAt}
 use Rattle.lit_look.proofs.upward.nearest.Goals as goal
 
 pub loop-number-init : goal.loop-number-init
@@ -42,7 +41,7 @@ returns-in-Some-clause-above g c =
     let (rest, is) = c.loop-number.invariant.inside in
     let number = subst (λ found. IfSome found (IsNumberOf c.look.new.seen c.loop-number.at.now)) c.in-Ok-Some.field-0-is
     c.in-Ok-Some.ensures.number in
-    let here = subst (LiesAt c.loop-number.at.now) c.in-Some.is
+    let here = subst (λ root. IfSome root (λ one. one.dir ≡ c.loop-number.at.now)) c.in-Some.is
     (c.in_ok-root.ensures.here c.loop-number.at.now number) in
     record { rest = rest; is = is ∙ ap (λ path. path ++ rest) (sym here); parts = c.requires.parts }
 
