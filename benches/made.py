@@ -102,7 +102,7 @@ def main():
     wants = argparse.ArgumentParser(description="Times check files that are made, and annotated inputs.")
     wants.add_argument("--mib", type=int, default=60, help="size of the large inputs (60)")
     wants.add_argument("--rounds", type=int, default=5, help="runs of a case, of which the best counts (5)")
-    wants.add_argument("--marks", type=int, default=200, help="how many marks stand far to the right, of which each message takes 2 MB (200)")
+    wants.add_argument("--marks", type=int, default=2000, help="how many marks stand far to the right (2000)")
     wants.add_argument("program", nargs="?", help="the program to time")
     given = wants.parse_args()
     ours = os.path.abspath(given.program or filecheck.built("filecheck"))

@@ -2,6 +2,7 @@
 -- After LLVM Command Guide, FileCheck: CHECK, CHECK-NEXT, CHECK-SAME, CHECK-EMPTY, CHECK-COUNT and CHECK-LABEL. Own rules: a
 -- match on the wrong line binds nothing, and a COUNT's matches bind one by one.
 use Rattle.std.specs.Prelude.{ℕ, zero, suc, ◌+◌, ◌==◌, if◌then◌else◌, List, [], Result, Ok}
+use Rattle.pattern_scan.specs.declared.seeking.Context.{Context}
 use Rattle.pattern_vars.specs.Vars.{bound_all}
 use Rattle.check_group.specs.Changes.{Variables}
 use Rattle.check_group.specs.Lines.{behind_newline, empty_line, on_next_line, on_same_line}
@@ -19,6 +20,10 @@ met text vars check done at Next = on_next_line text at (looked text vars check 
 met text vars check done at Same = on_same_line text at (looked text vars check done at)
 met text vars check done at Empty = on_next_line text at (behind_newline at (empty_line text at))
 
+-- the same on the line of the directive's own rule, where a search sees the text and the variables
+abbrev pub met_in : Context → Check → ℕ → ℕ → Result Met FaultKind
+met_in context check done at = met context.text.now context.vars.now check done at check.demand.rule
+
 -- where the first match of a directive began: the one at hand, if none was done before
 abbrev pub began_at : ℕ → ℕ → ℕ → ℕ
 began_at done at first = if done == 0 then at else first
@@ -35,3 +40,7 @@ counted text check (suc left) done vars first at =
 -- what a directive comes to at a place
 abbrev pub came : List ℕ → Variables → ℕ → Check → Came
 came text vars place check = counted text check check.demand.times 0 vars place place
+
+-- the same, of the variables at its start
+abbrev pub alone_at : List ℕ → ℕ → Check → Variables → Came
+alone_at text place check vars = came text vars place check

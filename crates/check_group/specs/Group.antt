@@ -1,10 +1,11 @@
 -- Groups of DAGs.
 -- After LLVM Command Guide, FileCheck, CHECK-DAG: a run of DAGs matches in any order, and no two of its matches overlap. Own
 -- rules: which try follows one that overlaps, and that each member binds as it matches.
-use Rattle.std.specs.Prelude.{◌≡◌, ℕ, zero, suc, ◌+◌, ◌-◌, ◌<◌, ◌≤◌, nat_lt, min, max, Bool, ◌&&◌, ◌||◌, ◌==◌, if◌then◌else◌, List, [], ◌∷◌, length, Option, Some, None, Result, Ok, Err, IfOk}
+use Rattle.std.specs.Prelude.{◌≡◌, ℕ, zero, suc, ◌+◌, ◌-◌, ◌<◌, ◌≤◌, nat_lt, min, max, Bool, ◌&&◌, ◌||◌, ◌==◌, if◌then◌else◌, List, [], ◌∷◌, get_or, length, Option, Some, None, Result, Ok, Err, IfOk}
 use Rattle.std.specs.List.{AllByRecursion}
 use Rattle.tt_base.specs.declared.place.Span.{Span}
 use Rattle.pattern_scan.specs.Seek.{IsPlain}
+use Rattle.pattern_scan.specs.declared.seeking.Context.{Context}
 use Rattle.pattern_vars.specs.Vars.{bound_all}
 use Rattle.check_group.specs.Changes.{Variables}
 use Rattle.check_group.specs.Matches.{Came, behind, if_met, looked}
@@ -71,15 +72,28 @@ IsChain try ranges from (next ∷ starts) last =
 abbrev pub placed : List ℕ → Variables → List Span → Check → ℕ → Result Met FaultKind
 placed text vars ranges check from = tried (looked text vars check 0) ranges (length text - from) from
 
+-- a member is placed, where a search sees the text and the variables
+abbrev pub placed_in : Context → List Span → Check → ℕ → Result Met FaultKind
+placed_in context ranges check from = placed context.text.now context.vars.now ranges check from
+
 -- the last of a member's tries is that of the chain of which the first is from a later offset
 abbrev pub IsTriedFrom : List ℕ → Variables → List Span → Check → ℕ → ℕ → Type 0
 IsTriedFrom text vars ranges check place from =
     (left : ℕ) × (length text ≤ from + left)
     × (tried (looked text vars check 0) ranges left from ≡ placed text vars ranges check place)
 
+abbrev pub IsTriedIn : Context → List Span → Check → ℕ → ℕ → Type 0
+IsTriedIn context ranges check place from = IsTriedFrom context.text.now context.vars.now ranges check place from
+
 -- two directives are sought as the same bytes
 abbrev pub AreSameText : Check → Check → Type 0
 AreSameText one other = (bytes : List ℕ) × IsPlain one.pattern bytes × IsPlain other.pattern bytes
+
+-- tries begin behind the match of the member before, which is sought as the same bytes
+abbrev pub BeginsBehind : List Check → ℕ → ℕ → ℕ → Type 0
+BeginsBehind checks index behind from =
+    (from ≡ behind) × (0 < index)
+    × ((one : Check) → AreSameText (get_or checks (index - 1) one) (get_or checks index one))
 
 -- ---- the group
 
@@ -98,3 +112,7 @@ group text place vars ranges reached (check ∷ checks) =
 -- a group of DAGs at a place
 abbrev pub group_at : List ℕ → ℕ → Variables → List Check → Came
 group_at text place vars checks = group text place vars [] (record { from = length text; to = place }) checks
+
+-- the same, of the variables at its start
+abbrev pub dags_at : List ℕ → ℕ → List Check → Variables → Came
+dags_at text place checks vars = group_at text place vars checks

@@ -1,10 +1,11 @@
 -- Searches, and what a positive directive comes to.
 -- After LLVM Command Guide, FileCheck: a directive matches the first occurrence of its pattern behind the match before, and
 -- binds what it defines.
-use Rattle.std.specs.Prelude.{◌≡◌, ◌≤◌, ℕ, true, List, [], ◌∷◌, Result, Ok, Err}
+use Rattle.std.specs.Prelude.{◌≡◌, ◌≤◌, ℕ, true, List, [], ◌∷◌, length, Result, Ok, Err}
 use Rattle.pattern_vars.specs.Vars.{have_places}
 use Rattle.pattern_vars.specs.declared.binding.Binding.{Binding}
 use Rattle.pattern_scan.specs.Seek.{sought}
+use Rattle.pattern_scan.specs.declared.seeking.Context.{Context}
 use Rattle.pattern_scan.specs.declared.sought.Sought.{Sought}
 use Rattle.pattern_scan.specs.declared.sought.Sought.TheVariants.{Found, Absent, UndefinedNames, Range, ZeroDivisor, Unreadable}
 use Rattle.check_group.specs.Changes.{Change, Variables, binds}
@@ -28,11 +29,23 @@ answered (Unreadable span) absent = Err (fault.Unreadable span.from)
 abbrev pub looked : List ℕ → Variables → Check → ℕ → ℕ → Result Met FaultKind
 looked text vars check done from = answered (sought check.pattern vars text from check.line) (fault.NotFound from done)
 
+-- the search for a directive, where it sees the text and the variables
+abbrev pub sought_for : Context → Check → ℕ → Sought
+sought_for context check from = sought check.pattern context.vars.now context.text.now from check.line
+
+-- and what it comes to
+abbrev pub looked_in : Context → Check → ℕ → ℕ → Result Met FaultKind
+looked_in context check done from = looked context.text.now context.vars.now check done from
+
 -- a match lies in a slice, and each name that it gives something has a place
 pub record Fits (vars : Variables) (from to : ℕ) (m : Met) : Type 0 where
   pub low : from ≤ m.span.from
   pub high : m.span.to ≤ to
   pub placed : have_places vars m.fresh ≡ true
+
+-- the slice is that from an offset to the end of the text that a search sees
+abbrev pub FitsIn : Context → ℕ → Met → Type 0
+FitsIn context from m = Fits context.vars.now from (length context.text.now) m
 
 -- what a positive directive or a group comes to: where it matched or its fault, and what it changed up to there
 pub record Came : Type 0 where

@@ -1,16 +1,17 @@
 -- Regions of NOTs.
 -- After LLVM Command Guide, FileCheck, CHECK-NOT and --implicit-check-not. Own rule: all faults of a region are told.
-use Rattle.std.specs.Prelude.{◌≡◌, ℕ, ◌+◌, Bool, false, ◌⊎◌, List, [], ◌∷◌, length, IfSome, Option, Some, None}
+use Rattle.std.specs.Prelude.{◌≡◌, ℕ, Bool, false, ◌⊎◌, List, [], ◌∷◌, drop, IfSome, Option, Some, None}
 use Rattle.pattern_parse.specs.Item.{Item, plain, regex, define, recall, number}
 use Rattle.pattern_parse.specs.PieceView.{items_view}
 use Rattle.pattern_parse.specs.declared.pattern.Frame.TheVariants.{Open}
 use Rattle.pattern_parse.specs.declared.pattern.Pattern.{Pattern}
 use Rattle.pattern_scan.specs.Seek.{sought}
+use Rattle.pattern_scan.specs.declared.seeking.Context.{Context}
 use Rattle.pattern_scan.specs.declared.sought.Sought.{Sought}
 use Rattle.pattern_scan.specs.declared.sought.Sought.TheVariants.{Found, Absent, UndefinedNames, Range, ZeroDivisor, Unreadable}
-use Rattle.text_windows.specs.Windows.{Covers}
-use Rattle.tt_base.specs.Occurrence.{StandsNowhere}
+use Rattle.text_windows.specs.Windows.{Covers, Exclude}
 use Rattle.check_group.specs.Changes.{Variables}
+use Rattle.check_group.specs.Matches.{sought_for}
 use Rattle.check_group.specs.declared.directive.Check.{Check}
 use Rattle.check_group.specs.declared.fault.Fault.{Fault}
 use Rattle.check_group.specs.declared.fault.FaultKind.{FaultKind}
@@ -35,9 +36,22 @@ region text from vars [] = []
 region text from vars (check ∷ nots) =
     fault_before check (excluded_by (sought check.pattern vars text from check.line)) (region text from vars nots)
 
+-- the fault of one NOT, and those of some, where a search sees the text and the variables
+abbrev pub excluded_in : Context → Check → ℕ → Option FaultKind
+excluded_in context check from = excluded_by (sought_for context check from)
+
+abbrev pub region_in : Context → ℕ → List Check → List Fault
+region_in context from nots = region context.text.now from context.vars.now nots
+
 -- windows that are known are those of the text
 abbrev pub AreOf : List ℕ → Option (List Bool) → Type 0
 AreOf text known = IfSome known (λ windows. Covers windows text)
+
+-- a pattern is found in no slice of which these are the windows, whatever variables hold
+abbrev pub IsToldAbsent : Option (List Bool) → Pattern → Type 0
+IsToldAbsent known pattern =
+    (text : List ℕ) (from : ℕ) → AreOf (drop from text) known → (vars : Variables) (line : ℕ)
+    → sought pattern vars text from line ≡ Absent
 
 -- pieces that are the same whatever variables hold: none of them uses one
 abbrev pub AreFixed : List Item → Type 0
@@ -63,4 +77,4 @@ HasPlain (one ∷ items) bytes = (one ≡ plain bytes) ⊎ HasPlain items bytes
 pub record LackPlain (windows : List Bool) (items : List Item) : Type 0 where
   pub bytes : List ℕ
   pub has : HasPlain items bytes
-  pub lack : (text : List ℕ) → Covers windows text → StandsNowhere text bytes (length text) 0 (length text + 1)
+  pub lack : Exclude windows bytes

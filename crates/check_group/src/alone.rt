@@ -1,9 +1,9 @@
 //! A positive directive that is no DAG, at a place.
 ghost use Rattle.std.specs.Prelude.{◌≡◌, ◌≤◌, ℕ, IfOk, OnErr, length};
-ghost use Rattle.check_group.specs.Alone.{began_at, came, met};
-ghost use Rattle.check_group.specs.Changes.{IsPartWay, IsReady};
-ghost use Rattle.check_group.specs.Continues.{Comes, LiesIn};
-ghost use Rattle.check_group.specs.Matches.{Fits};
+ghost use Rattle.check_group.specs.Alone.{alone_at, began_at, met_in};
+ghost use Rattle.check_group.specs.Changes.{IsReady};
+ghost use Rattle.check_group.specs.Continues.{ComesFrom, LiesIn, StopsFrom};
+ghost use Rattle.check_group.specs.Matches.{FitsIn};
 ghost use Rattle.check_group.specs.Tries.{AreFor};
 
 use crate::answer::{Matched, Met};
@@ -31,9 +31,8 @@ fn met<L: Ledger>(
     requires here { at ≤ length context.now.text.now }
     requires ready { IsReady context.now.vars.now check.now }
     requires same { AreFor tries.old check.now context.now.vars.now }
-    ensures value { IfOk result (λ m.
-        m ≡ met context.now.text.now context.now.vars.now check.now done at check.now.demand.rule) }
-    ensures fits { IfOk result (λ m. IfOk m (Fits context.now.vars.now at (length context.now.text.now))) }
+    ensures value { IfOk result (λ m. m ≡ met_in context.now check.now done at) }
+    ensures fits { IfOk result (λ m. IfOk m (FitsIn context.now at)) }
     ensures same { AreFor tries.new check.now context.now.vars.now }
 {
     let text = context.text;
@@ -75,9 +74,9 @@ pub fn match_alone<L: Ledger>(
 ) -> Result<Result<Matched, Fault>, NoMemory>
     requires here { place ≤ length text.now }
     requires ready { IsReady vars.old check.now }
-    ensures value { IfOk result (λ outcome. Comes (came text.now vars.old place check.now) vars.old outcome vars.new) }
+    ensures value { IfOk result (ComesFrom (alone_at text.now place check.now) vars.old vars.new) }
     ensures lies { IfOk result (λ outcome. IfOk outcome (LiesIn place (length text.now))) }
-    ensures part_way { OnErr result (IsPartWay (came text.now vars.old place check.now).changes vars.old vars.new) }
+    ensures part_way { OnErr result (StopsFrom (alone_at text.now place check.now) vars.old vars.new) }
 {
     let mut reached = Matched {
         from: place,

@@ -1,7 +1,7 @@
 //! The search of a positive directive.
 ghost use Rattle.std.specs.Prelude.{◌≡◌, ◌≤◌, IfOk, length};
 ghost use Rattle.check_group.specs.Changes.{IsReady};
-ghost use Rattle.check_group.specs.Matches.{Fits, answered, looked};
+ghost use Rattle.check_group.specs.Matches.{FitsIn, answered, looked_in};
 
 use crate::directive::Check;
 use crate::fault::FaultKind;
@@ -51,8 +51,8 @@ pub fn look<L: Ledger>(
 ) -> Result<Result<Met, FaultKind>, NoMemory>
     requires inside { from ≤ length context.now.text.now }
     requires ready { IsReady context.now.vars.now check.now }
-    ensures value { IfOk result (λ met. met ≡ looked context.now.text.now context.now.vars.now check.now done from) }
-    ensures fits { IfOk result (λ met. IfOk met (Fits context.now.vars.now from (length context.now.text.now))) }
+    ensures value { IfOk result (λ met. met ≡ looked_in context.now check.now done from) }
+    ensures fits { IfOk result (λ met. IfOk met (FitsIn context.now from)) }
 {
     let answer = seek(context, &check.pattern, check.line, from, steps)?;
     Ok(answered(answer, FaultKind::NotFound { from, done }))

@@ -1,11 +1,10 @@
 //! Groups of DAGs.
-ghost use Rattle.std.specs.Prelude.{◌≡◌, ◌⊎◌, ◌+◌, ◌-◌, ◌<◌, ◌≤◌, None, All, IfOk, IsTrue, OnErr, get_or, length};
-ghost use Rattle.check_group.specs.Changes.{IsPartWay, IsReady};
-ghost use Rattle.check_group.specs.Continues.{Comes, LiesIn};
-ghost use Rattle.check_group.specs.Group.{AreInOrder, AreSameText, EndsBy, IsTriedFrom, group_at, lowest, placed, reach};
-ghost use Rattle.check_group.specs.Matches.{Fits};
+ghost use Rattle.std.specs.Prelude.{◌≡◌, ◌⊎◌, ◌<◌, ◌≤◌, None, All, IfOk, IsTrue, OnErr, length};
+ghost use Rattle.check_group.specs.Changes.{IsReady};
+ghost use Rattle.check_group.specs.Continues.{ComesFrom, LiesIn, StopsFrom};
+ghost use Rattle.check_group.specs.Group.{AreInOrder, AreSameText, BeginsBehind, EndsBy, IsTriedIn, dags_at, lowest, placed_in, reach};
+ghost use Rattle.check_group.specs.Matches.{FitsIn};
 ghost use Rattle.check_group.specs.Near.{BeginsNowhere};
-ghost use Rattle.check_group.specs.declared.directive.Check.{Check};
 
 use crate::answer::{Matched, Met};
 use crate::directive::Check;
@@ -45,9 +44,9 @@ fn place_member<L: Ledger>(
     requires ready { IsReady context.now.vars.now check.now }
     requires ranges { All (EndsBy (length context.now.text.now)) ranges.now.items }
     requires in_order { AreInOrder ranges.now.items }
-    requires tried { IsTriedFrom context.now.text.now context.now.vars.now ranges.now.items check.now place first.from }
-    ensures value { IfOk result (λ met. met ≡ placed context.now.text.now context.now.vars.now ranges.now.items check.now place) }
-    ensures fits { IfOk result (λ met. IfOk met (Fits context.now.vars.now place (length context.now.text.now))) }
+    requires tried { IsTriedIn context.now ranges.now.items check.now place first.from }
+    ensures value { IfOk result (λ met. met ≡ placed_in context.now ranges.now.items check.now place) }
+    ensures fits { IfOk result (λ met. IfOk met (FitsIn context.now place)) }
     ensures free { IfOk result (λ met. IfOk met (λ m. lowest m.span ranges.now.items ≡ None)) }
 {
     let mut tries = Tries::Fresh;
@@ -81,8 +80,7 @@ fn is_same_text(one: &Check, other: &Check) -> bool
 /// Where the tries of a member begin: behind the match of the member before it, if both are the same text.
 fn first_try(checks: &[Check], index: usize, place: usize, behind: usize) -> usize
     requires within { index < length checks.now }
-    ensures { (result ≡ place) ⊎ ((result ≡ behind) × (0 < index)
-        × ((one : Check) → AreSameText (get_or checks.now (index - 1) one) (get_or checks.now index one))) }
+    ensures { (result ≡ place) ⊎ BeginsBehind checks.now index behind result }
 {
     if index > 0 && is_same_text(&checks[index - 1], &checks[index]) {
         behind
@@ -120,9 +118,9 @@ pub fn place_group<L: Ledger>(
 ) -> Result<Result<Matched, Fault>, NoMemory>
     requires here { place ≤ length text.now }
     requires ready { All (IsReady vars.old) checks.now }
-    ensures value { IfOk result (λ outcome. Comes (group_at text.now place vars.old checks.now) vars.old outcome vars.new) }
+    ensures value { IfOk result (ComesFrom (dags_at text.now place checks.now) vars.old vars.new) }
     ensures lies { IfOk result (λ outcome. IfOk outcome (LiesIn place (length text.now))) }
-    ensures part_way { OnErr result (IsPartWay (group_at text.now place vars.old checks.now).changes vars.old vars.new) }
+    ensures part_way { OnErr result (StopsFrom (dags_at text.now place checks.now) vars.old vars.new) }
 {
     let known = firsts_of(alloc, checks, text.split_at(place).1)?;
     let mut ranges = VecDeque::new(alloc);

@@ -1,7 +1,7 @@
 //! Members of a long group, sought where their windows stand first.
 ghost use Rattle.std.specs.Prelude.{◌≡◌, ◌≤◌, IfOk, drop, length};
 ghost use Rattle.check_group.specs.Changes.{IsReady, Variables};
-ghost use Rattle.check_group.specs.Matches.{Fits, looked};
+ghost use Rattle.check_group.specs.Matches.{Fits, FitsIn, looked, looked_in};
 ghost use Rattle.check_group.specs.Near.{AreFirstsOf, BeginsNowhere};
 ghost use Rattle.check_group.specs.Tries.{AreFor};
 ghost use Rattle.pattern_scan.specs.Seek.{IsPlain};
@@ -102,8 +102,8 @@ pub(crate) fn look_near<L: Ledger>(
     requires ready { IsReady context.now.vars.now check.now }
     requires same { AreFor tries.old check.now context.now.vars.now }
     requires nowhere { BeginsNowhere context.now.text.now check.now from earliest }
-    ensures value { IfOk result (λ met. met ≡ looked context.now.text.now context.now.vars.now check.now 0 from) }
-    ensures fits { IfOk result (λ met. IfOk met (Fits context.now.vars.now from (length context.now.text.now))) }
+    ensures value { IfOk result (λ met. met ≡ looked_in context.now check.now 0 from) }
+    ensures fits { IfOk result (λ met. IfOk met (FitsIn context.now from)) }
     ensures same { AreFor tries.new check.now context.now.vars.now }
 {
     let text = context.text;

@@ -1,10 +1,8 @@
 //! Regions of NOTs.
-ghost use Rattle.std.specs.Prelude.{◌≡◌, ◌≤◌, ◌++◌, ℕ, true, All, IfOk, List, OnOk, drop, length};
-ghost use Rattle.check_group.specs.Changes.{IsReady, Variables};
-ghost use Rattle.check_group.specs.Region.{AreFixed, AreOf, IsFixed, LackPlain, excluded_by, region};
+ghost use Rattle.std.specs.Prelude.{◌≡◌, ◌≤◌, ◌++◌, true, All, IfOk, OnOk, drop, length};
+ghost use Rattle.check_group.specs.Changes.{IsReady};
+ghost use Rattle.check_group.specs.Region.{AreFixed, AreOf, IsFixed, IsToldAbsent, LackPlain, excluded_by, excluded_in, region_in};
 ghost use Rattle.pattern_parse.specs.PieceView.{items_view};
-ghost use Rattle.pattern_scan.specs.Seek.{sought};
-ghost use Rattle.pattern_scan.specs.declared.sought.Sought.TheVariants.{Absent};
 
 use crate::directive::Check;
 use crate::fault::{Fault, FaultKind};
@@ -98,8 +96,7 @@ fn lack_pattern(windows: &Windows, pattern: &Pattern) -> bool
 
 /// Whether the windows of the slice that begins at an offset tell that a pattern isn't there.
 fn is_told_absent(known: &Option<Windows>, pattern: &Pattern) -> bool
-    ensures { result ≡ true → (text : List ℕ) (from : ℕ) → AreOf (drop from text) known.now →
-        (vars : Variables) (line : ℕ) → sought pattern.now vars text from line ≡ Absent }
+    ensures { result ≡ true → IsToldAbsent known.now pattern.now }
 {
     match known {
         Some(windows) => lack_pattern(windows, pattern),
@@ -118,8 +115,7 @@ fn tested<L: Ledger>(
     requires inside { from ≤ length context.now.text.now }
     requires ready { IsReady context.now.vars.now check.now }
     requires known { AreOf (drop from context.now.text.now) known.now }
-    ensures { IfOk result (λ kind. kind
-        ≡ excluded_by (sought check.now.pattern context.now.vars.now context.now.text.now from check.now.line)) }
+    ensures { IfOk result (λ kind. kind ≡ excluded_in context.now check.now from) }
 {
     if is_told_absent(known, &check.pattern) {
         return Ok(None);
@@ -139,7 +135,7 @@ pub fn test_region<L: Ledger>(
 ) -> Result<(), NoMemory>
     requires inside { from ≤ length context.now.text.now }
     requires ready { All (IsReady context.now.vars.now) nots.now }
-    ensures { OnOk result (faults.new ≡ faults.old ++ region context.now.text.now from context.now.vars.now nots.now) }
+    ensures { OnOk result (faults.new ≡ faults.old ++ region_in context.now from nots.now) }
 {
     let known = windows_of(context.alloc, nots, context.text.split_at(from).1)?;
     for check in nots {

@@ -1,12 +1,10 @@
 //! Directives that are sought again and again.
 ghost use Rattle.std.specs.Prelude.{◌≡◌, ◌≤◌, IfOk, length};
 ghost use Rattle.check_group.specs.Changes.{IsReady, Variables};
-ghost use Rattle.check_group.specs.Matches.{Fits, looked};
-ghost use Rattle.check_group.specs.Tries.{AreFor};
-ghost use Rattle.check_group.specs.declared.directive.Check.{Check};
+ghost use Rattle.check_group.specs.Matches.{FitsIn, looked_in, sought_for};
+ghost use Rattle.check_group.specs.Tries.{AreFor, Outlast};
 ghost use Rattle.pattern_scan.specs.Ready.{IsBuilt, IsReady as IsPrepared};
-ghost use Rattle.pattern_scan.specs.Seek.{ArePlaced, IsWithin, sought};
-ghost use Rattle.pattern_vars.specs.Vars.{bound_all};
+ghost use Rattle.pattern_scan.specs.Seek.{ArePlaced, IsWithin};
 
 use crate::answer::{Met, answered, look};
 use crate::directive::Check;
@@ -41,8 +39,7 @@ fn sought_again<L: Ledger>(
     requires ready { IsReady context.now.vars.now check.now }
     requires prepared { IsPrepared ready.old check.now.pattern context.now.vars.now check.now.line }
     requires built { IsBuilt ready.old }
-    ensures value { IfOk result (λ answer.
-        answer ≡ sought check.now.pattern context.now.vars.now context.now.text.now from check.now.line) }
+    ensures value { IfOk result (λ answer. answer ≡ sought_for context.now check.now from) }
     ensures within { IfOk result (IsWithin from (length context.now.text.now)) }
     ensures named { IfOk result (ArePlaced context.now.vars.now) }
     ensures prepared { IsPrepared ready.new check.now.pattern context.now.vars.now check.now.line }
@@ -100,8 +97,8 @@ impl Tries {
         requires inside { from ≤ length context.now.text.now }
         requires ready { IsReady context.now.vars.now check.now }
         requires same { AreFor self.old check.now context.now.vars.now }
-        ensures value { IfOk result (λ met. met ≡ looked context.now.text.now context.now.vars.now check.now done from) }
-        ensures fits { IfOk result (λ met. IfOk met (Fits context.now.vars.now from (length context.now.text.now))) }
+        ensures value { IfOk result (λ met. met ≡ looked_in context.now check.now done from) }
+        ensures fits { IfOk result (λ met. IfOk met (FitsIn context.now from)) }
         ensures same { AreFor self.new check.now context.now.vars.now }
     {
         if let Tries::Fresh = self {
@@ -119,8 +116,7 @@ impl Tries {
     /// The same once a match has bound what it gives.
     #[inline(always)]
     pub(crate) fn behind(self, fresh: &Bindings) -> Tries
-        ensures { (check : Check) (vars : Variables) → AreFor self check vars
-            → AreFor result check (bound_all vars fresh.now) }
+        ensures { Outlast self fresh.now result }
     {
         if fresh.is_empty() { self } else { Tries::Fresh }
     }

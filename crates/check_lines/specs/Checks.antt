@@ -2,7 +2,7 @@
 -- After LLVM Command Guide, FileCheck: directives count in the order of their lines, and --allow-unused-prefixes.
 -- Own rules: the first line that is refused refuses the file, and so do, behind all lines, a file without a directive, and one
 -- of several check prefixes that no directive has.
-use Rattle.std.specs.Prelude.{◌≡◌, ◌⊎◌, ◌<◌, ◌≤◌, ⊤, ◌++◌, ℕ, zero, suc, ◌+◌, ◌-◌, ◌==◌, nat_lt, Bool, true, false, ◌&&◌, ◌||◌, not, if◌then◌else◌, List, [], ◌∷◌, take, drop, length, slice_index, All, AllPairs, Contains, Option, None, Some, Result, Ok, Err}
+use Rattle.std.specs.Prelude.{◌≡◌, ◌⊎◌, ◌<◌, ◌≤◌, ⊤, ◌++◌, ℕ, zero, suc, ◌+◌, ◌-◌, ◌==◌, nat_lt, Bool, true, false, ◌&&◌, ◌||◌, not, if◌then◌else◌, List, [], ◌∷◌, take, drop, length, slice_index, All, AllPairs, Contains, Option, None, Some, Result, Ok, Err, IfOk, MatchResult}
 use Rattle.std.specs.List.{list_any, slice_split}
 use Rattle.tt_base.specs.Place.{is_newline, line_end, place_at}
 use Rattle.check_lines.specs.Kind.{is_earlier}
@@ -164,6 +164,10 @@ abbrev pub FailIsPlaced : List ℕ → CheckFail → Type 0
 FailIsPlaced text (Bad fault) = (fault.place ≡ place_at text fault.at) × (fault.at ≤ length text)
 FailIsPlaced text NoMemory = ⊤
 
+-- what a reading tells, directives or a refusal, stands where it says
+abbrev pub AllIsPlaced : List ℕ → ℕ → Result (List Directive) CheckFail → Type 0
+AllIsPlaced text count result = MatchResult result (All (IsPlaced text count)) (FailIsPlaced text)
+
 -- what a refusal says of a reading: it is the reading's fault, or memory was wanting
 abbrev pub IsRefusalOf : {T : Type 0} → Result T CheckFault → CheckFail → Type 0
 IsRefusalOf reading (Bad fault) = reading ≡ Err fault
@@ -175,6 +179,10 @@ AddsLine old new found (Ok None) = (new ≡ old) × (found ≡ false)
 AddsLine old new found (Ok (Some one)) = (new ≡ old ++ one ∷ []) × (found ≡ is_earlier one.kind)
 AddsLine old new found (Err fault) = ⊥
 
+-- what a line holds was added, unless its reading failed
+abbrev pub LineAdded : {E : Type 0} → Result Bool E → List Directive → List Directive → Result (Option Directive) CheckFault → Type 0
+LineAdded result old new read = IfOk result (λ found. AddsLine old new found read)
+
 -- ---- the same by the code's rules
 
 abbrev pub LinesHold : Rules → List ℕ → List Directive → Type 0
@@ -184,6 +192,10 @@ LinesHold rules text directives =
 abbrev pub IsFirstBy : Rules → List ℕ → CheckFail → Type 0
 IsFirstBy rules text fail =
     FailIsFirst rules.prefixes.checks.prefixes.now rules.prefixes.comments.prefixes.now rules.keep_blanks text fail
+
+-- what all lines hold, or the first refusal
+abbrev pub AreLines : Rules → List ℕ → Result (List Directive) CheckFail → Type 0
+AreLines rules text result = MatchResult result (LinesHold rules text) (IsFirstBy rules text)
 
 abbrev pub lines_by : Rules → List ℕ → Result (List Directive) CheckFault
 lines_by rules text =

@@ -11,6 +11,7 @@ use Rattle.check_lines.specs.Suffix.{suffix}
 use Rattle.check_lines.specs.declared.decision.Decision.{Decision}
 use Rattle.check_lines.specs.declared.decision.Mark.{Mark}
 use Rattle.check_lines.specs.declared.decision.Mark.TheVariants.{Comment, Check}
+use Rattle.check_lines.specs.declared.decision.Prefixes.{Prefixes}
 use Rattle.prefix_tree.specs.declared.standing.Standing.{Standing}
 use Rattle.check_lines.specs.declared.suffix.Spelling.{Spelling}
 use Rattle.check_lines.specs.declared.suffix.Spelling.TheVariants.{Good, Bad}
@@ -83,6 +84,25 @@ module _ (checks comments : List (List ℕ)) where
   abbrev pub decide : List ℕ → Option Decision
   decide line = decide_from false 0 line
 
+-- ---- the same by the code's prefixes
+
+abbrev pub IsDecisionBy : Prefixes → List ℕ → Option Decision → Type 0
+IsDecisionBy prefixes line found = IsDecision prefixes.checks.prefixes.now prefixes.comments.prefixes.now line found
+
+abbrev pub decide_by : Prefixes → List ℕ → Option Decision
+decide_by prefixes line = decide prefixes.checks.prefixes.now prefixes.comments.prefixes.now line
+
+abbrev pub decided_by : Prefixes → Bool → ℕ → List ℕ → Option Decision
+decided_by prefixes behind_word at text =
+    decided_at prefixes.checks.prefixes.now prefixes.comments.prefixes.now behind_word at text
+
+abbrev pub mark_by : Prefixes → List ℕ → Option Mark
+mark_by prefixes text = mark_at prefixes.checks.prefixes.now prefixes.comments.prefixes.now text
+
+-- how many check prefixes there are
+abbrev pub check_count : Prefixes → ℕ
+check_count prefixes = length prefixes.checks.prefixes.now
+
 -- a mark lies in a text behind an offset: its prefix and its suffix have no more bytes than are left, and its prefix is one of
 -- so many
 abbrev pub MarkLies : ℕ → List ℕ → ℕ → Mark → Type 0
@@ -91,3 +111,11 @@ MarkLies count text at (Check prefix (Good spelled)) =
     (at < length text) × (at + prefix.length + spelled.count ≤ length text) × (prefix.index < count)
 MarkLies count text at (Check prefix (Bad kind)) =
     (at < length text) × (at + prefix.length ≤ length text) × (prefix.index < count)
+
+-- what decides a line lies in it
+abbrev pub DecisionLiesIn : ℕ → List ℕ → Decision → Type 0
+DecisionLiesIn count line found = MarkLies count line found.at found.mark
+
+-- what decides at an offset lies in the text from there on
+abbrev pub DecisionLies : ℕ → List ℕ → ℕ → Decision → Type 0
+DecisionLies count text at found = (found.at ≡ at) × MarkLies count text 0 found.mark

@@ -1,12 +1,12 @@
 -- What one line of a check file holds.
 -- After LLVM Command Guide, FileCheck: a directive's text is the rest of its line, without blanks at both ends.
 -- Own rules: which lines are refused, and why first.
-use Rattle.std.specs.Prelude.{◌≡◌, ◌<◌, ◌≤◌, ⊤, ℕ, ◌+◌, ◌-◌, ◌==◌, Bool, true, false, ◌&&◌, ◌||◌, not, if◌then◌else◌, List, take, drop, length, Option, None, Some, Result, Ok, Err}
+use Rattle.std.specs.Prelude.{◌≡◌, ◌<◌, ◌≤◌, ⊤, ℕ, ◌+◌, ◌-◌, ◌==◌, Bool, true, false, ◌&&◌, ◌||◌, not, if◌then◌else◌, List, take, drop, length, Option, None, Some, Result, Ok, Err, IfSome}
 use Rattle.std.specs.List.{prefix_len, suffix_len}
 use Rattle.tt_base.specs.Place.{span_of}
 use Rattle.tt_base.specs.declared.place.Place.{Place}
 use Rattle.check_lines.specs.Class.{has}
-use Rattle.check_lines.specs.Decision.{decide}
+use Rattle.check_lines.specs.Decision.{check_count, decide}
 use Rattle.check_lines.specs.Kind.{demand_of}
 use Rattle.check_lines.specs.declared.class.Class.TheVariants.{Blank}
 use Rattle.check_lines.specs.declared.decision.Decision.{Decision}
@@ -19,6 +19,7 @@ use Rattle.check_lines.specs.declared.fault.CheckKind.{CheckKind}
 use Rattle.check_lines.specs.declared.fault.CheckKind.TheVariants.{Line}
 use Rattle.check_lines.specs.declared.fault.LineFault.{LineFault}
 use Rattle.check_lines.specs.declared.fault.LineFault.TheVariants.{EmptyPattern, NonEmptyForEmpty, NoEarlierCheck}
+use Rattle.check_lines.specs.declared.line.Head.{Head}
 use Rattle.check_lines.specs.declared.line.LineAt.{LineAt}
 use Rattle.check_lines.specs.declared.line.Rules.{Rules}
 use Rattle.check_lines.specs.declared.suffix.Spelling.TheVariants.{Good, Bad}
@@ -102,6 +103,18 @@ line_by rules earlier place line =
     read_line rules.prefixes.checks.prefixes.now rules.prefixes.comments.prefixes.now rules.keep_blanks earlier
     place.number place.start line
 
+-- how many check prefixes rules have
+abbrev pub prefix_count : Rules → ℕ
+prefix_count rules = check_count rules.prefixes
+
+-- a line with a good suffix, and its directive, by the head that decides it
+abbrev pub checked_by : Bool → Bool → LineAt → List ℕ → Head → Result (Option Directive) CheckFault
+checked_by keep earlier place line head =
+    checked keep earlier place.number place.start line head.at head.behind head.suffix head.prefix
+
+abbrev pub directive_by : LineAt → Head → ℕ → ℕ → Directive
+directive_by place head from count = directive place.number place.start head.at from count head.suffix head.prefix
+
 -- ---- where it stands
 
 -- a place of the line with that number, which begins at `start` and ends at `end`, is that of an offset
@@ -119,6 +132,25 @@ LiesOnLine number start end (Ok (Some one)) =
     × IsOnLine number start end one.body.from (record { line = one.line; col = one.col })
     × (one.body.to ≤ end)
 LiesOnLine number start end (Err fault) = IsOnLine number start end fault.at fault.place
+
+-- what is told of a line whose bytes these are stands on it
+abbrev pub LiesOn : LineAt → List ℕ → Result (Option Directive) CheckFault → Type 0
+LiesOn place line read = LiesOnLine place.number place.start (place.start + length line) read
+
+-- a fault at an offset of a line stands on it, wherever behind the offset it ends
+abbrev pub FaultLies : LineAt → ℕ → CheckFault → Type 0
+FaultLies place at fault =
+    (end : ℕ) → place.start + at ≤ end → LiesOnLine place.number place.start end (Err fault)
+
+-- a mistake lies in a line in which a directive's prefix, its colon and its body do
+abbrev pub MistakeLies : Head → ℕ → Option (ℕ × LineFault) → Type 0
+MistakeLies head from found =
+    (end : ℕ) → head.at ≤ end → head.behind ≤ end → from ≤ end → IfSome found (λ mistake. mistake.0 ≤ end)
+
+-- what is told lies on a line on which both the directive and its mistake do
+abbrev pub LiesAsBoth : LineAt → Option (ℕ × LineFault) → Directive → Result (Option Directive) CheckFault → Type 0
+LiesAsBoth place found one told = (end : ℕ) → LiesOnLine place.number place.start end (Ok (Some one))
+    → IfSome found (λ mistake. place.start + mistake.0 ≤ end) → LiesOnLine place.number place.start end told
 
 -- a directive has one of so many prefixes
 abbrev pub LiesAmong : ℕ → Result (Option Directive) CheckFault → Type 0

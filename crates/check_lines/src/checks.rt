@@ -2,9 +2,9 @@
 ghost use Rattle.std.specs.Prelude.{◌≡◌, ◌+◌, ◌<◌, ◌≤◌, ◌^◌, All, Ok, IfErr, IfOk, MatchResult, length};
 ghost use Rattle.std.specs.List.{position_from};
 ghost use Rattle.std.specs.Prelude.{not};
-ghost use Rattle.check_lines.specs.Checks.{AddsLine, Answers, Completes, FailIsPlaced, FailIsWhole, HoldBy, IsDueBy, IsFirstBy, IsPlaced, IsRefusalOf, LinesHold, checks_by, complete, lines_by, unused_prefix, whole_fault};
+ghost use Rattle.check_lines.specs.Checks.{AllIsPlaced, Answers, AreLines, Completes, FailIsWhole, HoldBy, IsDueBy, IsRefusalOf, LineAdded, checks_by, complete, lines_by, unused_prefix, whole_fault};
 ghost use Rattle.check_lines.specs.Kind.{is_earlier};
-ghost use Rattle.check_lines.specs.Line.{LiesAmong, LiesOnLine, line_by};
+ghost use Rattle.check_lines.specs.Line.{LiesAmong, LiesOn, line_by, prefix_count};
 
 use crate::decision::Prefixes;
 use crate::directive::Directive;
@@ -39,7 +39,7 @@ pub fn read_checks(
     requires { length text.now ≤ 2 ^ 30 }
     ensures by_lines { MatchResult result (HoldBy rules.now text.now) (IsDueBy rules.now text.now) }
     ensures value { Answers (checks_by rules.now text.now) result }
-    ensures placed { MatchResult result (All (IsPlaced text.now (length rules.now.checks.now))) (FailIsPlaced text.now) }
+    ensures placed { AllIsPlaced text.now (length rules.now.checks.now) result }
 {
     let by_line = Rules {
         prefixes: Prefixes {
@@ -61,10 +61,9 @@ pub fn read_checks(
 /// What all lines hold.
 fn read_lines(alloc: Global, text: &[u8], rules: &Rules<'_>) -> Result<Items<Directive>, CheckFail>
     requires { length text.now ≤ 2 ^ 30 }
-    ensures by_lines { MatchResult result (LinesHold rules.now text.now) (IsFirstBy rules.now text.now) }
+    ensures by_lines { AreLines rules.now text.now result }
     ensures value { Answers (lines_by rules.now text.now) result }
-    ensures placed { MatchResult result
-        (All (IsPlaced text.now (length rules.now.prefixes.checks.prefixes.now))) (FailIsPlaced text.now) }
+    ensures placed { AllIsPlaced text.now (prefix_count rules.now) result }
 {
     let mut directives = Items::new(alloc);
     let mut earlier = false;
@@ -94,13 +93,10 @@ fn add_line(
     line: &[u8],
 ) -> Result<bool, CheckFail>
     requires { place.start + length line.now ≤ 2 ^ 30 }
-    ensures ok { IfOk result (λ found. AddsLine directives.old directives.new found
-        (line_by rules.now earlier place line.now)) }
+    ensures ok { LineAdded result directives.old directives.new (line_by rules.now earlier place line.now) }
     ensures err { IfErr result (λ fail. IsRefusalOf (line_by rules.now earlier place line.now) fail) }
-    ensures lies { LiesOnLine place.number place.start (place.start + length line.now)
-        (line_by rules.now earlier place line.now) }
-    ensures among { LiesAmong (length rules.now.prefixes.checks.prefixes.now)
-        (line_by rules.now earlier place line.now) }
+    ensures lies { LiesOn place line.now (line_by rules.now earlier place line.now) }
+    ensures among { LiesAmong (prefix_count rules.now) (line_by rules.now earlier place line.now) }
 {
     match read_line(rules, earlier, place, line) {
         Ok(None) => Ok(false),

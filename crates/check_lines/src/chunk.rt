@@ -1,8 +1,8 @@
 //! What is kept of sixteen bytes of a text, decided and put together.
-ghost use Rattle.std.specs.Prelude.{◌≡◌, ◌≤◌, ◌<◌, ◌+◌, ◌++◌, ◌&&◌, ◌==◌, ◌^◌, ℕ, List, Bool, drop, length, map, not, take};
+ghost use Rattle.std.specs.Prelude.{◌≡◌, ◌≤◌, ◌<◌, ◌+◌, ◌++◌, ◌&&◌, ◌==◌, ◌^◌, ℕ, drop, length, map, not, take};
 ghost use Rattle.std.specs.Simd.Lanes.{mask_l};
 ghost use Rattle.check_lines.specs.Canonical.{is_blank, shown};
-ghost use Rattle.check_lines.specs.Chunk.{AreRows, IsRow, flagged, kept_flags, lane};
+ghost use Rattle.check_lines.specs.Chunk.{AreRows, ChunkPuts, IsRow, RowPuts, kept_flags, lane};
 
 use std::simd::prelude::*;
 
@@ -94,8 +94,7 @@ impl Row {
         requires row { (code : ℕ) × IsRow code self.now }
         requires room { done + HALF ≤ length text.old }
         ensures end { result ≤ done + HALF }
-        ensures front { (flags : List Bool) → length flags ≡ HALF → IsRow (mask_l flags) self.now
-            → take result text.new ≡ take done text.old ++ flagged flags (take HALF chunk) }
+        ensures front { RowPuts self.now (take HALF chunk) done text.old text.new result }
         ensures rest { (from : ℕ) → done + HALF ≤ from → drop from text.new ≡ drop from text.old }
     {
         let picked = chunk.swizzle_dyn(u8x16::from_array(self.places));
@@ -129,8 +128,7 @@ impl Rows {
         requires room { done + CHUNK ≤ length text.old }
         requires small { kept < 2 ^ CHUNK }
         ensures end { result ≤ done + CHUNK }
-        ensures front { (flags : List Bool) → length flags ≡ CHUNK → mask_l flags ≡ kept
-            → take result text.new ≡ take done text.old ++ flagged flags chunk }
+        ensures front { ChunkPuts kept chunk done text.old text.new result }
         ensures rest { (from : ℕ) → done + CHUNK ≤ from → drop from text.new ≡ drop from text.old }
     {
         if kept == 0xffff {

@@ -1,6 +1,6 @@
 //! What decides a line.
 ghost use Rattle.std.specs.Prelude.{◌≡◌, ◌<◌, ◌≤◌, ◌^◌, IfSome, length};
-ghost use Rattle.check_lines.specs.Decision.{IsDecision, MarkLies, check_mark, comment_mark, decide, decided_at, is_word, mark_at};
+ghost use Rattle.check_lines.specs.Decision.{DecisionLies, DecisionLiesIn, IsDecisionBy, MarkLies, check_count, check_mark, comment_mark, decide_by, decided_by, is_word, mark_by};
 
 use crate::suffix::{Spelling, suffix};
 use prefix_tree::{PrefixTree, Standing};
@@ -33,9 +33,9 @@ pub struct Decision {
 /// What decides a line, if anything does.
 pub fn decide(prefixes: &Prefixes<'_>, line: &[u8]) -> Option<Decision>
     requires { length line.now ≤ 2 ^ 30 }
-    ensures least { IsDecision prefixes.now.checks.prefixes.now prefixes.now.comments.prefixes.now line.now result }
-    ensures value { result ≡ decide prefixes.now.checks.prefixes.now prefixes.now.comments.prefixes.now line.now }
-    ensures lies { IfSome result (λ found. MarkLies (length prefixes.now.checks.prefixes.now) line.now found.at found.mark) }
+    ensures least { IsDecisionBy prefixes.now line.now result }
+    ensures value { result ≡ decide_by prefixes.now line.now }
+    ensures lies { IfSome result (DecisionLiesIn (check_count prefixes.now) line.now) }
 {
     let mut behind_word = false;
     for at in 0..line.len() {
@@ -54,8 +54,8 @@ fn decided_at(
     text: &[u8],
 ) -> Option<Decision>
     requires { length text.now ≤ 2 ^ 30 }
-    ensures value { result ≡ decided_at prefixes.now.checks.prefixes.now prefixes.now.comments.prefixes.now behind_word at text.now }
-    ensures lies { IfSome result (λ found. (found.at ≡ at) × MarkLies (length prefixes.now.checks.prefixes.now) text.now 0 found.mark) }
+    ensures value { result ≡ decided_by prefixes.now behind_word at text.now }
+    ensures lies { IfSome result (DecisionLies (check_count prefixes.now) text.now at) }
 {
     if behind_word {
         return None;
@@ -69,8 +69,8 @@ fn decided_at(
 /// The mark at the front of a text.
 fn mark_at(prefixes: &Prefixes<'_>, text: &[u8]) -> Option<Mark>
     requires { length text.now ≤ 2 ^ 30 }
-    ensures value { result ≡ mark_at prefixes.now.checks.prefixes.now prefixes.now.comments.prefixes.now text.now }
-    ensures lies { IfSome result (MarkLies (length prefixes.now.checks.prefixes.now) text.now 0) }
+    ensures value { result ≡ mark_by prefixes.now text.now }
+    ensures lies { IfSome result (MarkLies (check_count prefixes.now) text.now 0) }
 {
     match prefixes.checks.longest(text) {
         None => match prefixes.comments.longest(text) {

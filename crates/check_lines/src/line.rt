@@ -1,6 +1,6 @@
 //! What one line of a check file holds.
-ghost use Rattle.std.specs.Prelude.{◌≡◌, ◌+◌, ◌<◌, ◌≤◌, ◌^◌, ℕ, Err, IfSome, Ok, Some, length};
-ghost use Rattle.check_lines.specs.Line.{LiesAmong, LiesOnLine, body_length, body_start, checked, directive, fault_at, line_by, mistake, unless_mistaken};
+ghost use Rattle.std.specs.Prelude.{◌≡◌, ◌+◌, ◌<◌, ◌≤◌, ◌^◌, ℕ, IfSome, Ok, Some, length};
+ghost use Rattle.check_lines.specs.Line.{FaultLies, LiesAmong, LiesAsBoth, LiesOn, LiesOnLine, MistakeLies, body_length, body_start, checked_by, directive_by, fault_at, line_by, mistake, prefix_count, unless_mistaken};
 ghost use Rattle.check_lines.specs.declared.fault.CheckKind.TheVariants.{Line};
 
 use crate::class::{Class, back_length, front_length};
@@ -49,8 +49,8 @@ pub fn read_line(
 ) -> Result<Option<Directive>, CheckFault>
     requires { place.start + length line.now ≤ 2 ^ 30 }
     ensures value { result ≡ line_by rules.now earlier place line.now }
-    ensures lies { LiesOnLine place.number place.start (place.start + length line.now) result }
-    ensures among { LiesAmong (length rules.now.prefixes.checks.prefixes.now) result }
+    ensures lies { LiesOn place line.now result }
+    ensures among { LiesAmong (prefix_count rules.now) result }
 {
     match decide(&rules.prefixes, line) {
         None => Ok(None),
@@ -83,9 +83,8 @@ fn checked(
     requires fits { place.start + length line.now ≤ 2 ^ 30 }
     requires ordered { head.at ≤ head.behind }
     requires within { head.behind ≤ length line.now }
-    ensures value { result ≡ checked keep earlier place.number place.start line.now head.at head.behind head.suffix
-        head.prefix }
-    ensures lies { LiesOnLine place.number place.start (place.start + length line.now) result }
+    ensures value { result ≡ checked_by keep earlier place line.now head }
+    ensures lies { LiesOn place line.now result }
     ensures among { (count : ℕ) → head.prefix < count → LiesAmong count result }
 {
     let from = body_start(keep, line, head.behind);
@@ -99,7 +98,7 @@ fn checked(
 fn directive(place: LineAt, head: Head, from: usize, count: usize) -> Directive
     requires ordered { head.at ≤ from }
     requires fits { place.start + from + count ≤ 2 ^ 30 }
-    ensures value { result ≡ directive place.number place.start head.at from count head.suffix head.prefix }
+    ensures value { result ≡ directive_by place head from count }
     ensures lies { LiesOnLine place.number place.start (place.start + from + count) (Ok (Some result)) }
 {
     Directive {
@@ -121,8 +120,7 @@ fn unless_mistaken(
 ) -> Result<Option<Directive>, CheckFault>
     requires { IfSome mistake (λ mistake. place.start + mistake.0 ≤ 2 ^ 30) }
     ensures value { result ≡ unless_mistaken place.number place.start mistake one }
-    ensures lies { (end : ℕ) → LiesOnLine place.number place.start end (Ok (Some one))
-        → IfSome mistake (λ mistake. place.start + mistake.0 ≤ end) → LiesOnLine place.number place.start end result }
+    ensures lies { LiesAsBoth place mistake one result }
     ensures among { (count : ℕ) → one.prefix < count → LiesAmong count result }
 {
     match mistake {
@@ -135,7 +133,7 @@ fn unless_mistaken(
 fn fault_at(place: LineAt, at: usize, fault: LineFault) -> CheckFault
     requires { place.start + at ≤ 2 ^ 30 }
     ensures value { result ≡ fault_at place.number place.start at (Line fault) }
-    ensures lies { (end : ℕ) → place.start + at ≤ end → LiesOnLine place.number place.start end (Err result) }
+    ensures lies { FaultLies place at result }
 {
     CheckFault {
         at: place.start + at,
@@ -150,8 +148,7 @@ fn fault_at(place: LineAt, at: usize, fault: LineFault) -> CheckFault
 /// The first thing that is wrong with a directive, and where in its line.
 fn mistake(earlier: bool, body: &[u8], head: Head, from: usize) -> Option<(usize, LineFault)>
     ensures value { result ≡ mistake earlier head.suffix body.now head.at head.behind from }
-    ensures lies { (end : ℕ) → head.at ≤ end → head.behind ≤ end → from ≤ end
-        → IfSome result (λ mistake. mistake.0 ≤ end) }
+    ensures lies { MistakeLies head from result }
 {
     let rule = row_of(head.suffix.kind).demand.rule;
     if !rule.takes_none() && body.is_empty() {

@@ -1,7 +1,7 @@
 -- The parts of a block of directives.
 -- After LLVM Command Guide, FileCheck: directives match in order, and a run of CHECK-DAG without a CHECK-NOT between is a
 -- group. Own rule: NOTs that are pending at the end of the check file are tested up to the end of the input.
-use Rattle.std.specs.Prelude.{◌≡◌, ℕ, Bool, if◌then◌else◌, List, [], ◌∷◌}
+use Rattle.std.specs.Prelude.{◌≡◌, ℕ, Bool, if◌then◌else◌, List, [], ◌∷◌, drop, take}
 use Rattle.check_group.specs.Alone.{came}
 use Rattle.check_group.specs.Changes.{Variables}
 use Rattle.check_group.specs.Group.{group_at}
@@ -57,6 +57,15 @@ part_by role check checks = alone check
 abbrev pub part_of : List Check → Positive
 part_of [] = dags []
 part_of (check ∷ checks) = part_by check.demand.role check checks
+
+-- what a positive part comes to at a place, by its directives and the variables at its start
+abbrev pub found_at : List ℕ → ℕ → List Check → Variables → Came
+found_at text place part vars = came_of text vars place (part_of part)
+
+-- the part in front holds so many directives, whether the block is the last one or not
+abbrev pub IsFirstPart : List Check → ℕ → Type 0
+IsFirstPart checks count =
+    (last : Bool) → parts_of last checks ≡ positive (part_of (take count checks)) ∷ parts_of last (drop count checks)
 
 -- a directive is a NOT, or a DAG
 abbrev pub IsNot : Check → Type 0

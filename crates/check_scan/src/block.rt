@@ -1,8 +1,7 @@
 //! One block.
-ghost use Rattle.std.specs.Prelude.{◌≤◌, [], All, length};
+ghost use Rattle.std.specs.Prelude.{◌≤◌, All, length};
 ghost use Rattle.check_group.specs.Changes.{IsReady};
-ghost use Rattle.check_scan.specs.Parts.{parts_of};
-ghost use Rattle.check_scan.specs.Runs.{Finishes, block_at};
+ghost use Rattle.check_scan.specs.Runs.{RunsBlock};
 
 use crate::closing::{end_block, turn};
 use crate::parts::{is_not, part_length};
@@ -24,7 +23,7 @@ pub(crate) fn run_block<L: Ledger>(
     requires here { progress.old.place ≤ length subject.now.text.now }
     requires always_ready { All (IsReady progress.old.vars) subject.now.always.now }
     requires ready { All (IsReady progress.old.vars) checks.now }
-    ensures { Finishes (block_at subject.now (parts_of last checks.now) [] progress.old) progress.old progress.new result }
+    ensures { RunsBlock subject.now last checks.now progress.old progress.new result }
 {
     let mut since = checks;
     let mut nots = 0;

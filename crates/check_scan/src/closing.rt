@@ -1,11 +1,8 @@
 //! What a match closes, and what the end of the check file does.
-ghost use Rattle.std.specs.Prelude.{◌≡◌, ◌≤◌, ◌<◌, ◌++◌, All, IfOk, OnOk, length};
+ghost use Rattle.std.specs.Prelude.{◌≡◌, ◌≤◌, ◌<◌, All, IfOk, OnOk, length};
 ghost use Rattle.check_group.specs.Changes.{IsReady};
 ghost use Rattle.check_group.specs.Continues.{LiesIn};
-ghost use Rattle.check_group.specs.Region.{region};
-ghost use Rattle.check_scan.specs.Block.{closed_by};
-ghost use Rattle.check_scan.specs.Parts.{ending, part_of};
-ghost use Rattle.check_scan.specs.Runs.{Finishes, Turns, block_at, part_at};
+ghost use Rattle.check_scan.specs.Runs.{Closes, EndsBlock, Excludes, Seeks};
 
 use crate::parts::match_part;
 use crate::progress::{Going, Progress};
@@ -30,9 +27,7 @@ fn close<L: Ledger>(
     requires always_ready { All (IsReady progress.old.vars) subject.now.always.now }
     requires ready { All (IsReady progress.old.vars) pending.now }
     ensures within { progress.new.place ≤ length subject.now.text.now }
-    ensures turns { Turns
-        (closed_by subject.now.text.now progress.old.place progress.old.vars (subject.now.always.now ++ pending.now) outcome)
-        progress.old progress.new result }
+    ensures turns { Closes subject.now pending.now outcome progress.old progress.new result }
 {
     let m = match outcome {
         Ok(m) => m,
@@ -66,8 +61,7 @@ pub(crate) fn turn<L: Ledger>(
     requires some { 0 < length part.now }
     requires ready { All (IsReady progress.old.vars) part.now }
     ensures within { progress.new.place ≤ length subject.now.text.now }
-    ensures turns { Turns (part_at subject.now (subject.now.always.now ++ pending.now) (part_of part.now) progress.old)
-        progress.old progress.new result }
+    ensures turns { Seeks subject.now pending.now part.now progress.old progress.new result }
 {
     let text = subject.text;
     let place = progress.place;
@@ -88,8 +82,7 @@ fn test_nots<L: Ledger>(
     requires here { progress.old.place ≤ length slice.now }
     requires always_ready { All (IsReady progress.old.vars) subject.now.always.now }
     requires ready { All (IsReady progress.old.vars) pending.now }
-    ensures told { OnOk result (progress.new.faults ≡ progress.old.faults
-        ++ region slice.now progress.old.place progress.old.vars (subject.now.always.now ++ pending.now)) }
+    ensures told { OnOk result (Excludes subject.now slice.now pending.now progress.old progress.new) }
     ensures vars { progress.new.vars ≡ progress.old.vars }
     ensures place { progress.new.place ≡ progress.old.place }
 {
@@ -115,7 +108,7 @@ pub(crate) fn end_block<L: Ledger>(
     requires here { progress.old.place ≤ length subject.now.text.now }
     requires always_ready { All (IsReady progress.old.vars) subject.now.always.now }
     requires ready { All (IsReady progress.old.vars) pending.now }
-    ensures { Finishes (block_at subject.now (ending last) pending.now progress.old) progress.old progress.new result }
+    ensures { EndsBlock subject.now last pending.now progress.old progress.new result }
 {
     if last {
         test_nots(subject, pending, subject.text, progress, steps)?;

@@ -1,10 +1,8 @@
 //! Blocks by labels.
-ghost use Rattle.std.specs.Prelude.{◌≡◌, ◌≤◌, ◌<◌, ◌+◌, ◌^◌, ◌++◌, ◌∷◌, ◌↔◌, [], IfOk, IfSome, IsTrue, OnOk, All, length};
+ghost use Rattle.std.specs.Prelude.{◌≡◌, ◌≤◌, ◌<◌, ◌+◌, ◌^◌, ◌↔◌, IfOk, IfSome, IsTrue, OnOk, All, length};
 ghost use Rattle.check_group.specs.Changes.{IsReady, changed};
-ghost use Rattle.check_group.specs.declared.fault.FaultKind.TheVariants.{NotFound};
 ghost use Rattle.check_scan.specs.Blocks.{FirstLabel, IsLabel};
-ghost use Rattle.check_scan.specs.Parts.{parts_of};
-ghost use Rattle.check_scan.specs.Runs.{Finishes, Turns, label_at, run_at};
+ghost use Rattle.check_scan.specs.Runs.{Misses, RunsFrom, RunsUpTo};
 ghost use Rattle.check_scan.specs.Verdict.{beginning};
 ghost use Rattle.check_scan.specs.declared.progress.Going.TheVariants.{Over};
 
@@ -64,7 +62,7 @@ pub(crate) fn run<L: Ledger>(
     requires here { progress.old.place ≤ length subject.now.text.now }
     requires always_ready { All (IsReady progress.old.vars) subject.now.always.now }
     requires ready { All (IsReady progress.old.vars) checks.now }
-    ensures { Finishes (run_at subject.now forget (parts_of last checks.now) progress.old) progress.old progress.new result }
+    ensures { RunsFrom subject.now last forget checks.now progress.old progress.new result }
 {
     begin_block(forget, &mut progress.vars);
     run_block(subject, last, checks, progress, steps)
@@ -73,8 +71,7 @@ pub(crate) fn run<L: Ledger>(
 /// Tells that a label isn't found, whatever its search said.
 fn missing(label: &Check, _said: FaultKind, progress: &mut Progress) -> Result<Going, NoMemory>
     ensures over { IfOk result (λ turn. turn ≡ Over) }
-    ensures told { OnOk result (progress.new.faults ≡ progress.old.faults
-        ++ record { directive = label.now.number; kind = NotFound progress.old.place 0 } ∷ []) }
+    ensures told { OnOk result (Misses label.now progress.old progress.new) }
     ensures vars { progress.new.vars ≡ progress.old.vars }
     ensures place { progress.new.place ≡ progress.old.place }
 {
@@ -102,7 +99,7 @@ pub(crate) fn run_labelled<L: Ledger>(
     requires always_ready { All (IsReady progress.old.vars) subject.now.always.now }
     requires ready { All (IsReady progress.old.vars) checks.now }
     ensures within { IfOk result (λ turn. progress.new.place ≤ length subject.now.text.now) }
-    ensures turns { Turns (label_at subject.now forget checks.now label.now progress.old) progress.old progress.new result }
+    ensures turns { RunsUpTo subject.now forget checks.now label.now progress.old progress.new result }
 {
     let context = Context {
         alloc: subject.alloc,

@@ -1,9 +1,9 @@
 //! The parts of a block.
-ghost use Rattle.std.specs.Prelude.{◌≡◌, ◌≤◌, ◌<◌, ◌∷◌, ◌↔◌, All, Bool, IfOk, IsTrue, OnErr, length, take, drop};
+ghost use Rattle.std.specs.Prelude.{◌≤◌, ◌<◌, ◌↔◌, All, Bool, IfOk, IsTrue, OnErr, length, take, drop};
 ghost use Rattle.std.specs.List.{AllByRecursion};
-ghost use Rattle.check_group.specs.Changes.{IsPartWay, IsReady};
-ghost use Rattle.check_group.specs.Continues.{Comes, LiesIn};
-ghost use Rattle.check_scan.specs.Parts.{BeginsOtherwise, BeginsPositive, IsDag, IsNot, came_of, part_of, parts_of, positive};
+ghost use Rattle.check_group.specs.Changes.{IsReady};
+ghost use Rattle.check_group.specs.Continues.{ComesFrom, LiesIn, StopsFrom};
+ghost use Rattle.check_scan.specs.Parts.{BeginsOtherwise, BeginsPositive, IsDag, IsFirstPart, IsNot, found_at, parts_of};
 
 use check_group::{Check, Fault, Matched, match_alone, place_group};
 use ere_auto::Steps;
@@ -46,8 +46,7 @@ pub(crate) fn part_length(checks: &[Check]) -> usize
     requires { BeginsPositive checks.now }
     ensures some { 0 < result }
     ensures within { result ≤ length checks.now }
-    ensures part { (last : Bool) → parts_of last checks.now
-        ≡ positive (part_of (take result checks.now)) ∷ parts_of last (drop result checks.now) }
+    ensures part { IsFirstPart checks.now result }
 {
     let Some((check, _)) = checks.split_first() else {
         return 0;
@@ -67,11 +66,9 @@ pub(crate) fn match_part<L: Ledger>(
     requires some { 0 < length part.now }
     requires here { place ≤ length text.now }
     requires ready { All (IsReady vars.old) part.now }
-    ensures value { IfOk result (λ outcome.
-        Comes (came_of text.now vars.old place (part_of part.now)) vars.old outcome vars.new) }
+    ensures value { IfOk result (ComesFrom (found_at text.now place part.now) vars.old vars.new) }
     ensures lies { IfOk result (λ outcome. IfOk outcome (LiesIn place (length text.now))) }
-    ensures part_way { OnErr result
-        (IsPartWay (came_of text.now vars.old place (part_of part.now)).changes vars.old vars.new) }
+    ensures part_way { OnErr result (StopsFrom (found_at text.now place part.now) vars.old vars.new) }
 {
     let check = &part[0];
     if is_dag(check) {

@@ -1,10 +1,7 @@
 //! The verdict of directives on an input.
-ghost use Rattle.std.specs.Prelude.{◌≡◌, ◌≤◌, ◌++◌, All, Contains, IfOk, OnErr, OnOk, false, length};
-ghost use Rattle.check_group.specs.Changes.{IsPartWay, IsReady, changed};
-ghost use Rattle.check_group.specs.Lies.{FaultLies, numbers_of};
-ghost use Rattle.check_scan.specs.Blocks.{blocks_of};
-ghost use Rattle.check_scan.specs.Runs.{Finishes, verdict_at};
-ghost use Rattle.check_scan.specs.Verdict.{scan};
+ghost use Rattle.std.specs.Prelude.{◌≤◌, All, IfOk, OnErr, OnOk, length};
+ghost use Rattle.check_group.specs.Changes.{IsReady};
+ghost use Rattle.check_scan.specs.Runs.{Binds, BindsPart, LieIn, RunsAll, Tells};
 
 use crate::labels::{next_label, run, run_labelled};
 use crate::progress::{Going, Progress};
@@ -33,7 +30,7 @@ fn run_blocks<L: Ledger>(
     requires here { progress.old.place ≤ length subject.now.text.now }
     requires always_ready { All (IsReady progress.old.vars) subject.now.always.now }
     requires ready { All (IsReady progress.old.vars) checks.now }
-    ensures { Finishes (verdict_at subject.now var_scope false (blocks_of checks.now) progress.old) progress.old progress.new result }
+    ensures { RunsAll subject.now var_scope checks.now progress.old progress.new result }
 {
     let mut rest = checks;
     let mut forget = false;
@@ -62,14 +59,10 @@ pub fn scan<L: Ledger>(
 ) -> Result<Verdict, NoMemory>
     requires always_ready { All (IsReady vars.old) subject.now.always.now }
     requires ready { All (IsReady vars.old) checks.now }
-    ensures verdict { IfOk result (λ verdict.
-        verdict.faults ≡ (scan checks.now subject.now.always.now var_scope subject.now.text.now vars.old).faults) }
-    ensures vars { OnOk result
-        (vars.new ≡ changed vars.old (scan checks.now subject.now.always.now var_scope subject.now.text.now vars.old).changes) }
-    ensures lie { IfOk result (λ verdict.
-        All (FaultLies (Contains (numbers_of (checks.now ++ subject.now.always.now))) (length subject.now.text.now)) verdict.faults) }
-    ensures part_way { OnErr result
-        (IsPartWay (scan checks.now subject.now.always.now var_scope subject.now.text.now vars.old).changes vars.old vars.new) }
+    ensures verdict { IfOk result (Tells subject.now checks.now var_scope vars.old) }
+    ensures vars { OnOk result (Binds subject.now checks.now var_scope vars.old vars.new) }
+    ensures lie { IfOk result (λ verdict. LieIn subject.now checks.now verdict.faults) }
+    ensures part_way { OnErr result (BindsPart subject.now checks.now var_scope vars.old vars.new) }
 {
     let mut progress = Progress {
         place: 0,

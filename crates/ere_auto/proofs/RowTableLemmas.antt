@@ -1,7 +1,7 @@
 -- Rows of a table of steps: what stays where a cell is written or a row is added.
 -- A row and its threads stay where they are, so a step between rows stays that step; a new row has no known cell.
 -- The hard ones are `leads_still` and `leads_new`, a step between old rows, and one to the new row.
-use Rattle.std.proofs.Common.{◌≡◌, ℕ, ◌+◌, ◌-◌, ◌*◌, ◌<◌, ◌≤◌, ◌⊎◌, ◌==◌, ◌&&◌, ◌++◌, Bool, true, false, not, true≢false, Option, Some, List, [], ◌∷◌, zero, suc, length, take, drop, replicate, refl, sym, ap, ◌∙◌, subst, inl, inr, arith, slice_index, slice_index_or, is_none, length-drop, length-append}
+use Rattle.std.proofs.Common.{◌≡◌, ℕ, ◌+◌, ◌-◌, ◌*◌, ◌<◌, ◌≤◌, ◌==◌, ◌&&◌, ◌++◌, Bool, true, false, not, true≢false, Option, Some, List, [], ◌∷◌, zero, suc, length, take, drop, replicate, refl, sym, ap, ◌∙◌, subst, inl, inr, arith, slice_index, slice_index_or, is_none, length-drop, length-append}
 use Rattle.std.proofs.Math.ListN.{set}
 use Rattle.std.proofs.Math.Seq.{get_or-append_seam}
 use Rattle.std.proofs.lemmas.List.{get_or-set_same, get_or-set_other, get_or_append_left, get_or-append_right, get_or-replicate, get_or_past, length-replicate, take-append-le, drop-append-le, get_or-take}

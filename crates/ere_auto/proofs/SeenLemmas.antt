@@ -19,8 +19,8 @@ use Rattle.ere_table.specs.Path.{LeadsAs}
 use Rattle.ere_auto.specs.Closure.{origin_in, Counts}
 use Rattle.ere_auto.specs.Span.{IsSpan}
 use Rattle.ere_auto.specs.Step.{Shows, Begun, limit_behind, StopsBy, Past, StandsAt, IsStep}
-use Rattle.ere_auto.specs.Seen.{State, IsFor, start_of, Matches, FoundBefore, StandsIn, HasSeen, HasFound, starts_behind, best_behind, Turns, GoesTo, EndsIn, Waits, Fresh}
-use Rattle.ere_auto.specs.RowTable.{RowTable, AreSteps}
+use Rattle.ere_auto.specs.Seen.{State, IsFor, start_of, Matches, FoundBefore, StandsIn, HasSeen, HasFound, starts_behind, best_behind, GoesTo, EndsIn, Waits, Fresh}
+use Rattle.ere_auto.specs.RowTable.{RowTable}
 use Rattle.ere_auto.specs.declared.thread.Thread.{Thread}
 use Rattle.ere_auto.proofs.EdgeLemmas.{goes_on, stays_in, crosses}
 use Rattle.ere_auto.proofs.StepLemmas.{opened_before}

@@ -49,6 +49,26 @@ node_in K x = (slice_index_or K x (record { node = 0; origin = 0 })).node
 abbrev pub origin_in : List Thread → ℕ → ℕ
 origin_in K x = (slice_index_or K x (record { node = 0; origin = 0 })).origin
 
+-- all origins lie below the bound
+abbrev pub OriginsBelow : List Thread → ℕ → Type 0
+OriginsBelow K bound = (x : ℕ) → x < length K → origin_in K x < bound
+
+-- all origins lie at the bound or below it
+abbrev pub OriginsUpTo : List Thread → ℕ → Type 0
+OriginsUpTo K bound = (x : ℕ) → x < length K → origin_in K x ≤ bound
+
+-- all nodes lie below the bound
+abbrev pub NodesBelow : List Thread → ℕ → Type 0
+NodesBelow K bound = (x : ℕ) → x < length K → node_in K x < bound
+
+-- what lies above this node and all of the old list lies above all of the new one
+abbrev pub StaysBelow : List Thread → List Thread → ℕ → Type 0
+StaysBelow old new node = (n : ℕ) → node < n → NodesBelow old n → NodesBelow new n
+
+-- no thread has this origin
+abbrev pub IsFree : List Thread → ℕ → Type 0
+IsFree K slot = (x : ℕ) → x < length K → origin_in K x ≡ slot → ⊥
+
 -- whether the node is in the list
 abbrev pub has_node : List Thread → ℕ → Bool
 has_node [] q = false

@@ -8,4 +8,5 @@ pub mod Seen
 pub mod Span
 pub mod State
 pub mod Step
+pub mod StepView
 pub mod Threads

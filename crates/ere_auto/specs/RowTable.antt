@@ -1,6 +1,6 @@
 -- Steps that are kept, so that each is made once.
 -- Own rule: a row is a list of threads, and a cell tells to which row its threads go by a byte.
-use Rattle.std.specs.Prelude.{◌≡◌, ℕ, ◌+◌, ◌-◌, ◌*◌, ◌<◌, ◌≤◌, ◌==◌, ◌&&◌, Bool, true, false, List, Option, Some, None, length, take, drop, slice_index, slice_index_or, is_none}
+use Rattle.std.specs.Prelude.{◌≡◌, ℕ, ◌+◌, ◌-◌, ◌*◌, ◌<◌, ◌≤◌, ◌==◌, ◌&&◌, Bool, false, List, Option, Some, None, length, take, drop, slice_index, slice_index_or, is_none}
 use Rattle.ere_table.specs.Node.{Node}
 use Rattle.ere_auto.specs.Step.{IsStep}
 use Rattle.ere_auto.specs.declared.row.Row.{Row}

@@ -1,6 +1,6 @@
 -- What an automaton has seen, and what it knows of it.
 -- Own rule: it is told a slice byte by byte, and has to be right for every slice that begins as it was told.
-use Rattle.std.specs.Prelude.{◌≡◌, ℕ, ◌+◌, ◌<◌, ◌≤◌, ◌==◌, ◌&&◌, Bool, true, List, [], ◌∷◌, ◌++◌, IsSome, Option, Some, None, length, slice_index, slice_set, is_none}
+use Rattle.std.specs.Prelude.{◌≡◌, ℕ, ◌+◌, ◌<◌, ◌≤◌, ◌==◌, ◌&&◌, Bool, true, false, List, [], ◌∷◌, ◌++◌, IsSome, Option, Some, None, length, slice_index, slice_set, is_none}
 use Rattle.ere_tree.specs.Tree.{Tree}
 use Rattle.ere_tree.specs.Derivation.{is_line_start}
 use Rattle.ere_tree.specs.declared.hit.Cap.{Cap}
@@ -63,6 +63,10 @@ pub record HasFound (a : State) (t : Tree) (s : List ℕ) : Type 0 where
   pub span : IsSpan s t a.begin a.best
   pub within : (cap : Cap) → a.best ≡ Some cap → cap.to ≤ a.at
 
+-- whatever expression the first is for, the second was shown these bytes for it
+abbrev pub SeesAnew : State → State → List ℕ → Type 0
+SeesAnew a b front = (t : Tree) → IsFor a t → HasSeen b t front
+
 -- whatever the first was shown, the second was shown, and the byte behind it
 abbrev pub SeesNext : State → State → ℕ → Type 0
 SeesNext a b byte = (t : Tree) (front : List ℕ) → HasSeen a t front → HasSeen b t (front ++ byte ∷ [])
@@ -71,6 +75,10 @@ SeesNext a b byte = (t : Tree) (front : List ℕ) → HasSeen a t front → HasS
 abbrev pub HasSettled : State → State → ℕ → Type 0
 HasSettled a b byte =
     (t : Tree) (front rest : List ℕ) → HasSeen a t front → HasFound b t (front ++ byte ∷ rest) × IsSome b.best
+
+-- that, unless more is asked for
+abbrev pub SettlesUnless : Bool → State → State → ℕ → Type 0
+SettlesUnless more a b byte = more ≡ false → HasSettled a b byte
 
 -- whatever the first was shown, the second has the span in it
 abbrev pub HasEnded : State → State → Type 0

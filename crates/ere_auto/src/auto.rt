@@ -5,9 +5,9 @@ ghost use Rattle.ere_tree.specs.Shape.{has_refs};
 ghost use Rattle.ere_tree.specs.Tree.{Tree};
 ghost use Rattle.ere_tree.specs.View.{view};
 ghost use Rattle.ere_auto.specs.RowTable.{slot_or_zero};
-ghost use Rattle.ere_auto.specs.Closure.{origin_in};
+ghost use Rattle.ere_auto.specs.Closure.{OriginsUpTo};
 ghost use Rattle.ere_auto.specs.Span.{IsSpan};
-ghost use Rattle.ere_auto.specs.Seen.{IsFor, HasSeen, HasFound, SeesNext, HasSettled, HasEnded, StepsTo, EndsIn, Waits, Fresh, starts_behind, best_behind};
+ghost use Rattle.ere_auto.specs.Seen.{IsFor, HasSeen, HasFound, SeesAnew, SeesNext, SettlesUnless, HasEnded, StepsTo, EndsIn, Waits, Fresh, starts_behind, best_behind};
 
 use crate::marks::Marks;
 use crate::rows::Rows;
@@ -148,7 +148,7 @@ impl Auto {
     /// Begins anew in a slice at a place, as if the bytes before it had been shown. No start before it will count.
     fn skip_to(&mut self, slice: &[u8], place: usize)
         requires { place ≤ length slice.now }
-        ensures seen { (t : Tree) → IsFor (state_of self.old) t → HasSeen (state_of self.new) t (take place slice.now) }
+        ensures seen { SeesAnew (state_of self.old) (state_of self.new) (take place slice.now) }
         ensures begin { self.new.begin ≡ place }
         ensures at { self.new.at ≡ place }
     {
@@ -195,8 +195,7 @@ impl Auto {
         ensures step { StepsTo (state_of self.old) self.new.moved.held.items next result.begun result.met }
         ensures begun { slot_or_zero result.begun ≤ vec_len self.old.table.nodes }
         ensures met { slot_or_zero result.met ≤ vec_len self.old.table.nodes }
-        ensures origins { (x : ℕ) → x < length self.new.moved.held.items →
-            origin_in self.new.moved.held.items x ≤ vec_len self.old.table.nodes }
+        ensures origins { OriginsUpTo self.new.moved.held.items (vec_len self.old.table.nodes) }
         ensures table { self.new.table ≡ self.old.table }
         ensures rows { self.new.rows ≡ self.old.rows }
         ensures starts { self.new.starts ≡ self.old.starts }
@@ -272,7 +271,7 @@ impl Auto {
     fn show(&mut self, byte: u8) -> bool
         requires { self.old.at < usize.MAX }
         ensures seen { SeesNext (state_of self.old) (state_of self.new) byte }
-        ensures known { result ≡ false → HasSettled (state_of self.old) (state_of self.new) byte }
+        ensures known { SettlesUnless result (state_of self.old) (state_of self.new) byte }
         ensures begin { self.new.begin ≡ self.old.begin }
         ensures shown { self.new.at ≡ self.old.at + 1 }
     {
@@ -326,7 +325,7 @@ impl Auto {
         requires { IsSome next → self.old.at < usize.MAX }
         ensures counted { steps.new ≡ steps.old + 1 }
         ensures seen { IfSome next (SeesNext (state_of self.old) (state_of self.new)) }
-        ensures known { IfSome next (λ byte. result ≡ false → HasSettled (state_of self.old) (state_of self.new) byte) }
+        ensures known { IfSome next (SettlesUnless result (state_of self.old) (state_of self.new)) }
         ensures ended { IfNone next ((result ≡ false) × HasEnded (state_of self.old) (state_of self.new)) }
         ensures begin { self.new.begin ≡ self.old.begin }
         ensures shown { MatchOption next (self.new.at ≡ self.old.at) (λ _. self.new.at ≡ self.old.at + 1) }

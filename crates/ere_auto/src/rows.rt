@@ -2,7 +2,7 @@
 ghost use Rattle.std.specs.Prelude.{◌≡◌, ℕ, ◌+◌, ◌-◌, ◌*◌, ◌<◌, ◌≤◌, ◌==◌, ◌&&◌, ◌++◌, not, true, false, replicate, length, vec_len, vec_capacity, slice_index, IfOk, IfSome, Some, None};
 ghost use Rattle.ere_table.specs.Node.{Node};
 ghost use Rattle.ere_auto.specs.Closure.{node_in, origin_in};
-ghost use Rattle.ere_auto.specs.RowTable.{row_in, threads_in, threads_of, cell_of, AreSteps, Keeps, IsRow, Leads, slot_or_zero};
+ghost use Rattle.ere_auto.specs.RowTable.{row_in, threads_in, threads_of, cell_of, AreSteps, Keeps, slot_or_zero};
 
 use crate::row::Row;
 use crate::step::Note;
@@ -68,7 +68,7 @@ pub struct Rows {
 }
 
 impl Rows {
-    ghost use Rattle.ere_auto.specs.RowTableView.{row_table_of, HasRoom};
+    ghost use Rattle.ere_auto.specs.RowTableView.{row_table_of, HasRoom, HasRow, StaysRight, Learns, LearnsKept};
 
     /// The first two rows, for a table of so many nodes, and room for some more.
     pub fn new(alloc: Global, nodes: usize) -> Result<Rows, AllocError>
@@ -143,9 +143,7 @@ impl Rows {
     pub fn learn(&mut self, from: usize, byte: u8, entered: Entered)
         requires from { entered.kept ≡ true → from < vec_len self.old.rows }
         requires to { entered.row < vec_len self.old.rows }
-        ensures steps { (T : ℕ → Node) (e : ℕ) → AreSteps T e (row_table_of self.old) →
-            (entered.kept ≡ true → Leads T e (row_table_of self.old) from byte entered.row) →
-            AreSteps T e (row_table_of self.new) }
+        ensures steps { LearnsKept self.old self.new from byte entered }
         ensures rows { self.new.rows ≡ self.old.rows }
         ensures pool { self.new.pool ≡ self.old.pool }
         ensures nodes { self.new.nodes ≡ self.old.nodes }
@@ -159,8 +157,7 @@ impl Rows {
     fn set_cell(&mut self, row: usize, byte: u8, to: usize)
         requires row { row < vec_len self.old.rows }
         requires to { to < vec_len self.old.rows }
-        ensures steps { (T : ℕ → Node) (e : ℕ) → AreSteps T e (row_table_of self.old) →
-            Leads T e (row_table_of self.old) row byte to → AreSteps T e (row_table_of self.new) }
+        ensures steps { Learns self.old self.new row byte to }
         ensures rows { self.new.rows ≡ self.old.rows }
         ensures pool { self.new.pool ≡ self.old.pool }
         ensures nodes { self.new.nodes ≡ self.old.nodes }
@@ -177,7 +174,7 @@ impl Rows {
         searching: bool,
         note: Note,
     ) -> Option<usize>
-        ensures { IfSome result (λ row. IsRow (row_table_of self.now) row threads.now line searching note.begun note.met) }
+        ensures { IfSome result (λ row. HasRow self.now row threads.now line searching note) }
     {
         let known = row_in_slot(&self.index, slot);
         if known >= self.rows.len() {
@@ -199,7 +196,7 @@ impl Rows {
     /// The row that the index has for these threads. Those that no slot has are kept in the first free one, or else in the
     /// first. While rows are few, none is looked for: most searches are short, and making a row anew is as fast.
     fn look(&self, threads: &[Thread], line: bool, searching: bool, note: Note) -> Looked
-        ensures { IfSome result.row (λ row. IsRow (row_table_of self.now) row threads.now line searching note.begun note.met) }
+        ensures { IfSome result.row (λ row. HasRow self.now row threads.now line searching note) }
     {
         if self.rows.len() < FEW_ROWS {
             return Looked { row: None, slot: 0 };
@@ -244,7 +241,8 @@ impl Rows {
         ensures table { row_table_of self.new ≡ row_table_of self.old }
         ensures nodes { self.new.nodes ≡ self.old.nodes }
         ensures room { self.new.room ≡ self.old.room }
-        ensures lens { (vec_len self.new.rows ≡ vec_len self.old.rows) × (vec_len self.new.pool ≡ vec_len self.old.pool) }
+        ensures rows { vec_len self.new.rows ≡ vec_len self.old.rows }
+        ensures pool { vec_len self.new.pool ≡ vec_len self.old.pool }
         ensures has { result ≡ true → HasRoom self.new count }
     {
         let more = rows_to_take(self.rows.len());
@@ -256,7 +254,7 @@ impl Rows {
     /// Makes room for a row of so many threads, and tells whether all rows were kept.
     fn make_room(&mut self, count: usize) -> bool
         requires { count ≤ self.old.nodes }
-        ensures steps { (T : ℕ → Node) (e : ℕ) → AreSteps T e (row_table_of self.old) → AreSteps T e (row_table_of self.new) }
+        ensures steps { StaysRight self.old self.new }
         ensures kept { result ≡ true → Keeps (row_table_of self.old) (row_table_of self.new) }
         ensures rows { vec_len self.new.rows < 192 }
         ensures pool { vec_len self.new.pool + count ≤ self.new.room }
@@ -281,9 +279,9 @@ impl Rows {
         requires met { slot_or_zero note.met ≤ self.old.nodes }
         requires origins { (x : ℕ) → x < length threads.now → origin_in threads.now x ≤ self.old.nodes }
         requires within { (x : ℕ) → x < length threads.now → node_in threads.now x < self.old.nodes }
-        ensures row { IsRow (row_table_of self.new) result threads.now line searching note.begun note.met }
+        ensures row { HasRow self.new result threads.now line searching note }
         ensures keeps { Keeps (row_table_of self.old) (row_table_of self.new) }
-        ensures steps { (T : ℕ → Node) (e : ℕ) → AreSteps T e (row_table_of self.old) → AreSteps T e (row_table_of self.new) }
+        ensures steps { StaysRight self.old self.new }
         ensures nodes { self.new.nodes ≡ self.old.nodes }
         ensures few { result < 192 }
     {
@@ -312,9 +310,9 @@ impl Rows {
         requires met { slot_or_zero note.met ≤ self.old.nodes }
         requires origins { (x : ℕ) → x < length threads.now → origin_in threads.now x ≤ self.old.nodes }
         requires within { (x : ℕ) → x < length threads.now → node_in threads.now x < self.old.nodes }
-        ensures row { IsRow (row_table_of self.new) result.row threads.now line searching note.begun note.met }
+        ensures row { HasRow self.new result.row threads.now line searching note }
         ensures kept { result.kept ≡ true → Keeps (row_table_of self.old) (row_table_of self.new) }
-        ensures steps { (T : ℕ → Node) (e : ℕ) → AreSteps T e (row_table_of self.old) → AreSteps T e (row_table_of self.new) }
+        ensures steps { StaysRight self.old self.new }
         ensures nodes { self.new.nodes ≡ self.old.nodes }
     {
         if self.rows.len() >= FEW_ROWS {

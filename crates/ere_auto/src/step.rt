@@ -1,8 +1,8 @@
 //! One step of the threads.
 ghost use Rattle.std.specs.Prelude.{◌≡◌, ℕ, ◌+◌, ◌<◌, ◌≤◌, length, vec_len, vec_capacity, Some};
-ghost use Rattle.ere_table.specs.Node.{node_at};
-ghost use Rattle.ere_auto.specs.Closure.{node_in, origin_in};
-ghost use Rattle.ere_auto.specs.Step.{IsStep, Seeds, ends_line};
+ghost use Rattle.ere_auto.specs.Closure.{IsFree, NodesBelow, OriginsBelow, StaysBelow};
+ghost use Rattle.ere_auto.specs.Step.{Seeds, ends_line};
+ghost use Rattle.ere_auto.specs.StepView.{IsStepOf};
 
 use crate::closure::close;
 use crate::marks::Marks;
@@ -49,14 +49,12 @@ fn seed(
 ) -> Option<usize>
     requires room { vec_len threads.old < vec_capacity threads.old }
     requires few { vec_len threads.old < length slots.old }
-    requires within { (x : ℕ) → x < length threads.old.items → origin_in threads.old.items x < length slots.old }
+    requires within { OriginsBelow threads.old.items (length slots.old) }
     ensures seeds { Seeds threads.old.items threads.new.items entry searching result }
-    ensures free { (slot : ℕ) → result ≡ Some slot →
-        (x : ℕ) → x < length threads.old.items → origin_in threads.old.items x ≡ slot → ⊥ }
+    ensures free { (slot : ℕ) → result ≡ Some slot → IsFree threads.old.items slot }
     ensures slot { (slot : ℕ) → result ≡ Some slot → slot < length slots.old }
-    ensures within { (x : ℕ) → x < length threads.new.items → origin_in threads.new.items x < length slots.old }
-    ensures nodes { (n : ℕ) → entry < n → ((x : ℕ) → x < length threads.old.items → node_in threads.old.items x < n)
-        → (x : ℕ) → x < length threads.new.items → node_in threads.new.items x < n }
+    ensures within { OriginsBelow threads.new.items (length slots.old) }
+    ensures nodes { StaysBelow threads.old.items threads.new.items entry }
     ensures room { length slots.new ≡ length slots.old }
     ensures capacity { vec_capacity threads.new ≡ vec_capacity threads.old }
 {
@@ -86,15 +84,12 @@ pub fn step(
     requires reached { length reached.old.marks ≡ vec_len table.now.nodes }
     requires moved { length moved.old.marks ≡ vec_len table.now.nodes }
     requires room { length slots.old ≡ vec_len table.now.nodes + 1 }
-    requires origins { (x : ℕ) → x < length threads.old.items → origin_in threads.old.items x < length slots.old }
-    requires nodes { (x : ℕ) → x < length threads.old.items →
-        node_in threads.old.items x < vec_len table.now.nodes }
-    ensures step { IsStep (node_at table.now.nodes.items) table.now.entry threads.old.items
-        moved.new.held.items around.line around.searching around.next result.begun result.met }
+    requires origins { OriginsBelow threads.old.items (length slots.old) }
+    requires nodes { NodesBelow threads.old.items (vec_len table.now.nodes) }
+    ensures step { IsStepOf table.now threads.old.items moved.new.held.items around result }
     ensures begun { (slot : ℕ) → result.begun ≡ Some slot → slot < length slots.old }
     ensures met { (slot : ℕ) → result.met ≡ Some slot → slot < length slots.old }
-    ensures within { (x : ℕ) → x < length moved.new.held.items →
-        origin_in moved.new.held.items x < length slots.old }
+    ensures within { OriginsBelow moved.new.held.items (length slots.old) }
     ensures reached { length reached.new.marks ≡ length reached.old.marks }
     ensures moved { length moved.new.marks ≡ length moved.old.marks }
     ensures room { length slots.new ≡ length slots.old }

@@ -1,12 +1,10 @@
 //! Expressions with references, behind an automaton that tells where a hit may lie.
 ghost use Rattle.std.specs.Prelude.{◌≡◌, ℕ, ◌+◌, ◌-◌, ◌<◌, ◌≤◌, false, Some, length, drop, IfOk, IfSome, MatchOption};
 ghost use Rattle.ere_auto.specs.State.{state_of};
-ghost use Rattle.ere_match.specs.Filter.{IsFilter, MayLie};
-ghost use Rattle.ere_slow.specs.Slow.{HasNoHitBefore};
+ghost use Rattle.ere_match.specs.Filter.{CountsOnce, FiltersAll, LiesBehind, MayLie, StaysFilter, TellsFrom, TellsHitAt};
 ghost use Rattle.ere_relaxed.specs.Relaxed.{SpansAll};
-ghost use Rattle.ere_tree.specs.Hit.{FindsHit, TellsHit};
+ghost use Rattle.ere_tree.specs.Hit.{FindsHit};
 ghost use Rattle.ere_tree.specs.Shape.{has_refs};
-ghost use Rattle.ere_tree.specs.Tree.{Tree};
 ghost use Rattle.ere_tree.specs.View.{view};
 
 use crate::literal::earliest;
@@ -40,7 +38,7 @@ impl Filter {
     /// The filter by an expression without references that spans whatever the other one spans.
     fn new(alloc: Global, free: &Ere) -> Result<Filter, NoMemory>
         requires { has_refs (view free.now) ≡ false }
-        ensures { IfOk result (λ made. (t : Tree) → SpansAll t (view free.now) → IsFilter (state_of made.automaton) t) }
+        ensures { IfOk result (λ made. FiltersAll (state_of made.automaton) (view free.now)) }
     {
         match Auto::build(alloc, free) {
             Ok(automaton) => Ok(Filter { automaton }),
@@ -50,12 +48,10 @@ impl Filter {
 
     /// Where a hit may lie that begins at the place or behind it. Each byte, and the slice's end, is shown at most once.
     fn first<L: Ledger>(&mut self, slice: &[u8], place: usize, steps: &mut Steps<L>) -> Option<Cap>
-        ensures lies { (t : Tree) → IsFilter (state_of self.old.automaton) t → HasNoHitBefore slice.now t place →
-            MayLie slice.now t result }
-        ensures most { (t : Tree) → IsFilter (state_of self.old.automaton) t →
-            steps.new ≤ steps.old + length slice.now + 1 }
+        ensures lies { TellsFrom (state_of self.old.automaton) slice.now place result }
+        ensures most { CountsOnce (state_of self.old.automaton) slice.now steps.old steps.new }
         ensures counted { steps.old ≤ steps.new }
-        ensures kept { (t : Tree) → IsFilter (state_of self.old.automaton) t → IsFilter (state_of self.new.automaton) t }
+        ensures kept { StaysFilter (state_of self.old.automaton) (state_of self.new.automaton) }
     {
         self.automaton.begin_at(place);
         find_span(&mut self.automaton, slice, steps)
@@ -64,10 +60,9 @@ impl Filter {
     /// Where a hit may lie that begins behind the place.
     fn behind(&mut self, slice: &[u8], place: usize) -> Option<Cap>
         requires { place ≤ length slice.now }
-        ensures lies { (t : Tree) → IsFilter (state_of self.old.automaton) t → HasNoHitBefore slice.now t (place + 1) →
-            MayLie slice.now t result }
-        ensures behind { (t : Tree) → IsFilter (state_of self.old.automaton) t → IfSome result (λ cap. place < cap.from) }
-        ensures kept { (t : Tree) → IsFilter (state_of self.old.automaton) t → IsFilter (state_of self.new.automaton) t }
+        ensures lies { TellsFrom (state_of self.old.automaton) slice.now (place + 1) result }
+        ensures behind { LiesBehind (state_of self.old.automaton) place result }
+        ensures kept { StaysFilter (state_of self.old.automaton) (state_of self.new.automaton) }
     {
         if place == slice.len() {
             return None;
@@ -90,8 +85,7 @@ fn hit_at(
     requires spans { SpansAll (view ere.now) (view free.now) }
     requires inside { from ≤ length text.now }
     requires lies { MayLie (drop from text.now) (view ere.now) (Some span) }
-    ensures { IfOk result (λ found. MatchOption found (HasNoHitBefore (drop from text.now) (view ere.now) (span.from + 1))
-        (TellsHit text.now (view ere.now) from)) }
+    ensures { IfOk result (TellsHitAt text.now (view ere.now) from span.from) }
 {
     if ere.size() > MAX_TRIED || !refs_fit(ere, ere.groups()) {
         let alloc = budget.tries.memory();

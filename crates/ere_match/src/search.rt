@@ -5,7 +5,7 @@ ghost use Rattle.ere_tree.specs.Shape.{has_refs};
 ghost use Rattle.ere_tree.specs.View.{view};
 ghost use Rattle.ere_auto.specs.Seen.{IsFor};
 ghost use Rattle.ere_auto.specs.State.{state_of};
-ghost use Rattle.ere_match.specs.Shown.{Finds, ShownForHit};
+ghost use Rattle.ere_match.specs.Shown.{Finds, ShownToFind};
 
 use crate::filter::find_filtered;
 use crate::literal::earliest;
@@ -78,7 +78,7 @@ impl Search {
         requires built { IsFor (state_of self.old.automaton) (view ere.now) }
         requires inside { from ≤ length text.now }
         ensures hit { IfOk result (FindsHit text.now (view ere.now) from) }
-        ensures least { IfOk result (λ found. ShownForHit (length text.now - from) from found (steps.new - steps.old)) }
+        ensures least { IfOk result (ShownToFind text.now from (steps.new - steps.old)) }
         ensures most { steps.new ≤ steps.old + (length text.now - from) + 1 }
         ensures counted { steps.old ≤ steps.new }
         ensures built { IsFor (state_of self.new.automaton) (view ere.now) }
@@ -109,8 +109,8 @@ pub fn find<L: Ledger>(
 ) -> Result<Option<Hit>, NoMemory>
     requires inside { from ≤ length text.now }
     ensures hit { IfOk result (FindsHit text.now (view ere.now) from) }
-    ensures least { has_refs (view ere.now) ≡ false → IfOk result (λ found.
-        ShownForHit (length text.now - from) from found (steps.new - steps.old)) }
+    ensures least { has_refs (view ere.now) ≡ false →
+        IfOk result (ShownToFind text.now from (steps.new - steps.old)) }
     ensures most { steps.new ≤ steps.old + (length text.now - from) + 1 }
     ensures counted { steps.old ≤ steps.new }
 {

@@ -3,7 +3,7 @@ ghost use Rattle.std.specs.Prelude.{◌≡◌, ℕ, ◌<◌, ◌≤◌, ◌+◌,
 ghost use Rattle.ere_tree.specs.Tree.{Tree};
 ghost use Rattle.ere_auto.specs.Seen.{HasSeen, IsFor};
 ghost use Rattle.ere_auto.specs.State.{state_of};
-ghost use Rattle.ere_match.specs.Shown.{Finds};
+ghost use Rattle.ere_match.specs.Shown.{FindsSpan, IsShown};
 
 use ere_auto::{Auto, Steps};
 use ere_tree::Cap;
@@ -18,8 +18,7 @@ pub(crate) fn wait_through<L: Ledger>(
     requires { automaton.old.at ≡ 0 }
     ensures count { result ≡ min automaton.old.begin (length slice.now) }
     ensures counted { steps.new ≡ steps.old + result }
-    ensures seen { (t : Tree) → HasSeen (state_of automaton.old) t [] →
-        HasSeen (state_of automaton.new) t (take result slice.now) }
+    ensures seen { IsShown (state_of automaton.old) (state_of automaton.new) (take result slice.now) }
     ensures begin { automaton.new.begin ≡ automaton.old.begin }
     ensures shown { automaton.new.at ≡ result }
 {
@@ -35,8 +34,7 @@ pub(crate) fn wait_through<L: Ledger>(
 /// Shows a slice to an automaton that was shown nothing yet, as far as it wants.
 pub fn find_span<L: Ledger>(automaton: &mut Auto, slice: &[u8], steps: &mut Steps<L>) -> Option<Cap>
     requires { automaton.old.at ≡ 0 }
-    ensures found { (t : Tree) → HasSeen (state_of automaton.old) t [] →
-        Finds slice.now t automaton.old.begin result (steps.new - steps.old) }
+    ensures found { FindsSpan (state_of automaton.old) slice.now result (steps.new - steps.old) }
     ensures expression { (t : Tree) → HasSeen (state_of automaton.old) t [] → IsFor (state_of automaton.new) t }
     ensures counted { steps.old ≤ steps.new }
 {

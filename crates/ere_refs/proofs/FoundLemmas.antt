@@ -22,7 +22,6 @@ use Rattle.ere_refs.proofs.AgreeLemmas.{both_stay}
 use Rattle.ere_refs.specs.Sets.{sets}
 use Rattle.std.proofs.lemmas.Option.{none-some}
 use Rattle.ere_tree.specs.View.{view}
-use Rattle.std.specs.Prelude.{◌-◌}
 use Rattle.ere_tree.specs.declared.hit.Cap.{Cap}
 use Rattle.ere_refs.proofs.ListedLemmas.{alone, AreOverFirst, ArePut, in_choice, in_group, over_all_choices, over_enough, over_more_choices}
 use Rattle.ere_refs.specs.Lists.{AreOver, HasLike, IsPut, Listed, TellsAll, lists_of}

@@ -1,7 +1,7 @@
 -- The stack, what is found and what is left behind, step by step as the code takes them: what stood so before a step stands so
 -- behind it, and where nothing is left to be tried what is found is all. By CourseLemmas, at the spot on top.
 -- The hard ones are `stands_end` and `stands_next`.
-use Rattle.std.proofs.Common.{◌≡◌, ℕ, suc, ◌+◌, ◌<◌, ◌≤◌, ◌==◌, Bool, true, false, true≢false, eqb-true, eq-eqb, Option, Some, None, List, [], ◌∷◌, ◌++◌, Vec, Global, length, map, drop, get_or, refl, sym, ap, ◌∙◌, subst, inl, inr, arith, append-nil, append_assoc}
+use Rattle.std.proofs.Common.{◌≡◌, ℕ, suc, ◌<◌, ◌≤◌, ◌==◌, Bool, true, false, true≢false, eqb-true, eq-eqb, Option, Some, None, List, [], ◌∷◌, ◌++◌, Vec, Global, length, map, drop, get_or, refl, sym, ap, ◌∙◌, subst, inl, inr, arith, append-nil, append_assoc}
 use Rattle.std.proofs.lemmas.Bool.{cases_lt}
 use Rattle.std.proofs.lemmas.List.{length-map, length_push, reverse-append, same_from_push}
 use Rattle.std.proofs.lemmas.List.Elements.{All-head, All-nil, All-pop, All-push, All-tail, Contains-push_cases}

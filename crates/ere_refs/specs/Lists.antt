@@ -48,6 +48,10 @@ pub record AreOver (s : List ℕ) (t : Tree) (i j : ℕ) (c : Captures) (P : ℕ
   pub each : AllDerive s t i j c all
   pub first : (v : Way) (d : Captures) → Derives s t v i j c d → StandsIn P v d all
 
+-- what some lists hold
+abbrev pub items_in : Vec (Vec (Option Cap) Global) Global → List (List (Option Cap))
+items_in lists = map (λ held. held.items) lists.items
+
 -- lists of what so many groups hold, behind each of some derivations
 abbrev pub lists_of : ℕ → ℕ → Listed → List (List (Option Cap))
 lists_of start count all = map (λ x. caps_of start x.1 count) all

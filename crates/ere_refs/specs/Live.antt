@@ -40,6 +40,10 @@ abbrev pub reads_all : Trees → (ℕ → Type 0) → ℕ → Type 0
 reads_all none Q n = Q n
 reads_all (then t ts) Q n = reads t (reads_all ts Q) n
 
+-- the second list has each group that is read from before on, where those of the first are read behind
+abbrev pub HasRead : ((ℕ → Type 0) → ℕ → Type 0) → List ℕ → List ℕ → Type 0
+HasRead read behind before = (n : ℕ) → read (Contains behind) n → Contains before n
+
 -- The groups of the first kind are read from before the tree on, where those of the second are read behind it: what it
 -- refers to, and what is read behind it and isn't surely set in it.
 pub record ReadsBefore (t : Tree) (P Q : ℕ → Type 0) : Type 0 where

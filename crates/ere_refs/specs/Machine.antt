@@ -1,6 +1,6 @@
 -- How rows are tried with a stack, as the code holds it: what follows a stage, and where the frames of the stack stand.
 -- Own rule: rows are gone through from the preferred one on; each place is left once all that goes on from it is found.
-use Rattle.std.specs.Prelude.{◌≡◌, ◌⊎◌, ◌+◌, ◌<◌, ◌≤◌, ℕ, Bool, true, false, Option, Some, None, List, [], ◌∷◌, ◌++◌, suc, map, drop, length, get_or, Vec}
+use Rattle.std.specs.Prelude.{◌≡◌, ◌⊎◌, ◌+◌, ◌<◌, ◌≤◌, ℕ, Bool, true, false, Option, Some, None, List, [], ◌∷◌, ◌++◌, suc, map, drop, reverse, length, get_or, Vec}
 use Rattle.std.specs.List.{All, Contains}
 use Rattle.std.specs.FinMap.{insert}
 use Rattle.std.specs.declared.alloc.Global.{Global}
@@ -60,12 +60,16 @@ PutsAll live [] old new = new ≡ old
 PutsAll live (caps ∷ others) old new =
     (mid : List State) × PutsCaps live caps old mid × PutsAll live others mid new
 
+-- the second list holds what the first one does, with the part for a group
+abbrev pub Inserts : Part → ℕ → List (Option Cap) → List (Option Cap) → Type 0
+Inserts part number old new =
+    (d : Captures) → old ≡ caps_of part.start d (length old)
+    → new ≡ caps_of part.start (insert d number (part.from, part.to)) (length old)
+
 -- one list is the other with a group set
 abbrev pub SetsGroup : Part → ℕ → Vec (Option Cap) Global → Vec (Option Cap) Global → Type 0
 SetsGroup part number old new =
-    ((d : Captures) → old.items ≡ caps_of part.start d (length old.items)
-    → new.items ≡ caps_of part.start (insert d number (part.from, part.to)) (length old.items))
-    × (length new.items ≡ length old.items)
+    Inserts part number old.items new.items × (length new.items ≡ length old.items)
 
 -- ROWS
 
@@ -185,6 +189,14 @@ NextRoom count End = Unit {0}
 NextRoom count Nothing = Unit {0}
 NextRoom count (One one) = (refs_fit count (view one.ere.now) ≡ true) × (greatest_group (view one.ere.now) ≤ count)
 
+-- this follows a stage, where the lists have what is read from there on, whatever is read behind the row
+abbrev pub FollowsBy : Row → List (Vec ℕ Global) → ℕ → Bool → Follows → Type 0
+FollowsBy row lives n at_end follows = (live : List ℕ) → AreLives row lives live → FollowFits row live n at_end follows
+
+-- groups for which the row has room do for what follows
+abbrev pub KeepsRoom : Row → Follows → Type 0
+KeepsRoom row follows = (count : ℕ) → RowRoom count row → NextRoom count follows
+
 -- what follows is smaller than the row
 abbrev pub IsSmaller : Row → Follows → Type 0
 IsSmaller row End = Unit {0}
@@ -220,6 +232,10 @@ Show start count frames (spot ∷ spots) =
 -- the frame of a state that is new
 abbrev pub new_frame : ℕ → ℕ → Vec (Option Cap) Global → Frame
 new_frame stage place caps = New (record { stage = stage; place = place; caps = caps })
+
+-- the frames of new states are put on the stack, the first of them on top
+abbrev pub PutsNew : ℕ → ℕ → List (Vec (Option Cap) Global) → List Frame → List Frame → Type 0
+PutsNew stage place found old new = new ≡ old ++ reverse (map (new_frame stage place) found)
 
 abbrev pub StateFits : Part → ℕ → State → Type 0
 StateFits part count state = (part.from ≤ state.place) × (state.place ≤ part.to) × (length state.caps.items ≡ count)

@@ -4,6 +4,7 @@
 use Rattle.std.specs.Prelude.{◌≡◌, ◌↔◌, ℕ, ◌≤◌, ◌==◌, Bool, true, false, length, IsTrue, Option, Some, None, List}
 use Rattle.std.specs.FinMap.{empty, get}
 use Rattle.std.specs.declared.cmp.Ordering.TheVariants.{Less}
+use Rattle.ere_captures.specs.Walk.{SetsBest}
 use Rattle.ere_places.specs.Seen.{is_held}
 use Rattle.ere_tree.specs.Captures.{Captures, caps_of}
 use Rattle.ere_tree.specs.Derivation.{Way, Derives, IsSameText, Spans, part}
@@ -11,8 +12,10 @@ use Rattle.ere_tree.specs.Preference.{IsPreferred, within}
 use Rattle.ere_tree.specs.Shape.{greatest_group, has_refs}
 use Rattle.ere_tree.specs.Tree.{Tree}
 use Rattle.ere_tree.specs.declared.hit.Cap.{Cap}
+use Rattle.ere_places.specs.declared.seen.Seen.{Seen}
 use Rattle.ere_refs.specs.declared.ends.Ends.{Ends}
 use Rattle.ere_refs.specs.declared.ends.Ends.TheVariants.{Any, Held, Only}
+use Rattle.ere_refs.specs.declared.held.Part.{Part}
 use Rattle.ere_refs.specs.declared.trying.Found.{Found}
 
 -- from these captures no way over [i, j) is preferred to this one
@@ -45,13 +48,25 @@ is_known (Held seen last) = true
 is_known (Only only) = false
 is_known Any = false
 
+-- these are the tree's ends from i, up to j
+abbrev pub AreSpanned : List ℕ → Tree → ℕ → ℕ → Seen → Type 0
+AreSpanned s t i j seen = (q : ℕ) → IsTrue (is_held seen q) ↔ (Spans s t i q × (q ≤ j))
+
 -- the tree's ends from i, up to j, are among these
 abbrev pub AreEnds : List ℕ → Tree → ℕ → ℕ → ℕ → ℕ → List (Option Cap) → Ends → Type 0
 AreEnds s t start i j count old (Held seen last) =
-    (has_refs t ≡ false) × ((q : ℕ) → IsTrue (is_held seen q) ↔ (Spans s t i q × (q ≤ j)))
+    (has_refs t ≡ false) × AreSpanned s t i j seen
 AreEnds s t start i j count old (Only end) =
     (c : Captures) → old ≡ caps_of start c count → (w : Way) (k : ℕ) (d : Captures) → Derives s t w i k c d → k ≡ end
 AreEnds s t start i j count old Any = Unit {0}
+
+-- the same from where a part begins up to where it ends
+abbrev pub AreEndsOf : List ℕ → Tree → Part → List (Option Cap) → Ends → Type 0
+AreEndsOf s t part old ends = AreEnds s t part.start part.from part.to (length old) old ends
+
+-- what groups hold behind the tree's best derivation over a part, from what they held before
+abbrev pub SetsBestOver : List ℕ → Tree → Part → List (Option Cap) → List (Option Cap) → Type 0
+SetsBestOver s t part old new = SetsBest s t part.start part.from part.to (length old) old new
 
 -- none of them lies beyond the last one, where it is told
 abbrev pub IsLast : Ends → Type 0

@@ -1,6 +1,7 @@
 -- What references of an expression name.
 -- Own rule: captures that agree on that are as good as equal for what the expression derives.
-use Rattle.std.specs.Prelude.{◌≡◌, ℕ, ◌⊎◌, Bool, true, ◌&&◌, nat_le, nat_lt}
+use Rattle.std.specs.Prelude.{◌≡◌, ℕ, ◌⊎◌, Bool, true, ◌&&◌, nat_le, nat_lt, List}
+use Rattle.std.specs.List.{Contains}
 use Rattle.std.specs.FinMap.{get}
 use Rattle.ere_tree.specs.Captures.{Captures}
 use Rattle.ere_tree.specs.Tree.{Tree, Trees, empty, plain, set, line_start, line_end, cat, alt, repeat, group, back, none, then}
@@ -19,6 +20,10 @@ abbrev mutual
   pub OneRefers : Trees → ℕ → Type 0
   OneRefers none n = ⊥
   OneRefers (then t ts) n = Refers t n ⊎ OneRefers ts n
+
+-- the list has each number that passes
+abbrev pub HasEach : (ℕ → Type 0) → List ℕ → Type 0
+HasEach P numbers = (n : ℕ) → P n → Contains numbers n
 
 -- the groups that pass hold the same in both
 abbrev pub Agree : (ℕ → Type 0) → Captures → Captures → Type 0

@@ -2,7 +2,7 @@
 ghost use Rattle.std.specs.List.{Contains};
 ghost use Rattle.std.specs.Prelude.{◌≡◌, ◌↔◌, ℕ, ◌+◌, ◌<◌, ◌≤◌, ◌^◌, true, false, IsTrue, length, IfOk};
 ghost use Rattle.ere_places.specs.Seen.{is_held};
-ghost use Rattle.ere_refs.specs.Over.{AreEnds, IsLast, is_known, may_be};
+ghost use Rattle.ere_refs.specs.Over.{AreEndsOf, AreSpanned, IsLast, is_known, may_be};
 ghost use Rattle.ere_refs.specs.Refers.{refs_fit};
 ghost use Rattle.ere_tree.specs.Derivation.{Spans};
 ghost use Rattle.ere_tree.specs.Shape.{has_refs};
@@ -101,7 +101,7 @@ pub(crate) fn ends_between(
     requires no_refs { has_refs (view ere.now) ≡ false }
     requires order { from ≤ to }
     requires within { to ≤ length text.now }
-    ensures are { IfOk result (λ ends. (q : ℕ) → IsTrue (is_held ends.seen q) ↔ (Spans text.now (view ere.now) from q × (q ≤ to))) }
+    ensures are { IfOk result (λ ends. AreSpanned text.now (view ere.now) from to ends.seen) }
     ensures last { IfOk result (λ ends. (q : ℕ) → IsTrue (is_held ends.seen q) → q ≤ ends.last) }
 {
     let window = Window {
@@ -128,7 +128,7 @@ pub(crate) fn ends_of(
     requires order { part.from ≤ part.to }
     requires within { part.to ≤ length text.now }
     requires fits { part.start + length text.now < 2 ^ 64 }
-    ensures are { IfOk result (AreEnds text.now (view ere.now) part.start part.from part.to (length caps.now) caps.now) }
+    ensures are { IfOk result (AreEndsOf text.now (view ere.now) part caps.now) }
     ensures last { IfOk result IsLast }
 {
     if !ere.has_refs() {

@@ -1,9 +1,9 @@
 //! Lists of what groups hold, group 1 first, with offsets of a text in which the slice begins at a start.
 ghost use Rattle.std.specs.Prelude.{◌≡◌, ◌↔◌, ℕ, ◌+◌, ◌<◌, ◌≤◌, ◌^◌, false, IsTrue, MatchOption, None, Some, length, IfOk, vec_len};
 ghost use Rattle.std.specs.FinMap.{empty, get, insert};
-ghost use Rattle.ere_captures.specs.Walk.{SetsBest};
 ghost use Rattle.ere_tree.specs.Captures.{Captures, caps_of};
-ghost use Rattle.ere_refs.specs.Over.{IsText};
+ghost use Rattle.ere_refs.specs.Machine.{Inserts};
+ghost use Rattle.ere_refs.specs.Over.{IsText, SetsBestOver};
 ghost use Rattle.ere_tree.specs.Derivation.{IsSameText, Spans, part};
 ghost use Rattle.ere_tree.specs.Shape.{has_refs, greatest_group};
 ghost use Rattle.ere_tree.specs.View.{view};
@@ -36,8 +36,7 @@ pub(crate) fn with_group(held: Vec<Option<Cap>>, number: u32, part: Part) -> Vec
     requires number { number ≤ vec_len held }
     requires from { part.start + part.from < 2 ^ 64 }
     requires to { part.start + part.to < 2 ^ 64 }
-    ensures set { (d : Captures) → held.items ≡ caps_of part.start d (length held.items)
-        → result.items ≡ caps_of part.start (insert d number (part.from, part.to)) (length held.items) }
+    ensures set { Inserts part number held.items result.items }
     ensures long { length result.items ≡ length held.items }
 {
     let mut held = held;
@@ -62,8 +61,7 @@ pub(crate) fn held_behind(
     requires span { Spans text.now (view ere.now) part.from part.to }
     requires room { greatest_group (view ere.now) ≤ length caps.now }
     requires fits { part.start + length text.now < 2 ^ 64 }
-    ensures best { IfOk result (λ held. SetsBest text.now (view ere.now) part.start part.from part.to
-        (length caps.now) caps.now held.items) }
+    ensures best { IfOk result (λ held. SetsBestOver text.now (view ere.now) part caps.now held.items) }
     ensures long { IfOk result (λ held. length held.items ≡ length caps.now) }
 {
     let mut held = Vec::from_slice(alloc, caps)?;

@@ -1,5 +1,6 @@
 //! What is kept: states, and a table that leads to them by what is read of them.
 ghost use Rattle.std.specs.Prelude.{◌≡◌, ◌<◌, ◌∷◌, ◌++◌, [], length, true, map, IfOk, OnOk};
+ghost use Rattle.ere_refs.specs.Lists.{items_in};
 ghost use Rattle.ere_refs.specs.Machine.{HasLikeState, IsLikeState, caps_at};
 
 use crate::live::{agree, held_for};
@@ -163,7 +164,7 @@ impl Kept {
 
     /// What groups hold in each of the states, in order.
     pub(crate) fn into_caps(self, alloc: Global) -> Result<Vec<Vec<Option<Cap>>>, AllocError>
-        ensures { IfOk result (λ all. map (λ held. held.items) all.items ≡ map caps_at self.states.items) }
+        ensures { IfOk result (λ all. items_in all ≡ map caps_at self.states.items) }
     {
         let mut all = Vec::new(alloc);
         for state in self.states {

@@ -2,8 +2,8 @@
 //! on what is still read, the first alone.
 ghost use Rattle.std.specs.Prelude.{◌≡◌, ◌+◌, ◌<◌, ◌≤◌, ◌^◌, ◌∷◌, ◌++◌, [], true, false, length, map, reverse, vec_len, IfOk, OnOk};
 ghost use Rattle.std.specs.List.{All, AllZip};
-ghost use Rattle.ere_refs.specs.Lists.{TellsAll};
-ghost use Rattle.ere_refs.specs.Machine.{AllBelow, Begins, CourseFits, EndsFit, Finishes, FrameFits, Keeps, OpenFits, ProgressFits, PutsAll, PutsCaps, RowRoom, SetsGroup, StateFits, caps_at, new_frame, tree_of};
+ghost use Rattle.ere_refs.specs.Lists.{TellsAll, items_in};
+ghost use Rattle.ere_refs.specs.Machine.{AllBelow, Begins, CourseFits, EndsFit, Finishes, FrameFits, Keeps, OpenFits, ProgressFits, PutsAll, PutsCaps, PutsNew, RowRoom, SetsGroup, StateFits, caps_at, tree_of};
 ghost use Rattle.ere_refs.specs.Refers.{refs_fit};
 ghost use Rattle.ere_refs.specs.Site.{EndsAt, HasRoom, IsSite, ListsAt, RefersAt, SpansSite};
 ghost use Rattle.ere_refs.specs.declared.lists.Frame.TheVariants.{New, Open};
@@ -133,7 +133,7 @@ fn push_all<'a, 'l>(
     stage: usize,
     place: usize,
 ) -> Result<(), AllocError>
-    ensures { OnOk result (frames.new.items ≡ frames.old.items ++ reverse (map (new_frame stage place) found.items)) }
+    ensures { OnOk result (PutsNew stage place found.items frames.old.items frames.new.items) }
 {
     let mut found = found;
     for _ in 0..found.len() {
@@ -305,7 +305,7 @@ fn run<'a, 'l>(
 
 /// What was found.
 fn finish(progress: Progress<'_, '_>, tries: &mut Tries) -> Result<Vec<Held>, AllocError>
-    ensures { IfOk result (λ found. map (λ held. held.items) found.items ≡ map caps_at progress.entry.found.states.items) }
+    ensures { IfOk result (λ found. items_in found ≡ map caps_at progress.entry.found.states.items) }
 {
     tries.release(progress.found.len().saturating_add(progress.left.len()));
     progress.found.into_caps(tries.alloc)
@@ -360,8 +360,7 @@ fn put_all(
     live: &[u32],
     tries: &mut Tries,
 ) -> Result<(), AllocError>
-    ensures { OnOk result (PutsAll live.now (map (λ held. held.items) lists.items) found.old.states.items
-        found.new.states.items) }
+    ensures { OnOk result (PutsAll live.now (items_in lists) found.old.states.items found.new.states.items) }
 {
     for caps in lists {
         put_found(found, caps, live, tries)?;

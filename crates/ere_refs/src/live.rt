@@ -2,9 +2,9 @@
 ghost use Rattle.std.specs.Prelude.{◌≡◌, ◌<◌, ◌≤◌, ◌-◌, ◌∷◌, [], ℕ, true, map, length, get_or, IfOk, OnOk};
 ghost use Rattle.std.specs.List.{Contains};
 ghost use Rattle.ere_refs.specs.Live as live;
-ghost use Rattle.ere_refs.specs.Live.{reads, reads_all};
+ghost use Rattle.ere_refs.specs.Live.{HasRead, reads, reads_all};
 ghost use Rattle.ere_refs.specs.Machine.{AgreeOn};
-ghost use Rattle.ere_refs.specs.Refers.{Refers, OneRefers};
+ghost use Rattle.ere_refs.specs.Refers.{HasEach, OneRefers, Refers};
 ghost use Rattle.ere_tree.specs.Tree.{trees_of};
 ghost use Rattle.ere_tree.specs.View.{view};
 
@@ -94,7 +94,7 @@ fn put_all_refs(all: &[Ere], numbers: &mut Vec<u32>) -> Result<(), AllocError>
 
 /// What is read from before an expression on: what it refers to, and what is read behind it and isn't surely set in it.
 pub(crate) fn live_before(alloc: Global, ere: &Ere, behind: &[u32]) -> Result<Vec<u32>, AllocError>
-    ensures { IfOk result (λ found. (n : ℕ) → reads (view ere.now) (Contains behind.now) n → Contains found.items n) }
+    ensures { IfOk result (λ found. HasRead (reads (view ere.now)) behind.now found.items) }
 {
     let mut live: Vec<u32> = Vec::new(alloc);
     put_refs(ere, &mut live)?;
@@ -108,8 +108,7 @@ pub(crate) fn live_before(alloc: Global, ere: &Ere, behind: &[u32]) -> Result<Ve
 
 /// The same of expressions one behind the other.
 pub(crate) fn live_from(alloc: Global, all: &[Ere], behind: &[u32]) -> Result<Vec<u32>, AllocError>
-    ensures { IfOk result (λ found. (n : ℕ) → reads_all (trees_of (map view all.now)) (Contains behind.now) n
-        → Contains found.items n) }
+    ensures { IfOk result (λ found. HasRead (reads_all (trees_of (map view all.now))) behind.now found.items) }
 {
     match all.split_first() {
         None => Vec::from_slice(alloc, behind),
@@ -126,8 +125,8 @@ pub(crate) fn live_between(
     inner: &Ere,
     behind: &[u32],
 ) -> Result<Vec<u32>, AllocError>
-    ensures refers { IfOk result (λ found. (n : ℕ) → Refers (view inner.now) n → Contains found.items n) }
-    ensures behind { IfOk result (λ found. (n : ℕ) → Contains behind.now n → Contains found.items n) }
+    ensures refers { IfOk result (λ found. HasEach (Refers (view inner.now)) found.items) }
+    ensures behind { IfOk result (λ found. HasEach (Contains behind.now) found.items) }
 {
     let mut live = Vec::from_slice(alloc, behind)?;
     put_refs(inner, &mut live)?;

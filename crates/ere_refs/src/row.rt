@@ -1,6 +1,6 @@
 //! Expressions one behind the other: the parts of a concatenation, or the members of a repeat.
 ghost use Rattle.std.specs.Prelude.{◌≡◌, ℕ, ◌+◌, ◌<◌, List, length, IfOk, IfSome};
-ghost use Rattle.ere_refs.specs.Machine.{AreLives, AreMemberLives, ArePartLives, FollowFits, IsFull, IsSmaller, IsStage, NextRoom, RowRoom, lives_count};
+ghost use Rattle.ere_refs.specs.Machine.{AreLives, AreMemberLives, ArePartLives, FollowsBy, IsFull, IsSmaller, IsStage, KeepsRoom, lives_count};
 ghost use Rattle.ere_refs.specs.declared.row.Row.TheVariants.{Members, Parts};
 ghost use Rattle.ere_tree.specs.View.{view};
 
@@ -43,8 +43,8 @@ impl<'a> Row<'a> {
         at_end: bool,
     ) -> Follows<'a, 'l>
         requires { length lives.now ≡ lives_count self }
-        ensures fits { (live : List ℕ) → AreLives self.entry lives.now live → FollowFits self.entry live stage at_end result }
-        ensures room { (count : ℕ) → RowRoom count self.entry → NextRoom count result }
+        ensures fits { FollowsBy self.entry lives.now stage at_end result }
+        ensures room { KeepsRoom self.entry result }
         ensures small { IsSmaller self.entry result }
     {
         match self {
@@ -64,9 +64,8 @@ fn parts_follow<'a, 'l>(
     at_end: bool,
 ) -> Follows<'a, 'l>
     requires { length lives.now ≡ length parts.now + 1 }
-    ensures fits { (live : List ℕ) → ArePartLives parts.now lives.now live
-        → FollowFits (Parts parts.entry) live stage at_end result }
-    ensures room { (count : ℕ) → RowRoom count (Parts parts.entry) → NextRoom count result }
+    ensures fits { FollowsBy (Parts parts.entry) lives.now stage at_end result }
+    ensures room { KeepsRoom (Parts parts.entry) result }
     ensures small { IsSmaller (Parts parts.entry) result }
 {
     if stage >= parts.len() {
@@ -121,9 +120,8 @@ fn members_follow<'a, 'l>(
     at_end: bool,
 ) -> Follows<'a, 'l>
     requires { length lives.now ≡ 2 }
-    ensures fits { (live : List ℕ) → AreMemberLives (view inner.now) lives.now live
-        → FollowFits (Members inner.entry least most) live stage at_end result }
-    ensures room { (count : ℕ) → RowRoom count (Members inner.entry least most) → NextRoom count result }
+    ensures fits { FollowsBy (Members inner.entry least most) lives.now stage at_end result }
+    ensures room { KeepsRoom (Members inner.entry least most) result }
     ensures small { IsSmaller (Members inner.entry least most) result }
 {
     let further = stage >= least as usize;

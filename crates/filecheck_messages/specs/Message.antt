@@ -13,11 +13,17 @@ use Rattle.filecheck_messages.specs.declared.report.Made.{Made}
 use Rattle.filecheck_messages.specs.declared.spot.Spot.{Spot}
 use Rattle.tt_run.specs.Frame.{error_text, newline}
 
--- a message at a spot: what is told, the text of the line, and `^` below the column
+-- what stands before a message at a spot: the place
+abbrev pub place_text : Spot → List ℕ
+place_text spot = spot.name ++ codes ":" ++ decimal spot.place.line ++ codes ":" ++ decimal spot.place.col ++ codes ": "
+
+-- what stands behind it: the text of the line, and `^` below the column
+abbrev pub line_below : Spot → List ℕ
+line_below spot = newline ++ spot.line ++ newline ++ replicate (spot.place.col - 1) 32 ++ codes "^" ++ newline
+
+-- a message at a spot
 abbrev pub placed : Spot → List ℕ → List ℕ
-placed spot what =
-    spot.name ++ codes ":" ++ decimal spot.place.line ++ codes ":" ++ decimal spot.place.col ++ codes ": " ++ what ++ newline
-    ++ spot.line ++ newline ++ replicate (spot.place.col - 1) 32 ++ codes "^" ++ newline
+placed spot what = place_text spot ++ what ++ line_below spot
 
 -- a message that is told of no place
 abbrev pub unplaced : List ℕ → List ℕ
@@ -74,11 +80,13 @@ note_text note = placed note.spot (remark_text note.remark)
 abbrev pub notes_text : List Note → List ℕ
 notes_text notes = flat_map note_text notes
 
+-- a directive by its name, and what is wrong with it
+abbrev pub wrong_text : Finding → List ℕ
+wrong_text finding = codes "error: " ++ finding.name ++ codes ": " ++ fault_text finding.times finding.fault
+
 -- a directive that isn't met, and the places in the input
 abbrev pub told_of : Finding → List ℕ
-told_of finding =
-    placed finding.check (codes "error: " ++ finding.name ++ codes ": " ++ fault_text finding.times finding.fault)
-    ++ notes_text finding.notes
+told_of finding = placed finding.check (wrong_text finding) ++ notes_text finding.notes
 
 -- what is told of findings, in order
 abbrev pub told : List Finding → List ℕ

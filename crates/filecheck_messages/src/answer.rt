@@ -1,25 +1,27 @@
 //! The table: what is told of each refusal, and of a verdict.
-ghost use Rattle.std.specs.Prelude.{◌≡◌, ◌≤◌, ◌++◌, IfOk, Some, codes};
+ghost use Rattle.std.specs.Prelude.{◌≡◌, ◌≤◌, ◌++◌, IfOk, OnOk};
+ghost use Rattle.filecheck_messages.specs.Telling.{rest_text, rows_in};
 ghost use Rattle.filecheck_messages.specs.Answer.{answer_to, body_text, line_text, made_row, make_text, regex_text, report_row, row_of, telling, text_of, text_row, verdict_row, with_dump, words_text};
-ghost use Rattle.filecheck_messages.specs.Message.{placed, unplaced};
 
 use crate::dumped::Dumped;
 use crate::finding::Finding;
-use crate::message::{append_number, made_text, placed, told, unplaced};
+use crate::message::{
+    append_made, append_named, append_placed, append_told, append_too_long, append_unplaced,
+};
 use crate::refusal::{Refusal, Stop};
 use crate::report::{Made, Report};
-use crate::spot::Spot;
+use crate::telling::{Rest, Telling, Text, no_text, pieces_alone, telling_of};
 use check_lines::LineFault;
 use ere_tree::EreKind;
 use filecheck_words::WordsFault;
-use make_checks::MakeFault;
+use make_checks::{MadeFile, MakeFault};
 use pattern_parse::PatKind;
 use std::alloc::Global;
-use tt_base::{Bytes, NoMemory};
-use tt_run::Answer;
+use tt_base::NoMemory;
+use tt_pieces::Pieces;
 
-/// What is told of a run.
-pub fn answer_to(alloc: Global, outcome: &Result<Report, Stop>) -> Result<Answer, NoMemory>
+/// What is told of a run. Nothing of it is copied.
+pub fn answer_to(alloc: Global, outcome: &Result<Report, Stop>) -> Result<Telling<'_>, NoMemory>
     ensures value { IfOk result (λ answer. answer ≡ answer_to outcome.now) }
     ensures small { IfOk result (λ answer. answer.status ≤ 3) }
 {
@@ -29,131 +31,153 @@ pub fn answer_to(alloc: Global, outcome: &Result<Report, Stop>) -> Result<Answer
     }
 }
 
-fn report_row(alloc: Global, report: &Report) -> Result<Answer, NoMemory>
+fn report_row(alloc: Global, report: &Report) -> Result<Telling<'_>, NoMemory>
     ensures value { IfOk result (λ answer. answer ≡ report_row report.now) }
     ensures small { IfOk result (λ answer. answer.status ≤ 3) }
 {
     match report {
-        Report::Found(findings, dumped) => {
-            let answer = verdict_row(alloc, findings.as_slice())?;
-            match dumped {
-                Some(dumped) => with_dump(alloc, answer, dumped),
-                None => Ok(answer),
-            }
-        }
+        Report::Found(findings, dumped) => found_row(alloc, findings.as_slice(), dumped),
         Report::Made(made) => made_row(alloc, *made),
-        Report::Checks(text) => text_row(alloc, text.as_slice()),
+        Report::Checks(file) => text_row(alloc, file),
     }
 }
 
-/// An answer with the annotated input behind its messages.
-fn with_dump(alloc: Global, answer: Answer, dumped: &Dumped) -> Result<Answer, NoMemory>
-    requires small { answer.status ≤ 3 }
-    ensures value { IfOk result (λ whole. whole ≡ with_dump answer (Some dumped.now)) }
-    ensures small { IfOk result (λ whole. whole.status ≤ 3) }
-{
-    let Answer {
-        out,
-        mut err,
-        status,
-    } = answer;
-    let rows = dumped.bytes(alloc)?;
-    err.append(rows.as_slice())?;
-    Ok(Answer { out, err, status })
-}
-
-/// The answer of a check file that is made.
-fn text_row(alloc: Global, text: &[u8]) -> Result<Answer, NoMemory>
-    ensures value { IfOk result (λ answer. answer ≡ text_row text.now) }
+/// The answer of a verdict, with the annotated input behind its messages.
+fn found_row<'a>(
+    alloc: Global,
+    findings: &'a [Finding],
+    dumped: &'a Option<Dumped>,
+) -> Result<Telling<'a>, NoMemory>
+    ensures value { IfOk result (λ answer. answer ≡ with_dump (verdict_row findings.now) dumped.now) }
     ensures small { IfOk result (λ answer. answer.status ≤ 3) }
 {
-    Ok(Answer {
-        out: Bytes::from_slice(alloc, text)?,
-        err: Bytes::new(alloc),
-        status: 0,
-    })
+    let mut pieces = Pieces::new(alloc);
+    append_told(&mut pieces, findings)?;
+    let rest = rest_of(alloc, dumped)?;
+    let status = verdict_status(findings);
+    telling_of(alloc, no_text(alloc), Text { pieces, rest }, status)
 }
 
-fn verdict_row(alloc: Global, findings: &[Finding]) -> Result<Answer, NoMemory>
-    ensures value { IfOk result (λ answer. answer ≡ verdict_row findings.now) }
-    ensures small { IfOk result (λ answer. answer.status ≤ 3) }
+/// The status of a verdict.
+fn verdict_status(findings: &[Finding]) -> u8
+    ensures value { result ≡ (verdict_row findings.now).status }
+    ensures small { result ≤ 1 }
 {
-    if findings.is_empty() {
-        return Ok(telling(alloc, 0, Bytes::new(alloc)));
-    }
-    Ok(telling(alloc, 1, told(alloc, findings)?))
+    if findings.is_empty() { 0 } else { 1 }
 }
 
-fn made_row(alloc: Global, made: Made) -> Result<Answer, NoMemory>
+/// The answer of checks and an input that were made.
+fn made_row<'a>(alloc: Global, made: Made) -> Result<Telling<'a>, NoMemory>
     ensures value { IfOk result (λ answer. answer ≡ made_row made) }
     ensures small { IfOk result (λ answer. answer.status ≤ 3) }
 {
-    Ok(Answer {
-        out: made_text(alloc, made)?,
-        err: Bytes::new(alloc),
-        status: if made.faults == 0 { 0 } else { 1 },
-    })
+    let mut out = Pieces::new(alloc);
+    append_made(&mut out, made)?;
+    let status = if made.faults == 0 { 0 } else { 1 };
+    telling_of(alloc, pieces_alone(out), no_text(alloc), status)
 }
 
-fn row_of(alloc: Global, stop: &Stop) -> Result<Answer, NoMemory>
+/// The answer of a check file that is made.
+fn text_row(alloc: Global, file: &MadeFile) -> Result<Telling<'_>, NoMemory>
+    ensures value { IfOk result (λ answer. answer ≡ text_row file.now) }
+    ensures small { IfOk result (λ answer. answer.status ≤ 3) }
+{
+    let out = Text {
+        pieces: Pieces::new(alloc),
+        rest: Rest::File(file),
+    };
+    telling_of(alloc, out, no_text(alloc), 0)
+}
+
+/// The annotated input, if there is one.
+fn rest_of(alloc: Global, dumped: &Option<Dumped>) -> Result<Rest<'_>, NoMemory>
+    ensures { IfOk result (λ rest. rest_text rest ≡ rows_in dumped.now) }
+{
+    match dumped {
+        Some(dumped) => Ok(Rest::Rows(dumped.rows(alloc)?)),
+        None => Ok(Rest::Nothing),
+    }
+}
+
+fn row_of(alloc: Global, stop: &Stop) -> Result<Telling<'_>, NoMemory>
     ensures value { IfOk result (λ answer. answer ≡ row_of stop.now) }
     ensures small { IfOk result (λ answer. answer.status ≤ 3) }
 {
+    let mut err = Pieces::new(alloc);
     match stop {
-        Stop::Refused(refusal) => Ok(telling(alloc, 2, text_of(alloc, refusal)?)),
+        Stop::Refused(refusal) => {
+            append_refusal(&mut err, refusal)?;
+            message_alone(alloc, err, 2)
+        }
         Stop::NotReadable(name) => {
-            Ok(telling(alloc, 3, named(alloc, b"cannot read '", name, b"'")?))
+            append_named(&mut err, b"cannot read '", name, b"'")?;
+            message_alone(alloc, err, 3)
         }
     }
+}
+
+/// An answer that tells something on the error stream alone.
+fn message_alone<'a>(
+    alloc: Global,
+    message: Pieces<'a>,
+    status: u8,
+) -> Result<Telling<'a>, NoMemory>
+    ensures { IfOk result (λ answer. answer ≡ telling status message.entry) }
+{
+    telling_of(alloc, no_text(alloc), pieces_alone(message), status)
 }
 
 /// The table.
-fn text_of(alloc: Global, refusal: &Refusal) -> Result<Bytes, NoMemory>
-    ensures { IfOk result (λ text. text ≡ text_of refusal.now) }
+fn append_refusal<'a>(text: &mut Pieces<'a>, refusal: &'a Refusal) -> Result<(), NoMemory>
+    ensures { OnOk result (text.new ≡ text.old ++ text_of refusal.now) }
 {
     match refusal {
-        Refusal::Words(fault) => words_text(alloc, fault),
-        Refusal::NotFound(name) => named(alloc, b"'", name, b"' not found"),
-        Refusal::TooLarge(name) => named(alloc, b"'", name, b"' is too large"),
-        Refusal::BadLine(fault, spot) => placed_fault(alloc, spot, line_text(*fault)),
-        Refusal::NoChecks(name) => named(alloc, b"no checks in '", name, b"'"),
-        Refusal::UnusedPrefix(prefix) => named(alloc, b"prefix '", prefix, b"' isn't used"),
-        Refusal::BadBody(kind, spot) => placed_fault(alloc, spot, body_text(*kind)),
-        Refusal::BadDefine(value) => named(alloc, b"bad definition '", value, b"'"),
-        Refusal::IsEmpty(name) => named(alloc, b"'", name, b"' is empty"),
-        Refusal::BadMake(fault) => make_text(alloc, *fault),
+        Refusal::Words(fault) => append_words(text, fault),
+        Refusal::NotFound(name) => append_named(text, b"'", name, b"' not found"),
+        Refusal::TooLarge(name) => append_named(text, b"'", name, b"' is too large"),
+        Refusal::BadLine(fault, spot) => append_placed(text, spot, line_text(*fault)),
+        Refusal::NoChecks(name) => append_named(text, b"no checks in '", name, b"'"),
+        Refusal::UnusedPrefix(prefix) => {
+            append_named(text, b"prefix '", prefix, b"' isn't used")
+        }
+        Refusal::BadBody(kind, spot) => append_placed(text, spot, body_text(*kind)),
+        Refusal::BadDefine(value) => { append_named(text, b"bad definition '", value, b"'") }
+        Refusal::IsEmpty(name) => append_named(text, b"'", name, b"' is empty"),
+        Refusal::BadMake(fault) => append_make(text, *fault),
     }
 }
 
-/// What is told of a check file that isn't made.
-fn make_text(alloc: Global, fault: MakeFault) -> Result<Bytes, NoMemory>
-    ensures { IfOk result (λ text. text ≡ make_text fault) }
+/// Adds what is told of a check file that isn't made.
+fn append_make(text: &mut Pieces<'_>, fault: MakeFault) -> Result<(), NoMemory>
+    ensures { OnOk result (text.new ≡ text.old ++ make_text fault) }
 {
     match fault {
-        MakeFault::BadLead => unplaced(alloc, b"bad lead"),
+        MakeFault::BadLead => append_unplaced(text, b"bad lead"),
         MakeFault::LineTooLong(line) => {
-            let mut number = Bytes::new(alloc);
-            append_number(alloc, &mut number, line)?;
-            named(alloc, b"line ", &number, b" is too long")
+            text.append(b"filecheck: error: ")?;
+            append_too_long(text, line)?;
+            text.append(b"\n")
         }
-        MakeFault::TooLarge => unplaced(alloc, b"check file would be too large"),
+        MakeFault::TooLarge => append_unplaced(text, b"check file would be too large"),
     }
 }
 
-/// What is told of words.
-fn words_text(alloc: Global, fault: &WordsFault) -> Result<Bytes, NoMemory>
-    ensures { IfOk result (λ text. text ≡ words_text fault.now) }
+/// Adds what is told of words.
+fn append_words<'a>(text: &mut Pieces<'a>, fault: &'a WordsFault) -> Result<(), NoMemory>
+    ensures { OnOk result (text.new ≡ text.old ++ words_text fault.now) }
 {
     match fault {
-        WordsFault::NotText => unplaced(alloc, b"a word isn't text"),
+        WordsFault::NotText => append_unplaced(text, b"a word isn't text"),
         WordsFault::Faulty(fault, word) => {
-            named(alloc, fault.text_before(), word, fault.text_behind())
+            append_named(text, fault.text_before(), word, fault.text_behind())
         }
-        WordsFault::Misfit => unplaced(alloc, b"these options don't fit together"),
-        WordsFault::NotOneFile => unplaced(alloc, b"one check file is needed"),
-        WordsFault::BadPrefix(prefix) => named(alloc, b"bad prefix '", prefix, b"'"),
-        WordsFault::PrefixTwice(prefix) => named(alloc, b"prefix '", prefix, b"' given twice"),
-        WordsFault::BadImplicit(value) => named(alloc, b"bad pattern '", value, b"'"),
+        WordsFault::Misfit => append_unplaced(text, b"these options don't fit together"),
+        WordsFault::NotOneFile => append_unplaced(text, b"one check file is needed"),
+        WordsFault::BadPrefix(prefix) => { append_named(text, b"bad prefix '", prefix, b"'") }
+        WordsFault::PrefixTwice(prefix) => {
+            append_named(text, b"prefix '", prefix, b"' given twice")
+        }
+        WordsFault::BadImplicit(value) => { append_named(text, b"bad pattern '", value, b"'") }
     }
 }
 
@@ -208,34 +232,5 @@ fn regex_text(kind: EreKind) -> &'static [u8]
         EreKind::TrailingBackslash => b"bad regex: TrailingBackslash",
         EreKind::TooLarge => b"bad regex: TooLarge",
         EreKind::TooDeep => b"bad regex: TooDeep",
-    }
-}
-
-/// A message of a line or a body, at a spot.
-fn placed_fault(alloc: Global, spot: &Spot, what: &[u8]) -> Result<Bytes, NoMemory>
-    ensures { IfOk result (λ message. message ≡ placed spot.now (codes "error: " ++ what.now)) }
-{
-    let mut text = Bytes::from_slice(alloc, b"error: ")?;
-    text.append(what)?;
-    placed(alloc, spot, text.as_slice())
-}
-
-/// A message about a name.
-fn named(alloc: Global, before: &[u8], name: &Bytes, behind: &[u8]) -> Result<Bytes, NoMemory>
-    ensures { IfOk result (λ message. message ≡ unplaced (before.now ++ name.now ++ behind.now)) }
-{
-    let mut text = Bytes::from_slice(alloc, before)?;
-    text.append(name.as_slice())?;
-    text.append(behind)?;
-    unplaced(alloc, text.as_slice())
-}
-
-fn telling(alloc: Global, status: u8, message: Bytes) -> Answer
-    ensures { result ≡ telling status message }
-{
-    Answer {
-        out: Bytes::new(alloc),
-        err: message,
-        status,
     }
 }

@@ -1,16 +1,17 @@
 //! The annotated input of a run.
 ghost use Rattle.std.specs.Prelude.{◌≡◌, ◌≤◌, ◌^◌, All, IfOk, length};
-ghost use Rattle.input_dump.specs.Dump.{dump};
+ghost use Rattle.input_dump.specs.Dump.{dump, framed};
 
-use input_dump::{Mark, Shown, dump};
+use input_dump::{Mark, Rows, Shown};
 use std::alloc::Global;
 use std::marker::Model;
-use tt_base::{Bytes, Items, NoMemory};
+use tt_base::{Items, NoMemory};
+use tt_outside::SharedBytes;
 
 /// An annotated input, of which a contract sees the bytes that are told.
 #[derive(Drop, Debug)]
 pub struct Dumped {
-    text: Bytes,
+    text: SharedBytes,
     marks: Items<Mark>,
     shown: Shown,
 }
@@ -29,7 +30,7 @@ impl Model for Dumped {
 
 impl Dumped {
     /// A text with its marks, of which these lines are shown.
-    pub fn new(text: Bytes, marks: Items<Mark>, shown: Shown) -> Dumped
+    pub fn new(text: SharedBytes, marks: Items<Mark>, shown: Shown) -> Dumped
         requires short { length text ≤ 2 ^ 30 }
         requires within { All (λ mark. mark.at ≤ length text) marks }
         ensures { result ≡ dump text marks shown }
@@ -37,11 +38,11 @@ impl Dumped {
         Dumped { text, marks, shown }
     }
 
-    /// All that is told.
-    pub(crate) fn bytes(&self, alloc: Global) -> Result<Bytes, NoMemory>
-        ensures { IfOk result (λ bytes. bytes ≡ self.now) }
+    /// Its rows.
+    pub(crate) fn rows(&self, alloc: Global) -> Result<Rows<'_>, NoMemory>
+        ensures { IfOk result (λ rows. framed rows ≡ self.now) }
     {
-        dump(
+        Rows::new(
             alloc,
             self.text.as_slice(),
             self.marks.as_slice(),

@@ -6,13 +6,17 @@ mod answer;
 mod dumped;
 mod finding;
 mod message;
+mod part;
 mod refusal;
 mod report;
 mod spot;
+mod telling;
 
 pub use answer::answer_to;
 pub use dumped::Dumped;
 pub use finding::{Finding, Note, Remark};
+pub use part::Part;
 pub use refusal::{Refusal, StepFail, Stop, refuse, settled};
 pub use report::{Made, Report};
-pub use spot::{Spot, as_col, behind, spot_at, spot_of};
+pub use spot::{Spot, as_col, behind, spot_at, spot_in, spot_of};
+pub use telling::Telling;

@@ -1,57 +1,65 @@
-//! The messages of FileCheck, byte by byte.
-ghost use Rattle.std.specs.Prelude.{◌≡◌, ◌++◌, IfOk, OnOk, replicate};
+//! The messages of FileCheck, piece by piece.
+ghost use Rattle.std.specs.Prelude.{◌≡◌, ◌++◌, OnOk, codes};
 ghost use Rattle.std.specs.Fmt.{decimal};
 ghost use Rattle.std.specs.List.{flat_map};
-ghost use Rattle.filecheck_messages.specs.Message.{behind_comma, fault_text, wrong_line_text, listed, made_text, missing_text, names_text, note_text, notes_text, placed, told, told_of, unplaced};
+ghost use Rattle.filecheck_messages.specs.Message.{behind_comma, fault_text, line_below, listed, made_text, missing_text, names_text, note_text, notes_text, place_text, placed, remark_text, told, told_of, unplaced, wrong_line_text, wrong_text};
 
 use crate::finding::{Finding, Note, Remark};
 use crate::report::Made;
 use crate::spot::Spot;
 use check_group::FaultKind;
-use std::alloc::Global;
 use tt_base::{Bytes, NoMemory};
+use tt_pieces::Pieces;
 
-/// What is told of findings, in order.
-pub fn told(alloc: Global, findings: &[Finding]) -> Result<Bytes, NoMemory>
-    ensures { IfOk result (λ message. message ≡ told findings.now) }
+/// Adds what is told of findings, in order.
+pub(crate) fn append_told<'a>(
+    text: &mut Pieces<'a>,
+    findings: &'a [Finding],
+) -> Result<(), NoMemory>
+    ensures { OnOk result (text.new ≡ text.old ++ told findings.now) }
 {
-    let mut message = Bytes::new(alloc);
     for finding in findings {
-        message.append(told_of(alloc, finding)?.as_slice())?;
+        append_told_of(text, finding)?;
     }
-    Ok(message)
+    Ok(())
 }
 
-fn told_of(alloc: Global, finding: &Finding) -> Result<Bytes, NoMemory>
-    ensures { IfOk result (λ message. message ≡ told_of finding.now) }
+fn append_told_of<'a>(text: &mut Pieces<'a>, finding: &'a Finding) -> Result<(), NoMemory>
+    ensures { OnOk result (text.new ≡ text.old ++ told_of finding.now) }
 {
-    let mut what = Bytes::from_slice(alloc, b"error: ")?;
-    what.append(finding.name.as_slice())?;
-    what.append(b": ")?;
-    what.append(fault_text(alloc, finding.times, &finding.fault)?.as_slice())?;
-    let mut message = placed(alloc, &finding.check, what.as_slice())?;
-    message.append(notes_text(alloc, finding.notes.as_slice())?.as_slice())?;
-    Ok(message)
+    append_place(text, &finding.check)?;
+    append_wrong(text, finding)?;
+    append_line_below(text, &finding.check)?;
+    append_notes(text, finding.notes.as_slice())
 }
 
-/// What is wrong with a directive, of which so many matches are asked for where that is told.
-fn fault_text(alloc: Global, times: Option<u32>, fault: &FaultKind) -> Result<Bytes, NoMemory>
-    ensures { IfOk result (λ text. text ≡ fault_text times fault.now) }
+/// Adds a directive by its name, and what is wrong with it.
+fn append_wrong<'a>(text: &mut Pieces<'a>, finding: &'a Finding) -> Result<(), NoMemory>
+    ensures { OnOk result (text.new ≡ text.old ++ wrong_text finding.now) }
+{
+    text.append(b"error: ")?;
+    text.append(finding.name.as_slice())?;
+    text.append(b": ")?;
+    append_fault(text, finding.times, &finding.fault)
+}
+
+/// Adds what is wrong with a directive, of which so many matches are asked for where that is told.
+fn append_fault<'a>(
+    text: &mut Pieces<'a>,
+    times: Option<u32>,
+    fault: &'a FaultKind,
+) -> Result<(), NoMemory>
+    ensures { OnOk result (text.new ≡ text.old ++ fault_text times fault.now) }
 {
     match fault {
-        FaultKind::NotFound { done, .. } => missing_text(alloc, times, *done),
-        FaultKind::WrongLine { newlines, .. } => Bytes::from_slice(
-            alloc,
-            wrong_line_text(*newlines),
-        ),
-        FaultKind::NotSameLine { .. } => {
-            Bytes::from_slice(alloc, b"is not on the same line as previous match")
-        }
-        FaultKind::Excluded { .. } => Bytes::from_slice(alloc, b"excluded string found in input"),
-        FaultKind::Undefined(names) => names_text(alloc, names.as_slice()),
-        FaultKind::Range => Bytes::from_slice(alloc, b"numeric value out of range"),
-        FaultKind::ZeroDivisor => Bytes::from_slice(alloc, b"division by zero"),
-        FaultKind::Unreadable { .. } => Bytes::from_slice(alloc, b"matched number out of range"),
+        FaultKind::NotFound { done, .. } => append_missing(text, times, *done),
+        FaultKind::WrongLine { newlines, .. } => text.append(wrong_line_text(*newlines)),
+        FaultKind::NotSameLine { .. } => text.append(b"is not on the same line as previous match"),
+        FaultKind::Excluded { .. } => text.append(b"excluded string found in input"),
+        FaultKind::Undefined(names) => append_names(text, names.as_slice()),
+        FaultKind::Range => text.append(b"numeric value out of range"),
+        FaultKind::ZeroDivisor => text.append(b"division by zero"),
+        FaultKind::Unreadable { .. } => text.append(b"matched number out of range"),
     }
 }
 
@@ -66,16 +74,15 @@ fn wrong_line_text(newlines: u64) -> &'static [u8]
     }
 }
 
-fn names_text(alloc: Global, names: &[Bytes]) -> Result<Bytes, NoMemory>
-    ensures { IfOk result (λ text. text ≡ names_text names.now) }
+fn append_names<'a>(text: &mut Pieces<'a>, names: &'a [Bytes]) -> Result<(), NoMemory>
+    ensures { OnOk result (text.new ≡ text.old ++ names_text names.now) }
 {
-    let mut text = Bytes::from_slice(alloc, b"uses undefined variables: ")?;
-    append_listed(&mut text, names)?;
-    Ok(text)
+    text.append(b"uses undefined variables: ")?;
+    append_listed(text, names)
 }
 
 /// Adds names with commas between them.
-fn append_listed(text: &mut Bytes, names: &[Bytes]) -> Result<(), NoMemory>
+fn append_listed<'a>(text: &mut Pieces<'a>, names: &'a [Bytes]) -> Result<(), NoMemory>
     ensures { OnOk result (text.new ≡ text.old ++ listed names.now) }
 {
     match names.split_first() {
@@ -87,7 +94,7 @@ fn append_listed(text: &mut Bytes, names: &[Bytes]) -> Result<(), NoMemory>
     }
 }
 
-fn append_later(text: &mut Bytes, names: &[Bytes]) -> Result<(), NoMemory>
+fn append_later<'a>(text: &mut Pieces<'a>, names: &'a [Bytes]) -> Result<(), NoMemory>
     ensures { OnOk result (text.new ≡ text.old ++ flat_map behind_comma names.now) }
 {
     for name in names {
@@ -97,114 +104,149 @@ fn append_later(text: &mut Bytes, names: &[Bytes]) -> Result<(), NoMemory>
     Ok(())
 }
 
-/// What is told where `done` matches are found, and not all that are asked for.
-fn missing_text(alloc: Global, times: Option<u32>, done: u32) -> Result<Bytes, NoMemory>
-    ensures { IfOk result (λ text. text ≡ missing_text times done) }
+/// Adds what is told where `done` matches are found, and not all that are asked for.
+fn append_missing(text: &mut Pieces<'_>, times: Option<u32>, done: u32) -> Result<(), NoMemory>
+    ensures { OnOk result (text.new ≡ text.old ++ missing_text times done) }
 {
-    let mut text = Bytes::from_slice(alloc, b"expected string not found in input")?;
+    text.append(b"expected string not found in input")?;
     if let Some(times) = times {
         text.append(b" (")?;
-        append_number(alloc, &mut text, done)?;
+        text.append_number(u64::from(done))?;
         text.append(b" of ")?;
-        append_number(alloc, &mut text, times)?;
+        text.append_number(u64::from(times))?;
         text.append(b" found)")?;
     }
-    Ok(text)
+    Ok(())
 }
 
-/// What is told of places in the input, in order.
-fn notes_text(alloc: Global, notes: &[Note]) -> Result<Bytes, NoMemory>
-    ensures { IfOk result (λ message. message ≡ notes_text notes.now) }
+/// Adds what is told of places in the input, in order.
+fn append_notes<'a>(text: &mut Pieces<'a>, notes: &'a [Note]) -> Result<(), NoMemory>
+    ensures { OnOk result (text.new ≡ text.old ++ notes_text notes.now) }
 {
-    let mut message = Bytes::new(alloc);
     for note in notes {
-        message.append(note_text(alloc, note)?.as_slice())?;
+        append_note(text, note)?;
     }
-    Ok(message)
+    Ok(())
 }
 
-fn note_text(alloc: Global, note: &Note) -> Result<Bytes, NoMemory>
-    ensures { IfOk result (λ message. message ≡ note_text note.now) }
+fn append_note<'a>(text: &mut Pieces<'a>, note: &'a Note) -> Result<(), NoMemory>
+    ensures { OnOk result (text.new ≡ text.old ++ note_text note.now) }
 {
-    match note.remark {
-        Remark::ScanningFrom => placed(alloc, &note.spot, b"note: scanning from here"),
-        Remark::MatchWasHere => placed(alloc, &note.spot, b"note: match was here"),
-        Remark::PreviousEnded => placed(alloc, &note.spot, b"note: previous match ended here"),
-        Remark::FoundHere => placed(alloc, &note.spot, b"note: found here"),
+    append_place(text, &note.spot)?;
+    text.append(remark_text(note.remark))?;
+    append_line_below(text, &note.spot)
+}
+
+/// What is told of a place in the input.
+fn remark_text(remark: Remark) -> &'static [u8]
+    ensures { result.now ≡ remark_text remark }
+{
+    match remark {
+        Remark::ScanningFrom => b"note: scanning from here",
+        Remark::MatchWasHere => b"note: match was here",
+        Remark::PreviousEnded => b"note: previous match ended here",
+        Remark::FoundHere => b"note: found here",
     }
 }
 
-/// What is told of checks and an input that were made.
-pub fn made_text(alloc: Global, made: Made) -> Result<Bytes, NoMemory>
-    ensures { IfOk result (λ text. text ≡ made_text made) }
+/// Adds a count behind what it is of.
+fn append_count<'a>(text: &mut Pieces<'a>, what: &'a [u8], count: u64) -> Result<(), NoMemory>
+    ensures { OnOk result (text.new ≡ text.old ++ (what.now ++ decimal count)) }
 {
-    let mut text = Bytes::from_slice(alloc, b"generated: checks ")?;
-    append_count(alloc, &mut text, made.checks)?;
-    text.append(b", input bytes ")?;
-    append_count(alloc, &mut text, made.bytes)?;
-    text.append(b", faults ")?;
-    append_count(alloc, &mut text, made.faults)?;
+    text.append(what)?;
+    text.append_number(count)
+}
+
+/// Adds what is told of checks and an input that were made.
+pub(crate) fn append_made(text: &mut Pieces<'_>, made: Made) -> Result<(), NoMemory>
+    ensures { OnOk result (text.new ≡ text.old ++ made_text made) }
+{
+    append_count(text, b"generated: checks ", made.checks)?;
+    append_count(text, b", input bytes ", made.bytes)?;
+    append_count(text, b", faults ", made.faults)?;
     text.append(b"\n")?;
-    Ok(text)
+    Ok(())
 }
 
-/// A message at a spot.
-pub fn placed(alloc: Global, spot: &Spot, what: &[u8]) -> Result<Bytes, NoMemory>
-    ensures { IfOk result (λ message. message ≡ placed spot.now what.now) }
+/// Adds what stands before a message at a spot.
+fn append_place<'a>(text: &mut Pieces<'a>, spot: &'a Spot) -> Result<(), NoMemory>
+    ensures { OnOk result (text.new ≡ text.old ++ place_text spot.now) }
 {
-    let mut message = Bytes::from_slice(alloc, spot.name.as_slice())?;
-    message.append(b":")?;
-    append_number(alloc, &mut message, spot.place.line)?;
-    message.append(b":")?;
-    append_number(alloc, &mut message, spot.place.col)?;
-    message.append(b": ")?;
-    message.append(what)?;
-    message.append(b"\n")?;
-    message.append(spot.line.as_slice())?;
-    message.append(b"\n")?;
-    append_spaces(
-        alloc,
-        &mut message,
-        spot.place.col.saturating_sub(1) as usize,
-    )?;
-    message.append(b"^")?;
-    message.append(b"\n")?;
-    Ok(message)
+    text.append(spot.name.as_slice())?;
+    text.append(b":")?;
+    text.append_number(u64::from(spot.place.line))?;
+    text.append(b":")?;
+    text.append_number(u64::from(spot.place.col))?;
+    text.append(b": ")
 }
 
-/// A message that is told of no place.
-pub fn unplaced(alloc: Global, text: &[u8]) -> Result<Bytes, NoMemory>
-    ensures { IfOk result (λ message. message ≡ unplaced text.now) }
+/// Adds what stands behind it.
+fn append_line_below<'a>(text: &mut Pieces<'a>, spot: &'a Spot) -> Result<(), NoMemory>
+    ensures { OnOk result (text.new ≡ text.old ++ line_below spot.now) }
 {
-    let mut message = Bytes::from_slice(alloc, b"filecheck: error: ")?;
-    message.append(text)?;
-    message.append(b"\n")?;
-    Ok(message)
+    text.append(b"\n")?;
+    text.append(spot.line.as_slice())?;
+    text.append(b"\n")?;
+    text.append_blanks(spot.place.col.saturating_sub(1) as usize)?;
+    text.append(b"^\n")
 }
 
-pub(crate) fn append_number(alloc: Global, message: &mut Bytes, number: u32) -> Result<(), NoMemory>
-    ensures { OnOk result (message.new ≡ message.old ++ decimal number) }
+/// Adds a message of a line or a body, at a spot.
+pub(crate) fn append_placed<'a>(
+    text: &mut Pieces<'a>,
+    spot: &'a Spot,
+    what: &'a [u8],
+) -> Result<(), NoMemory>
+    ensures { OnOk result (text.new ≡ text.old ++ placed spot.now (codes "error: " ++ what.now)) }
 {
-    match number.to_string(alloc) {
-        Ok(text) => message.append(text.as_bytes()),
-        Err(_) => Err(NoMemory),
-    }
+    append_place(text, spot)?;
+    text.append(b"error: ")?;
+    text.append(what)?;
+    append_line_below(text, spot)
 }
 
-fn append_count(alloc: Global, message: &mut Bytes, count: u64) -> Result<(), NoMemory>
-    ensures { OnOk result (message.new ≡ message.old ++ decimal count) }
+/// Adds a message that is told of no place.
+pub(crate) fn append_unplaced<'a>(text: &mut Pieces<'a>, what: &'a [u8]) -> Result<(), NoMemory>
+    ensures { OnOk result (text.new ≡ text.old ++ unplaced what.now) }
 {
-    match count.to_string(alloc) {
-        Ok(text) => message.append(text.as_bytes()),
-        Err(_) => Err(NoMemory),
-    }
+    text.append(b"filecheck: error: ")?;
+    text.append(what)?;
+    text.append(b"\n")
 }
 
-fn append_spaces(alloc: Global, message: &mut Bytes, count: usize) -> Result<(), NoMemory>
-    ensures { OnOk result (message.new ≡ message.old ++ replicate count 32) }
+/// Adds a name with what stands on both sides of it.
+fn append_about<'a>(
+    text: &mut Pieces<'a>,
+    before: &'a [u8],
+    name: &'a Bytes,
+    behind: &'a [u8],
+) -> Result<(), NoMemory>
+    ensures { OnOk result (text.new ≡ text.old ++ (before.now ++ name.now ++ behind.now)) }
 {
-    match Vec::from_elem(alloc, b' ', count) {
-        Ok(spaces) => message.append(spaces.as_slice()),
-        Err(_) => Err(NoMemory),
-    }
+    text.append(before)?;
+    text.append(name.as_slice())?;
+    text.append(behind)
+}
+
+/// Adds a message about a name.
+pub(crate) fn append_named<'a>(
+    text: &mut Pieces<'a>,
+    before: &'a [u8],
+    name: &'a Bytes,
+    behind: &'a [u8],
+) -> Result<(), NoMemory>
+    ensures { OnOk result (text.new ≡ text.old ++ unplaced (before.now ++ name.now ++ behind.now)) }
+{
+    text.append(b"filecheck: error: ")?;
+    append_about(text, before, name, behind)?;
+    text.append(b"\n")
+}
+
+/// Adds the line of an output that is too long.
+pub(crate) fn append_too_long(text: &mut Pieces<'_>, line: u32) -> Result<(), NoMemory>
+    ensures { OnOk result (text.new ≡ text.old ++ codes "line " ++ decimal line ++ codes " is too long") }
+{
+    text.append(b"line ")?;
+    text.append_number(u64::from(line))?;
+    text.append(b" is too long")
 }

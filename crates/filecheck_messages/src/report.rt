@@ -1,7 +1,8 @@
 //! What a run tells that wasn't refused.
 use crate::dumped::Dumped;
 use crate::finding::Finding;
-use tt_base::{Bytes, Items};
+use make_checks::MadeFile;
+use tt_base::Items;
 
 /// What is told of checks and an input that were made.
 #[derive(Clone, Copy, Debug, PartialEq, Eq)]
@@ -19,5 +20,5 @@ pub enum Report {
     Found(Items<Finding>, Option<Dumped>),
     Made(Made),
     /// A check file that was made from the input.
-    Checks(Bytes),
+    Checks(MadeFile),
 }

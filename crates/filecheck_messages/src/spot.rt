@@ -3,8 +3,10 @@ ghost use Rattle.std.specs.Prelude.{◌≡◌, ◌≤◌, ◌+◌, ◌^◌, IfOk
 ghost use Rattle.tt_base.specs.Place.{place_at};
 ghost use Rattle.filecheck_messages.specs.Spot.{behind, spot_at};
 
+use crate::part::Part;
 use std::alloc::Global;
 use tt_base::{Bytes, NoMemory, Place, line_of, place_of};
+use tt_outside::SharedBytes;
 
 /// A place of a text, and its line.
 #[derive(Drop, Debug)]
@@ -12,7 +14,7 @@ pub struct Spot {
     /// How the text is named.
     pub name: Bytes,
     pub place: Place,
-    pub line: Bytes,
+    pub line: Part,
 }
 
 /// The spot of an offset. It counts the lines before it.
@@ -41,7 +43,22 @@ pub fn spot_of(
     Ok(Spot {
         name: Bytes::from_slice(alloc, name)?,
         place,
-        line: Bytes::from_slice(alloc, &text[line.from..line.to])?,
+        line: Part::copied(alloc, &text[line.from..line.to])?,
+    })
+}
+
+/// The spot of an offset of a text that several hold, whose line isn't copied.
+pub fn spot_in(alloc: Global, name: &[u8], text: &SharedBytes, at: usize) -> Result<Spot, NoMemory>
+    requires within { at ≤ length text.now }
+    requires small { length text.now ≤ 2 ^ 30 }
+    ensures { IfOk result (λ spot. spot ≡ spot_at name.now text.now at) }
+{
+    let place = place_of(text.as_slice(), at);
+    let line = line_of(text.as_slice(), at);
+    Ok(Spot {
+        name: Bytes::from_slice(alloc, name)?,
+        place,
+        line: Part::new(text.share()?, line.from, line.to),
     })
 }
 

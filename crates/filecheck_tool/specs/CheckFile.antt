@@ -11,11 +11,12 @@ use Rattle.check_lines.specs.declared.fault.CheckKind.{CheckKind}
 use Rattle.check_lines.specs.declared.fault.CheckKind.TheVariants.{Line, NoChecks as HasNoChecks, UnusedPrefix as IsUnused}
 use Rattle.check_lines.specs.declared.kind.Kind.{Kind}
 use Rattle.check_lines.specs.declared.kind.Kind.TheVariants.{Not}
-use Rattle.filecheck_messages.specs.Refusal.{◌>>=◌, accepted}
+use Rattle.filecheck_messages.specs.Refusal.{◌>>=◌, Gives, accepted}
 use Rattle.filecheck_messages.specs.Spot.{spot_at}
 use Rattle.filecheck_tool.specs.declared.check_file.CheckFile.{CheckFile}
 use Rattle.filecheck_messages.specs.declared.refusal.Refusal.{Refusal}
 use Rattle.filecheck_messages.specs.declared.refusal.Refusal.TheVariants.{NotFound, TooLarge, BadLine, NoChecks, UnusedPrefix}
+use Rattle.filecheck_messages.specs.declared.refusal.StepFail.{StepFail}
 use Rattle.filecheck_messages.specs.declared.refusal.Stop.{Stop}
 use Rattle.filecheck_messages.specs.declared.refusal.Stop.TheVariants.{Refused, NotReadable}
 use Rattle.filecheck_messages.specs.declared.spot.Spot.{Spot}
@@ -36,6 +37,9 @@ refusal_of prefixes (Line fault) name spot = BadLine fault spot
 refusal_of prefixes HasNoChecks name spot = NoChecks name
 refusal_of prefixes (IsUnused index) name spot = UnusedPrefix (slice_index_or prefixes index [])
 
+abbrev pub refusal_at : List (List ℕ) → List ℕ → List ℕ → CheckFault → Refusal
+refusal_at prefixes name text fault = refusal_of prefixes fault.kind name (spot_at name text fault.at)
+
 -- the check file of these directives
 abbrev pub with_directives : Start → List ℕ → List Directive → CheckFile
 with_directives start text directives =
@@ -43,8 +47,7 @@ with_directives start text directives =
 
 abbrev pub check_file_of : Start → List ℕ → Result (List Directive) CheckFault → Result CheckFile Refusal
 check_file_of start text (Ok directives) = Ok (with_directives start text directives)
-check_file_of start text (Err fault) =
-    Err (refusal_of start.asked.prefixes.checks fault.kind start.asked.name (spot_at start.asked.name text fault.at))
+check_file_of start text (Err fault) = Err (refusal_at start.asked.prefixes.checks start.asked.name text fault)
 
 -- the check file of a canonical text; with --strict-whitespace and --match-full-lines the blanks at both ends of a body
 -- count
@@ -54,6 +57,10 @@ check_file_in start text =
     check_file_of start text
     (read_checks asked.prefixes.checks asked.prefixes.comments asked.allow_unused (asked.strict && asked.full_lines)
     asked.may_lack text)
+
+-- its directives, or what refuses it
+abbrev pub GivesFile : Start → List ℕ → Result (List Directive) StepFail → Type 0
+GivesFile start text result = Gives (with_directives start text) result (accepted (check_file_in start text))
 
 -- the check file that reading gave
 abbrev pub check_file_read : Start → Reading → Result CheckFile Stop

@@ -1,7 +1,7 @@
 -- The check file with its patterns, as a program or a refusal.
 -- After LLVM Command Guide, FileCheck: --ignore-case, --match-full-lines and -D. Own rule: the first body that is refused
 -- is told, and behind the bodies the first value of -D that defines nothing.
-use Rattle.std.specs.Prelude.{◌≡◌, ℕ, Bool, if◌then◌else◌, List, ◌++◌, length, All, Result, Ok, Err}
+use Rattle.std.specs.Prelude.{◌≡◌, ℕ, Bool, if◌then◌else◌, List, ◌++◌, length, All, IfOk, Result, Ok, Err}
 use Rattle.check_group.specs.Changes.{IsReady}
 use Rattle.check_group.specs.Lies.{numbers_of}
 use Rattle.check_group.specs.declared.directive.Check.{Check}
@@ -17,7 +17,7 @@ use Rattle.pattern_parse.specs.declared.pattern.Frame.{Frame}
 use Rattle.pattern_parse.specs.declared.pattern.Frame.TheVariants.{Open, Spaced, Tight}
 use Rattle.pattern_vars.specs.declared.binding.Binding.{Binding}
 use Rattle.filecheck_tool.specs.CheckFile.{HasBodies, IsNumber, body_spot, check_file_read, start_behind}
-use Rattle.filecheck_messages.specs.Refusal.{LeadsTo, accepted}
+use Rattle.filecheck_messages.specs.Refusal.{Ends, LeadsTo, accepted}
 use Rattle.filecheck_messages.specs.Spot.{behind}
 use Rattle.filecheck_tool.specs.Start.{IsStart}
 use Rattle.filecheck_tool.specs.declared.check_file.CheckFile.{CheckFile}
@@ -104,6 +104,10 @@ joined file (Ok parts) =
     Ok (record { file = file; checks = parts.checks; always = parts.always; vars = parts.vars })
 joined file (Err fail) = Err fail
 
+-- whatever the check file is, this is joined to what is defined with these patterns
+abbrev pub Joins : Patterns → Result (List Binding) Refusal → Result Parts StepFail → Type 0
+Joins patterns fresh parts = (file : CheckFile) → Ends (joined file parts) (IsDefinedWith file patterns fresh)
+
 -- what is still to be read has a name, and the bodies lie in the text
 pub record IsSoundFile (file : CheckFile) : Type 0 where
   pub start : IsStart (start_behind file)
@@ -118,6 +122,10 @@ pub record HasReady (file : CheckFile) (parts : Parts) : Type 0 where
   pub ready : All (IsReady parts.vars) parts.checks
   pub always_ready : All (IsReady parts.vars) parts.always
   pub numbers : AreOf file (parts.checks ++ parts.always)
+
+-- and so of what patterns came to, if they are of the check file
+abbrev pub MakesReady : {E : Type 0} → Patterns → Result Parts E → Type 0
+MakesReady patterns parts = (file : CheckFile) → AreOf file (patterns.checks ++ patterns.always) → IfOk parts (HasReady file)
 
 -- and so of a program
 pub record IsSound (program : Program) : Type 0 where

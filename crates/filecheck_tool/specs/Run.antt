@@ -1,14 +1,17 @@
 -- What a run of filecheck does to the objects that it is given.
 -- Own rule: the check file is read where the words are accepted, and the input where the check file was accepted; with
 -- --generate both are made, and nothing is read; with --make-checks no check file is.
-use Rattle.std.specs.Prelude.{◌≡◌, ℕ, ◌^◌, List, codes, Option, Some, None, Result, Ok, Err}
+use Rattle.std.specs.Prelude.{◌≡◌, ℕ, ◌^◌, List, String, codes, Option, Some, None, Result, Ok, Err}
+use Rattle.std.specs.declared.alloc.Global.{Global}
+use Rattle.opt_words.specs.Step.{texts}
 use Rattle.filecheck_words.specs.Job.{asked_by}
 use Rattle.filecheck_words.specs.declared.checking.Input.{Input}
 use Rattle.filecheck_words.specs.declared.checking.Input.TheVariants.{Standard, Named}
 use Rattle.filecheck_words.specs.declared.fault.WordsFault.{WordsFault}
 use Rattle.filecheck_words.specs.declared.job.Job.{Job}
 use Rattle.tt_outside.specs.declared.files.Files.{Ghosts as OfFiles}
-use Rattle.tt_run.specs.Run.{Answers, Files, FileRead, FilesRest, IsKept, Source, SourceRead, SourceRests, Stream, files_of}
+use Rattle.tt_outside.specs.declared.source.Source.{Ghosts as OfSource}
+use Rattle.tt_run.specs.Run.{Answers, Files, FileRead, FilesRest, IsKept, Source, SourceRead, SourceRests, Stream, files_of, source_of}
 use Rattle.tt_run.specs.declared.answer.Answer.{Answer}
 use Rattle.tt_run.specs.declared.reading.Reading.{Reading}
 use Rattle.filecheck_tool.specs.Answer.{IsAnswerBy, IsPlanOf, checks_asked, found_in, input_asked}
@@ -21,6 +24,10 @@ use Rattle.filecheck_messages.specs.declared.report.Report.{Report}
 -- nobody touched the files and the input
 abbrev pub AreUnread : {F I : Type 0} → F → F → I → I → Type 0
 AreUnread files later input rest = (later ≡ files) × (rest ≡ input)
+
+-- what words ask for, or the first fault
+abbrev pub job_of : List (String Global) → Result Job WordsFault
+job_of words = asked_by (texts words)
 
 -- ---- what is read
 
@@ -77,6 +84,19 @@ abbrev pub OutcomeFrom : Files → Source → ℕ → Result Plan Stop → Resul
 OutcomeFrom files input limit (Ok plan) outcome =
     (read : Reading) × InputAsked files input limit (input_asked plan) read × (outcome ≡ found_in plan read)
 OutcomeFrom files input limit (Err stop) outcome = FilesRest files × SourceRests input × (outcome ≡ Err stop)
+
+-- the same of files and an input as they were and are
+abbrev pub ReadsChecks : {F : Type 0} → OfFiles F → F → F → Job → Reading → Type 0
+ReadsChecks of old new job = FileAsked (files_of of old new) (2 ^ 24) (checks_asked job)
+
+abbrev pub PlanOf : {F : Type 0} → OfFiles F → F → F → Result Job WordsFault → Result Plan Stop → Type 0
+PlanOf of old new job = PlanFrom (files_of of old new) (2 ^ 24) job
+
+abbrev pub Reads : {F I : Type 0} → OfFiles F → F → F → OfSource I → I → I → Plan → Reading → Type 0
+Reads of old new source before now plan = InputAsked (files_of of old new) (source_of source before now) (2 ^ 26) (input_asked plan)
+
+abbrev pub Reports : {F I : Type 0} → OfFiles F → F → F → OfSource I → I → I → Result Plan Stop → Result Report Stop → Type 0
+Reports of old new source before now plan = OutcomeFrom (files_of of old new) (source_of source before now) (2 ^ 26) plan
 
 -- from words to what is told
 abbrev pub OutcomeOf : {F : Type 0} → OfFiles F → F → F → Source → Result Job WordsFault → Result Report Stop → Type 0

@@ -1,12 +1,16 @@
 -- The input, and what is told of it.
 -- After LLVM Command Guide, FileCheck: --input-file, and an empty input is refused without --allow-empty. Own rule: of
 -- checks and an input that were made, counts are told.
-use Rattle.std.specs.Prelude.{ℕ, Bool, if◌then◌else◌, List, [], ◌∷◌, codes, length, map, Option, Some, None, Result, Ok, Err}
+use Rattle.std.specs.Prelude.{ℕ, Bool, if◌then◌else◌, List, [], ◌∷◌, ◌++◌, codes, length, map, Contains, Option, Some, None, Result, Ok, Err}
+use Rattle.check_group.specs.Changes.{Variables}
+use Rattle.check_group.specs.Lies.{FaultLies, numbers_of}
+use Rattle.check_group.specs.declared.directive.Check.{Check}
 use Rattle.check_group.specs.declared.fault.Fault.{Fault}
 use Rattle.check_group.specs.declared.fault.FaultKind.{FaultKind}
 use Rattle.check_group.specs.declared.fault.FaultKind.TheVariants as fault
 use Rattle.check_lines.specs.Canonical.{canon}
 use Rattle.check_scan.specs.Verdict.{scan}
+use Rattle.check_scan.specs.declared.subject.Subject.{Subject}
 use Rattle.filecheck_words.specs.declared.checking.Input.{Input}
 use Rattle.filecheck_words.specs.declared.checking.Input.TheVariants.{Standard, Named}
 use Rattle.check_lines.specs.Kind.{row_of}
@@ -28,6 +32,17 @@ use Rattle.filecheck_messages.specs.declared.report.Made.{Made as Counts}
 use Rattle.filecheck_messages.specs.declared.report.Report.{Report}
 use Rattle.filecheck_messages.specs.declared.report.Report.TheVariants.{Found, Made}
 use Rattle.tt_run.specs.declared.reading.Reading.{Reading}
+
+-- ---- what a scan finds
+
+abbrev pub faults_of : List Check → Subject → Bool → Variables → List Fault
+faults_of checks subject scope vars = (scan checks subject.always.now scope subject.text.now vars).faults
+
+-- a fault is of one of the directives, and lies in the text
+abbrev pub LiesIn : List Check → Subject → Fault → Type 0
+LiesIn checks subject = FaultLies (Contains (numbers_of (checks ++ subject.always.now))) (length subject.text.now)
+
+-- ---- the input
 
 -- how the input is named
 abbrev pub input_name : Input → List ℕ

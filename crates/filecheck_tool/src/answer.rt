@@ -122,14 +122,24 @@ fn input_given(alloc: Global, file: &CheckFile, read: Reading) -> Result<Reading
 }
 
 /// The answer to what is told.
-pub(crate) fn answered(alloc: Global, outcome: Result<Report, Stop>) -> Result<Answer, NoMemory>
+fn answered(alloc: Global, outcome: Result<Report, Stop>) -> Result<Answer, NoMemory>
     ensures value { IfOk result (λ answer. answer ≡ answer_to outcome) }
     ensures small { IfOk result (λ answer. answer.status ≤ 3) }
 {
-    let told = answer_to(alloc, &outcome);
+    let told = joined(alloc, &outcome);
     // A call, since a drop in place is proved variant by variant.
     drop(outcome);
     told
+}
+
+/// The same; what is told stays.
+fn joined(alloc: Global, outcome: &Result<Report, Stop>) -> Result<Answer, NoMemory>
+    ensures value { IfOk result (λ answer. answer ≡ answer_to outcome.now) }
+    ensures small { IfOk result (λ answer. answer.status ≤ 3) }
+{
+    let telling = answer_to(alloc, outcome)?;
+    let answer = telling.joined(alloc)?;
+    Ok(answer)
 }
 
 /// The files that the answer to words is read from. There is none of it where the words are refused.

@@ -1,7 +1,7 @@
 //! A check file: its text and its directives.
 ghost use Rattle.std.specs.Prelude.{◌≡◌, ◌≤◌, ◌-◌, ◌^◌, [], All, Contains, IfOk, IfSome, None, Some, length, slice_get, slice_index_or};
 ghost use Rattle.check_lines.specs.Checks.{IsPlaced};
-ghost use Rattle.filecheck_tool.specs.CheckFile.{HasBodies, IsNumber, body_spot, check_file_in, check_file_read, implicit_spot, kind_of, name_by, name_of, refusal_of, start_behind, whole, with_directives};
+ghost use Rattle.filecheck_tool.specs.CheckFile.{GivesFile, HasBodies, IsNumber, body_spot, check_file_in, check_file_read, implicit_spot, kind_of, name_by, name_of, refusal_at, start_behind, whole};
 ghost use Rattle.filecheck_messages.specs.Refusal.{Gives, accepted};
 ghost use Rattle.filecheck_messages.specs.Spot.{spot_at};
 ghost use Rattle.tt_run.specs.Run.{IsShort};
@@ -10,7 +10,7 @@ use crate::start::Start;
 use check_lines::{
     CheckFail, CheckFault, CheckKind, Directive, FileRules, Kind, canon_owned, read_checks, row_of,
 };
-use filecheck_messages::{Refusal, Spot, StepFail, Stop, as_col, refuse, spot_at, spot_of};
+use filecheck_messages::{Part, Refusal, Spot, StepFail, Stop, as_col, refuse, spot_at, spot_of};
 use filecheck_words::Asked;
 use std::alloc::Global;
 use std::mem::drop;
@@ -89,7 +89,7 @@ fn check_file_in(alloc: Global, start: Start, text: Bytes) -> Result<CheckFile, 
 /// The directives of a canonical text.
 fn directives_of(alloc: Global, start: &Start, text: &[u8]) -> Result<Items<Directive>, StepFail>
     requires { length text.now ≤ 2 ^ 30 }
-    ensures value { Gives (with_directives start.now text.now) result (accepted (check_file_in start.now text.now)) }
+    ensures value { GivesFile start.now text.now result }
     ensures placed { IfOk result (All (IsPlaced text.now (length start.now.asked.prefixes.checks))) }
 {
     let asked = &start.asked;
@@ -123,8 +123,7 @@ fn refusal_of(
 ) -> Result<Refusal, NoMemory>
     requires within { fault.at ≤ length text.now }
     requires small { length text.now ≤ 2 ^ 30 }
-    ensures { IfOk result (λ refusal. refusal
-        ≡ refusal_of prefixes.now fault.kind name.now (spot_at name.now text.now fault.at)) }
+    ensures { IfOk result (λ refusal. refusal ≡ refusal_at prefixes.now name.now text.now fault) }
 {
     let spot = spot_at(alloc, name, text, fault.at)?;
     match fault.kind {
@@ -200,7 +199,7 @@ fn implicit_spot(alloc: Global, body: &[u8], index: usize) -> Result<Spot, NoMem
             line: as_col(index).saturating_add(1),
             col: 1,
         },
-        line: Bytes::from_slice(alloc, body)?,
+        line: Part::copied(alloc, body)?,
     })
 }
 

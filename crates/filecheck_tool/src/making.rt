@@ -41,7 +41,7 @@ fn made_of(alloc: Global, making: &Making, old: &[u8], read: Reading) -> Result<
     let name = input_name(&making.input);
     let bytes = whole(alloc, name, read)?;
     let output = filled(alloc, making.allow_empty, name, bytes)?;
-    made_behind(alloc, making, old, output.as_slice())
+    made_behind(alloc, making, old, output)
 }
 
 /// The check file that an input makes, behind what is kept of an old one.
@@ -49,14 +49,14 @@ fn made_behind(
     alloc: Global,
     making: &Making,
     old: &[u8],
-    output: &[u8],
+    output: Bytes,
 ) -> Result<Report, StepFail>
     requires old_short { length old.now ≤ 2 ^ 30 }
-    requires short { length output.now ≤ 2 ^ 30 }
-    ensures { Gives (λ report. report) result (made_behind making.now old.now output.now) }
+    requires short { length output ≤ 2 ^ 30 }
+    ensures { Gives (λ report. report) result (made_behind making.now old.now output) }
 {
     match refresh(alloc, old, output, making.lead.as_slice()) {
-        Ok(text) => Ok(Report::Checks(text)),
+        Ok(file) => Ok(Report::Checks(file)),
         Err(MakeFail::Bad(fault)) => refuse(Refusal::BadMake(fault)),
         Err(MakeFail::NoMemory) => Err(StepFail::NoMemory),
     }

@@ -1,8 +1,8 @@
 //! The check file with its patterns.
-ghost use Rattle.std.specs.Prelude.{◌≡◌, ◌^◌, ◌++◌, IfOk};
+ghost use Rattle.std.specs.Prelude.{◌≡◌, ◌^◌, IfOk};
 ghost use Rattle.check_program.specs.Ready.{IsScannable};
 ghost use Rattle.filecheck_tool.specs.CheckFile.{HasBodies, IsNumber};
-ghost use Rattle.filecheck_tool.specs.Program.{AreOf, ArePatterns, HasReady, IsCompiledTo, IsCompiledWith, IsDefinedWith, IsProgram, IsSound, IsSoundFile, bad_body, frame_by, fresh_of, joined, started};
+ghost use Rattle.filecheck_tool.specs.Program.{ArePatterns, HasReady, IsCompiledTo, IsCompiledWith, IsProgram, IsSound, IsSoundFile, Joins, MakesReady, bad_body, frame_by, fresh_of, joined, started};
 ghost use Rattle.filecheck_messages.specs.Refusal.{Ends};
 ghost use Rattle.filecheck_tool.specs.Start.{IsStart};
 ghost use Rattle.tt_run.specs.Run.{IsShort};
@@ -101,8 +101,8 @@ fn begun(
     fresh: Result<Bindings, Bytes>,
 ) -> Result<Parts, StepFail>
     requires { IsScannable patterns }
-    ensures value { (file : CheckFile) → Ends (joined file result) (IsDefinedWith file patterns (fresh_of fresh)) }
-    ensures ready { (file : CheckFile) → AreOf file (patterns.checks ++ patterns.always) → IfOk result (HasReady file) }
+    ensures value { Joins patterns (fresh_of fresh) result }
+    ensures ready { MakesReady patterns result }
 {
     match fresh {
         Ok(fresh) => Ok(started(alloc, patterns, fresh)?),
@@ -114,7 +114,7 @@ fn begun(
 fn started(alloc: Global, patterns: Patterns, fresh: Bindings) -> Result<Parts, NoMemory>
     requires { IsScannable patterns }
     ensures value { IfOk result (λ parts. parts ≡ started patterns fresh) }
-    ensures ready { (file : CheckFile) → AreOf file (patterns.checks ++ patterns.always) → IfOk result (HasReady file) }
+    ensures ready { MakesReady patterns result }
 {
     let Patterns {
         checks,

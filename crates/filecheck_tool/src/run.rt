@@ -1,25 +1,27 @@
 //! The top call.
 ghost use Rattle.std.specs.Prelude.{◌≡◌, ◌⊎◌, ◌≤◌, ◌<◌, ◌≢◌, ◌+◌, ◌^◌, true, IfOk, IsErr, List, Result, Some, codes};
 ghost use Rattle.tt_outside.specs.Transfer.{TakesAtMost};
-ghost use Rattle.tt_run.specs.Run.{Failed, IsKept, LacksMemory, files_of, source_of, stream_of};
+ghost use Rattle.filecheck_messages.specs.Answer.{answer_to};
+ghost use Rattle.tt_run.specs.Frame.{cannot_write};
+ghost use Rattle.tt_run.specs.Run.{Failed, IsKept, LacksMemory, Written, files_of, source_of, stream_of};
 ghost use Rattle.std.specs.Str.{is_utf8};
 ghost use Rattle.opt_words.specs.Step.{texts};
 ghost use Rattle.tt_run.specs.Run.{FileRead, IsShort};
-ghost use Rattle.filecheck_tool.specs.Answer.{IsSoundPlan, checks_asked, input_asked};
-ghost use Rattle.filecheck_tool.specs.Run.{AnswerOf, AreUnread, Checks, FileAsked, InputAsked, OutcomeFrom, OutcomeOf, PlanFrom};
+ghost use Rattle.filecheck_tool.specs.Answer.{IsSoundPlan};
+ghost use Rattle.filecheck_tool.specs.Run.{AreUnread, Checks, InputAsked, OutcomeOf, PlanOf, Reads, ReadsChecks, Reports, job_of};
 ghost use Rattle.filecheck_words.specs.Checking.{IsNamed};
-ghost use Rattle.filecheck_words.specs.Job.{IsSound as IsSoundJob, asked_by};
+ghost use Rattle.filecheck_words.specs.Job.{IsSound as IsSoundJob};
 
-use crate::answer::{answered, found_in};
+use crate::answer::found_in;
 use crate::plan::{Plan, plan_of};
-use filecheck_messages::{Refusal, Report, Stop};
+use filecheck_messages::{Refusal, Report, Stop, answer_to};
 use filecheck_words::{Input, Job, WordsFail, asked_by};
 use std::alloc::Global;
 use std::mem::drop;
 use std::str::from_utf8;
 use tt_base::NoMemory;
 use tt_outside::{Files, Sink, Source};
-use tt_run::{Answer, Frame, Reading, read_named, read_source};
+use tt_run::{Frame, Reading, read_named, read_source};
 
 /// The name of FileCheck.
 pub const FILECHECK: Frame = Frame { name: b"filecheck" };
@@ -47,38 +49,37 @@ pub fn filecheck_run<F: Files, I: Source, O: Sink, E: Sink>(
         ⊎ Failed O.faults out.old out.new ⊎ Failed E.faults err.old err.new }
     ensures calm { F.steady from.old → I.steady input.old → result ≡ 3 →
         Failed O.faults out.old out.new ⊎ Failed E.faults err.old err.new }
-    ensures unread { IsErr (asked_by (texts words.now)) → AreUnread from.old from.new input.old input.new }
+    ensures unread { IsErr (job_of words.now) → AreUnread from.old from.new input.old input.new }
     ensures memory { LacksMemory (codes "filecheck") result (stream_of O.Sink out.old out.new) (stream_of E.Sink err.old err.new) }
     ensures taken { TakesAtMost (I.left input.old) (I.left input.new) (2 ^ 26 + 1) }
     ensures files_stay { IsKept F.Files from.old from.new }
     ensures no_other { result ≤ 4 }
 {
-    let Ok(answer) = answer_from(alloc, words, from, input) else {
+    let Ok(outcome) = outcome_of(alloc, words, from, input) else {
         return FILECHECK.out_of_memory(err);
     };
-    answer.write(FILECHECK, out, err)
+    let status = tell(alloc, &outcome, out, err);
+    // A call, since a drop in place is proved variant by variant.
+    drop(outcome);
+    status
 }
 
-/// What is told of words, check file and input.
-fn answer_from<F: Files, I: Source>(
+/// Writes what is told, and answers the status, 4 where it wasn't written for want of memory. All memory is taken before.
+fn tell<O: Sink, E: Sink>(
     alloc: Global,
-    words: &[String],
-    from: &mut F,
-    input: &mut I,
-) -> Result<Answer, NoMemory>
-    ensures answer { IfOk result (AnswerOf F.Files from.old from.new
-        (source_of I.Source input.old input.new) (asked_by (texts words.now))) }
-    ensures fault { IfOk result (λ answer. answer.status ≡ 3 →
-        Failed F.faults from.old from.new ⊎ Failed I.faults input.old input.new) }
-    ensures calm { IfOk result (λ answer. F.steady from.old → I.steady input.old → answer.status ≢ 3) }
-    ensures unread { IsErr (asked_by (texts words.now)) → AreUnread from.old from.new input.old input.new }
-    ensures small { IfOk result (λ answer. answer.status ≤ 3) }
-    ensures taken { TakesAtMost (I.left input.old) (I.left input.new) (2 ^ 26 + 1) }
-    ensures files_stay { IsKept F.Files from.old from.new }
+    outcome: &Result<Report, Stop>,
+    out: &mut O,
+    err: &mut E,
+) -> u8
+    ensures written { result ≢ 4 → Written (cannot_write (codes "filecheck")) (answer_to outcome.now) result
+        (stream_of O.Sink out.old out.new) (stream_of E.Sink err.old err.new) }
+    ensures memory { LacksMemory (codes "filecheck") result (stream_of O.Sink out.old out.new) (stream_of E.Sink err.old err.new) }
+    ensures no_other { result ≤ 4 }
 {
-    let outcome = outcome_of(alloc, words, from, input)?;
-    let answer = answered(alloc, outcome)?;
-    Ok(answer)
+    match answer_to(alloc, outcome) {
+        Ok(telling) => telling.write(FILECHECK, out, err),
+        Err(NoMemory) => FILECHECK.out_of_memory(err),
+    }
 }
 
 /// What is found amiss in words, check file or input.
@@ -89,8 +90,8 @@ fn outcome_of<F: Files, I: Source>(
     input: &mut I,
 ) -> Result<Result<Report, Stop>, NoMemory>
     ensures value { IfOk result (OutcomeOf F.Files from.old from.new
-        (source_of I.Source input.old input.new) (asked_by (texts words.now))) }
-    ensures unread { IsErr (asked_by (texts words.now)) → AreUnread from.old from.new input.old input.new }
+        (source_of I.Source input.old input.new) (job_of words.now)) }
+    ensures unread { IsErr (job_of words.now) → AreUnread from.old from.new input.old input.new }
     ensures taken { TakesAtMost (I.left input.old) (I.left input.new) (2 ^ 26 + 1) }
     ensures files_stay { IsKept F.Files from.old from.new }
 {
@@ -105,10 +106,9 @@ fn plan_from<F: Files>(
     words: &[String],
     from: &mut F,
 ) -> Result<Result<Plan, Stop>, NoMemory>
-    ensures value { IfOk result (PlanFrom (files_of F.Files from.old from.new) (2 ^ 24)
-        (asked_by (texts words.now))) }
+    ensures value { IfOk result (PlanOf F.Files from.old from.new (job_of words.now)) }
     ensures sound { IfOk result (λ plan. IfOk plan IsSoundPlan) }
-    ensures unread { IsErr (asked_by (texts words.now)) → from.new ≡ from.old }
+    ensures unread { IsErr (job_of words.now) → from.new ≡ from.old }
     ensures files_stay { IsKept F.Files from.old from.new }
 {
     let job = match asked_by(alloc, words) {
@@ -122,7 +122,7 @@ fn plan_from<F: Files>(
 /// What a job asks to be done with the input.
 fn plan_by<F: Files>(alloc: Global, job: Job, from: &mut F) -> Result<Result<Plan, Stop>, NoMemory>
     requires { IsSoundJob job }
-    ensures value { IfOk result (PlanFrom (files_of F.Files from.old from.new) (2 ^ 24) (Ok job)) }
+    ensures value { IfOk result (PlanOf F.Files from.old from.new (Ok job)) }
     ensures sound { IfOk result (λ plan. IfOk plan IsSoundPlan) }
     ensures files_stay { IsKept F.Files from.old from.new }
 {
@@ -141,8 +141,7 @@ fn outcome_from<F: Files, I: Source>(
     input: &mut I,
 ) -> Result<Result<Report, Stop>, NoMemory>
     requires { IfOk plan IsSoundPlan }
-    ensures value { IfOk result (OutcomeFrom (files_of F.Files from.old from.new)
-        (source_of I.Source input.old input.new) (2 ^ 26) plan) }
+    ensures value { IfOk result (Reports F.Files from.old from.new I.Source input.old input.new plan) }
     ensures unread { IsErr plan → AreUnread from.old from.new input.old input.new }
     ensures taken { TakesAtMost (I.left input.old) (I.left input.new) (2 ^ 26 + 1) }
     ensures files_stay { IsKept F.Files from.old from.new }
@@ -162,7 +161,7 @@ fn outcome_from<F: Files, I: Source>(
 /// What reading the check file gave. One that isn't asked for counts as missing.
 fn read_checks<F: Files>(alloc: Global, job: &Job, from: &mut F) -> Result<Reading, NoMemory>
     requires { IsSoundJob job.now }
-    ensures read { IfOk result (FileAsked (files_of F.Files from.old from.new) (2 ^ 24) (checks_asked job.now)) }
+    ensures read { IfOk result (ReadsChecks F.Files from.old from.new job.now) }
     ensures short { IfOk result (IsShort (2 ^ 24)) }
     ensures files_stay { IsKept F.Files from.old from.new }
 {
@@ -184,8 +183,7 @@ fn read_input<F: Files, I: Source>(
     input: &mut I,
 ) -> Result<Reading, NoMemory>
     requires { IsSoundPlan plan.now }
-    ensures read { IfOk result (InputAsked (files_of F.Files from.old from.new)
-        (source_of I.Source input.old input.new) (2 ^ 26) (input_asked plan.now)) }
+    ensures read { IfOk result (Reads F.Files from.old from.new I.Source input.old input.new plan.now) }
     ensures short { IfOk result (IsShort (2 ^ 26)) }
     ensures taken { TakesAtMost (I.left input.old) (I.left input.new) (2 ^ 26 + 1) }
     ensures files_stay { IsKept F.Files from.old from.new }

@@ -1,13 +1,12 @@
 //! Whether the input has what the check file asks for.
-ghost use Rattle.std.specs.Prelude.{◌≡◌, ◌≤◌, ◌<◌, ◌^◌, ◌∷◌, ◌++◌, [], All, Contains, IfOk, IfSome, None, OnOk, length};
+ghost use Rattle.std.specs.Prelude.{◌≡◌, ◌≤◌, ◌<◌, ◌^◌, ◌∷◌, ◌++◌, [], All, IfOk, IfSome, None, OnOk, length};
 ghost use Rattle.check_group.specs.Changes.{IsReady};
-ghost use Rattle.check_group.specs.Lies.{FaultLies, OffsetsLie, numbers_of};
-ghost use Rattle.check_scan.specs.Verdict.{scan};
+ghost use Rattle.check_group.specs.Lies.{FaultLies, OffsetsLie};
 ghost use Rattle.filecheck_tool.specs.CheckFile.{HasBodies, IsNumber};
 ghost use Rattle.filecheck_tool.specs.Dump.{dump_with};
 ghost use Rattle.filecheck_tool.specs.Program.{IsSound};
 ghost use Rattle.filecheck_messages.specs.Refusal.{Gives, accepted};
-ghost use Rattle.filecheck_tool.specs.Verdict.{both_notes, filled, finding_of, findings_of, input_name, made_of, note_at, notes_of, one_note, report_of, told_times, verdict, verdict_read};
+ghost use Rattle.filecheck_tool.specs.Verdict.{LiesIn, both_notes, faults_of, filled, finding_of, findings_of, input_name, made_of, note_at, notes_of, one_note, report_of, told_times, verdict, verdict_read};
 ghost use Rattle.tt_run.specs.Run.{IsShort};
 
 use crate::check_file::{CheckFile, whole};
@@ -18,7 +17,7 @@ use check_lines::{Kind, canon_owned, row_of};
 use check_scan::{Subject, scan};
 use ere_auto::Steps;
 use filecheck_messages::{
-    Dumped, Finding, Made, Note, Refusal, Remark, Report, StepFail, refuse, spot_at,
+    Dumped, Finding, Made, Note, Refusal, Remark, Report, StepFail, refuse, spot_in,
 };
 use filecheck_words::{Dump, Input};
 use input_dump::Mark;
@@ -28,6 +27,7 @@ use std::marker::Brand;
 use std::mem::drop;
 use std::sync::ledger::{Blank, Ledger};
 use tt_base::{Bytes, Items, NoMemory};
+use tt_outside::SharedBytes;
 use tt_run::Reading;
 
 /// How the input is named.
@@ -143,13 +143,14 @@ fn found_of(
     ensures { IfOk result (λ report. report ≡ report_of None file.now 0 input faults) }
 {
     let due = marks_due(alloc, file, faults.as_slice())?;
-    let findings = findings_of(alloc, file, input.as_slice(), faults)?;
+    let input = SharedBytes::new(alloc, input)?;
+    let findings = findings_of(alloc, file, &input, faults)?;
     let dumped = dump_with(file.asked.dump, input, due);
     Ok(Report::Found(findings, dumped))
 }
 
 /// The annotated input with these marks, if there is one.
-fn dump_with(asked: Dump, input: Bytes, due: Option<Items<Mark>>) -> Option<Dumped>
+fn dump_with(asked: Dump, input: SharedBytes, due: Option<Items<Mark>>) -> Option<Dumped>
     requires short { length input ≤ 2 ^ 30 }
     requires within { IfSome due (All (λ mark. mark.at ≤ length input)) }
     ensures { result ≡ dump_with asked input due }
@@ -169,10 +170,8 @@ fn faults_in(
 ) -> Result<Items<Fault>, NoMemory>
     requires ready { All (IsReady vars.old) checks.now }
     requires always_ready { All (IsReady vars.old) subject.now.always.now }
-    ensures value { IfOk result (λ faults. faults
-        ≡ (scan checks.now subject.now.always.now scope subject.now.text.now vars.old).faults) }
-    ensures lie { IfOk result
-        (All (FaultLies (Contains (numbers_of (checks.now ++ subject.now.always.now))) (length subject.now.text.now))) }
+    ensures value { IfOk result (λ faults. faults ≡ faults_of checks.now subject.now scope vars.old) }
+    ensures lie { IfOk result (All (LiesIn checks.now subject.now)) }
 {
     faults_by::<Brand>(subject, checks, scope, vars, Blank::new(1))
 }
@@ -189,10 +188,8 @@ fn faults_by<L: Ledger>(
     requires some_part { 0 < blank.parts }
     requires ready { All (IsReady vars.old) checks.now }
     requires always_ready { All (IsReady vars.old) subject.now.always.now }
-    ensures value { IfOk result (λ faults. faults
-        ≡ (scan checks.now subject.now.always.now scope subject.now.text.now vars.old).faults) }
-    ensures lie { IfOk result
-        (All (FaultLies (Contains (numbers_of (checks.now ++ subject.now.always.now))) (length subject.now.text.now))) }
+    ensures value { IfOk result (λ faults. faults ≡ faults_of checks.now subject.now scope vars.old) }
+    ensures lie { IfOk result (All (LiesIn checks.now subject.now)) }
 {
     let mut steps = Steps::<L>::new(blank);
     let verdict = scan(subject, checks, scope, vars, &mut steps)?;
@@ -214,7 +211,7 @@ fn made_of(checks: u64, bytes: u64, faults: &[Fault]) -> Made
 fn findings_of(
     alloc: Global,
     file: &CheckFile,
-    input: &[u8],
+    input: &SharedBytes,
     faults: Items<Fault>,
 ) -> Result<Items<Finding>, NoMemory>
     requires bodies { HasBodies file.now }
@@ -232,7 +229,7 @@ fn findings_of(
 fn finding_of(
     alloc: Global,
     file: &CheckFile,
-    input: &[u8],
+    input: &SharedBytes,
     fault: Fault,
 ) -> Result<Finding, NoMemory>
     requires bodies { HasBodies file.now }
@@ -265,7 +262,7 @@ fn told_times(kind: Kind) -> Option<u32>
 fn notes_of(
     alloc: Global,
     name: &[u8],
-    input: &[u8],
+    input: &SharedBytes,
     kind: &FaultKind,
 ) -> Result<Items<Note>, NoMemory>
     requires short { length input.now ≤ 2 ^ 30 }
@@ -290,7 +287,7 @@ fn one_note(
     alloc: Global,
     remark: Remark,
     name: &[u8],
-    input: &[u8],
+    input: &SharedBytes,
     at: usize,
 ) -> Result<Items<Note>, NoMemory>
     requires short { length input.now ≤ 2 ^ 30 }
@@ -305,7 +302,7 @@ fn one_note(
 fn both_notes(
     alloc: Global,
     name: &[u8],
-    input: &[u8],
+    input: &SharedBytes,
     found: usize,
     last: usize,
 ) -> Result<Items<Note>, NoMemory>
@@ -325,7 +322,7 @@ fn note_at(
     alloc: Global,
     remark: Remark,
     name: &[u8],
-    input: &[u8],
+    input: &SharedBytes,
     at: usize,
 ) -> Result<Note, NoMemory>
     requires within { at ≤ length input.now }
@@ -334,6 +331,6 @@ fn note_at(
 {
     Ok(Note {
         remark,
-        spot: spot_at(alloc, name, input, at)?,
+        spot: spot_in(alloc, name, input, at)?,
     })
 }

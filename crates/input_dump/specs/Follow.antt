@@ -1,11 +1,13 @@
 -- How far a dump has come, and what of it is left.
 -- Own rule: the marks of a line follow it, so those of the line before the one at hand come first; then the lines from there on.
-use Rattle.std.specs.Prelude.{◌≡◌, ◌⊎◌, ◌≤◌, ◌<◌, ◌^◌, ℕ, true, ◌+◌, ◌-◌, ◌==◌, nat_le, if◌then◌else◌, IsTrue, All, List, [], ◌∷◌, ◌++◌, false, length, drop, map, slice_index}
+use Rattle.std.specs.Prelude.{◌≡◌, ◌⊎◌, ◌≤◌, ◌<◌, ◌^◌, ℕ, true, ◌+◌, ◌-◌, ◌==◌, nat_le, if◌then◌else◌, IsTrue, MatchOption, Option, All, List, [], ◌∷◌, ◌++◌, false, length, drop, map, slice_index}
 use Rattle.std.specs.List.{AllByRecursion, filter, flat_map, slice_split}
 use Rattle.tt_base.specs.Place.{is_newline, place_at}
 use Rattle.input_dump.specs.Dump.{any_close, counted, full_row, is_shown, line_at, mark_line, mark_row, on_line, rows_from}
 use Rattle.input_dump.specs.Order.{AreAscending}
+use Rattle.input_dump.specs.Rows.{row_bytes}
 use Rattle.input_dump.specs.declared.marking.Mark.{Mark}
+use Rattle.input_dump.specs.declared.row.Row.{Row}
 use Rattle.input_dump.specs.declared.subject.Cursor.{Cursor}
 use Rattle.input_dump.specs.declared.subject.Subject.{Subject}
 
@@ -29,10 +31,26 @@ left subject cursor =
     ++ rows_from (is_shown subject.shown subject.lines.items) (full_row subject.width subject.text.now (marks_of subject)) subject.width
     cursor.hidden cursor.number (lines_left subject cursor.start)
 
+-- no row is left
+abbrev pub IsAtEnd : Subject → Cursor → Type 0
+IsAtEnd subject cursor = left subject cursor ≡ []
+
+-- less is left than before
+abbrev pub HasLess : Subject → Cursor → Cursor → Type 0
+HasLess subject old new = length (left subject new) < length (left subject old)
+
+-- a row is taken from the front of what is left
+abbrev pub TakesRow : Subject → Cursor → Cursor → Row → Type 0
+TakesRow subject old new row = row_bytes row ++ left subject new ≡ left subject old
+
 -- a mark of the line before is to be told
 abbrev pub HasMark : Subject → Cursor → Type 0
 HasMark subject cursor =
     (cursor.told < length subject.lines.items) × (slice_index subject.lines.items cursor.told < cursor.number)
+
+-- as much is left as before, no mark is to be told, and the line before is hidden
+abbrev pub GoesSilently : Subject → Cursor → Cursor → Type 0
+GoesSilently subject old new = (left subject new ≡ left subject old) × (¬ HasMark subject new) × (new.hidden ≡ true)
 
 -- a line is at hand
 abbrev pub HasLine : Subject → Cursor → Type 0
@@ -48,10 +66,31 @@ IsFirstInReach context number (line ∷ lines) = number ≤ line + context
 abbrev pub AreNearTheSame : ℕ → ℕ → List ℕ → List ℕ → Type 0
 AreNearTheSame context number lines others = (line : ℕ) → number ≤ line → any_close context line lines ≡ any_close context line others
 
+-- the mark behind the first so many isn't too far before a line
+abbrev pub IsReached : Subject → ℕ → ℕ → Type 0
+IsReached subject number passed = IsFirstInReach subject.shown.context number (drop passed subject.lines.items)
+
+-- from a line on it is one whether so many marks are passed or so many others
+abbrev pub ArePassedAlike : Subject → ℕ → ℕ → ℕ → Type 0
+ArePassedAlike subject number passed other =
+    AreNearTheSame subject.shown.context number (drop passed subject.lines.items) (drop other subject.lines.items)
+
+-- a line is near a mark behind the first so many where it is near one
+abbrev pub IsNearAsAll : Subject → ℕ → ℕ → Type 0
+IsNearAsAll subject number passed =
+    any_close subject.shown.context number (drop passed subject.lines.items)
+    ≡ any_close subject.shown.context number subject.lines.items
+
 -- the lines from a number on are hidden up to another one
 abbrev pub AreHidden : Subject → ℕ → ℕ → Type 0
 AreHidden subject number near =
     (line : ℕ) → number ≤ line → line < near → is_shown subject.shown subject.lines.items line ≡ false
+
+-- the lines from a number on are hidden up to another one, or all of them
+abbrev pub AreHiddenUpTo : Subject → ℕ → Option ℕ → Type 0
+AreHiddenUpTo subject number near =
+    MatchOption near ((line : ℕ) → number ≤ line → is_shown subject.shown subject.lines.items line ≡ false)
+    (λ one. AreHidden subject number one)
 
 -- a line begins at an offset
 abbrev pub BeginsLine : List ℕ → ℕ → Type 0

@@ -1,9 +1,8 @@
 //! The steps of a dump.
-ghost use Rattle.std.specs.Prelude.{◌≡◌, ◌≤◌, ◌<◌, ◌++◌, ◌↔◌, ℕ, IfSome, IsTrue, MatchOption, None, [], drop, false, length, true};
+ghost use Rattle.std.specs.Prelude.{◌≡◌, ◌≤◌, ◌<◌, ◌↔◌, IfSome, IsTrue, None, drop, false, length, true};
 ghost use Rattle.input_dump.specs.Dump.{any_close, is_shown};
-ghost use Rattle.input_dump.specs.Follow.{AreHidden, AreNearTheSame, Follows, HasLine, HasMark, IsFirstInReach, IsSubject, left};
+ghost use Rattle.input_dump.specs.Follow.{AreHidden, AreHiddenUpTo, AreNearTheSame, ArePassedAlike, Follows, GoesSilently, HasLess, HasLine, HasMark, IsAtEnd, IsFirstInReach, IsNearAsAll, IsReached, IsSubject, TakesRow, left};
 ghost use Rattle.input_dump.specs.Order.{AreAscending};
-ghost use Rattle.input_dump.specs.Rows.{row_bytes};
 
 use crate::newlines::line_end;
 use crate::row::Row;
@@ -27,8 +26,8 @@ fn passed_by(lines: &[u64], passed: usize, context: u64, number: u64) -> usize
 fn passed_on(subject: &Subject<'_>, cursor: &Cursor) -> usize
     requires { cursor.now.passed ≤ length subject.now.lines.items }
     ensures within { result ≤ length subject.now.lines.items }
-    ensures same { AreNearTheSame subject.now.shown.context cursor.now.number (drop result subject.now.lines.items) (drop cursor.now.passed subject.now.lines.items) }
-    ensures first { IsFirstInReach subject.now.shown.context cursor.now.number (drop result subject.now.lines.items) }
+    ensures same { ArePassedAlike subject.now cursor.now.number result cursor.now.passed }
+    ensures first { IsReached subject.now cursor.now.number result }
 {
     passed_by(
         subject.lines.as_slice(),
@@ -53,8 +52,8 @@ fn is_next_near(lines: &[u64], passed: usize, context: u64, number: u64) -> bool
 /// Whether a line is shown, where the marks that are passed are near none from here on.
 fn is_shown(subject: &Subject<'_>, passed: usize, number: u64) -> bool
     requires ascending { AreAscending subject.now.lines.items }
-    requires first { IsFirstInReach subject.now.shown.context number (drop passed subject.now.lines.items) }
-    requires same { any_close subject.now.shown.context number (drop passed subject.now.lines.items) ≡ any_close subject.now.shown.context number subject.now.lines.items }
+    requires first { IsReached subject.now number passed }
+    requires same { IsNearAsAll subject.now number passed }
     ensures { result ≡ is_shown subject.now.shown subject.now.lines.items number }
 {
     if subject.shown.all {
@@ -87,9 +86,9 @@ fn has_line(subject: &Subject<'_>, cursor: &Cursor) -> bool
 pub(crate) fn next_row<'a>(subject: &Subject<'a>, cursor: &mut Cursor) -> Option<Row<'a>>
     requires subject { IsSubject subject.now }
     requires follows { Follows subject.now cursor.old }
-    ensures moved { IfSome result (λ row. row_bytes row ++ left subject.now cursor.new ≡ left subject.now cursor.old) }
-    ensures end { result ≡ None → (left subject.now cursor.old ≡ []) × (left subject.now cursor.new ≡ []) }
-    ensures less { IfSome result (λ row. length (left subject.now cursor.new) < length (left subject.now cursor.old)) }
+    ensures moved { IfSome result (TakesRow subject.now cursor.old cursor.new) }
+    ensures end { result ≡ None → IsAtEnd subject.now cursor.old × IsAtEnd subject.now cursor.new }
+    ensures less { IfSome result (λ row. HasLess subject.now cursor.old cursor.new) }
     ensures follows { Follows subject.now cursor.new }
 {
     if has_mark(subject, cursor) {
@@ -109,8 +108,8 @@ fn take_mark<'a>(subject: &Subject<'a>, cursor: &mut Cursor) -> Row<'a>
     requires subject { IsSubject subject.now }
     requires follows { Follows subject.now cursor.old }
     requires some { HasMark subject.now cursor.old }
-    ensures moved { row_bytes result ++ left subject.now cursor.new ≡ left subject.now cursor.old }
-    ensures less { length (left subject.now cursor.new) < length (left subject.now cursor.old) }
+    ensures moved { TakesRow subject.now cursor.old cursor.new result }
+    ensures less { HasLess subject.now cursor.old cursor.new }
     ensures follows { Follows subject.now cursor.new }
 {
     let mark = subject.order[cursor.told];
@@ -125,10 +124,10 @@ fn take_line<'a>(subject: &Subject<'a>, cursor: &mut Cursor) -> Option<Row<'a>>
     requires follows { Follows subject.now cursor.old }
     requires no_mark { ¬ HasMark subject.now cursor.old }
     requires line { HasLine subject.now cursor.old }
-    ensures moved { IfSome result (λ row. row_bytes row ++ left subject.now cursor.new ≡ left subject.now cursor.old) }
-    ensures less { IfSome result (λ row. length (left subject.now cursor.new) < length (left subject.now cursor.old)) }
+    ensures moved { IfSome result (TakesRow subject.now cursor.old cursor.new) }
+    ensures less { IfSome result (λ row. HasLess subject.now cursor.old cursor.new) }
     ensures further { cursor.old.start < cursor.new.start }
-    ensures silent { result ≡ None → (left subject.now cursor.new ≡ left subject.now cursor.old) × (¬ HasMark subject.now cursor.new) × (cursor.new.hidden ≡ true) }
+    ensures silent { result ≡ None → GoesSilently subject.now cursor.old cursor.new }
     ensures follows { Follows subject.now cursor.new }
 {
     let start = cursor.start;
@@ -161,8 +160,7 @@ fn first_near(subject: &Subject<'_>, cursor: &Cursor) -> Option<u64>
     requires subject { IsSubject subject.now }
     requires follows { Follows subject.now cursor.now }
     requires not_all { subject.now.shown.all ≡ false }
-    ensures { MatchOption result ((n : ℕ) → cursor.now.number ≤ n → is_shown subject.now.shown subject.now.lines.items n ≡ false)
-        (λ near. AreHidden subject.now cursor.now.number near) }
+    ensures { AreHiddenUpTo subject.now cursor.now.number result }
 {
     match subject.lines.get(passed_on(subject, cursor)) {
         Some(line) => Some(line.saturating_sub(subject.shown.context)),

@@ -1,7 +1,7 @@
 //! A whole dump.
 ghost use Rattle.std.specs.Prelude.{◌≡◌, ◌≤◌, ◌^◌, ◌++◌, [], All, IfOk, codes, length};
 ghost use Rattle.input_dump.specs.Dump.{dump, framed};
-ghost use Rattle.tt_pieces.specs.Telling.{Tells, state};
+ghost use Rattle.tt_pieces.specs.Telling.{Puts};
 
 use crate::marking::Mark;
 use crate::row::put_row;
@@ -20,7 +20,7 @@ pub const TAIL: &[u8] = b">>>>>>\n";
 
 /// Tells the rows that are left, one behind the other.
 fn put_rows<S: Sink>(pen: &mut Pen, rows: &mut Rows<'_>, sink: &mut S)
-    ensures { Tells rows.old (state S.Sink pen.old sink.old) (state S.Sink pen.new sink.new) }
+    ensures { Puts S.Sink rows.old pen.old sink.old pen.new sink.new }
 {
     while let Some(row) = rows.next_row() {
         put_row(pen, &row, sink);
@@ -29,7 +29,7 @@ fn put_rows<S: Sink>(pen: &mut Pen, rows: &mut Rows<'_>, sink: &mut S)
 
 /// Tells rows in their frame.
 pub fn put_dump<S: Sink>(pen: &mut Pen, rows: &mut Rows<'_>, sink: &mut S)
-    ensures { Tells (framed rows.old) (state S.Sink pen.old sink.old) (state S.Sink pen.new sink.new) }
+    ensures { Puts S.Sink (framed rows.old) pen.old sink.old pen.new sink.new }
 {
     pen.put(HEAD, sink);
     put_rows(pen, rows, sink);

@@ -1,6 +1,6 @@
 //! The rows of a dump, and how each is told.
 ghost use Rattle.input_dump.specs.Rows.{gap_row, line_row, mark_row_at, right, row_bytes, sign_text};
-ghost use Rattle.tt_pieces.specs.Telling.{Tells, state};
+ghost use Rattle.tt_pieces.specs.Telling.{Puts};
 
 use crate::marking::Mark;
 use itoa::Buffer;
@@ -20,7 +20,7 @@ pub enum Row<'a> {
 
 /// Tells a word that ends at a column.
 fn put_right<S: Sink>(pen: &mut Pen, width: usize, word: &[u8], sink: &mut S)
-    ensures { Tells (right width word.now) (state S.Sink pen.old sink.old) (state S.Sink pen.new sink.new) }
+    ensures { Puts S.Sink (right width word.now) pen.old sink.old pen.new sink.new }
 {
     pen.put_blanks(width.saturating_sub(word.len()), sink);
     pen.put(word, sink);
@@ -28,7 +28,7 @@ fn put_right<S: Sink>(pen: &mut Pen, width: usize, word: &[u8], sink: &mut S)
 
 /// Tells the row of a line.
 fn put_line<S: Sink>(pen: &mut Pen, width: usize, number: u64, line: &[u8], sink: &mut S)
-    ensures { Tells (line_row width number line.now) (state S.Sink pen.old sink.old) (state S.Sink pen.new sink.new) }
+    ensures { Puts S.Sink (line_row width number line.now) pen.old sink.old pen.new sink.new }
 {
     let mut digits = Buffer::new();
     put_right(pen, width, digits.format(number).as_bytes(), sink);
@@ -39,7 +39,7 @@ fn put_line<S: Sink>(pen: &mut Pen, width: usize, number: u64, line: &[u8], sink
 
 /// Tells the sign of a mark and what is told of it.
 fn put_sign<S: Sink>(pen: &mut Pen, mark: &Mark, sink: &mut S)
-    ensures { Tells (sign_text mark.now) (state S.Sink pen.old sink.old) (state S.Sink pen.new sink.new) }
+    ensures { Puts S.Sink (sign_text mark.now) pen.old sink.old pen.new sink.new }
 {
     pen.put(&[mark.sign], sink);
     pen.put(b" ", sink);
@@ -49,7 +49,7 @@ fn put_sign<S: Sink>(pen: &mut Pen, mark: &Mark, sink: &mut S)
 
 /// Tells the row of a mark.
 fn put_mark<S: Sink>(pen: &mut Pen, width: usize, before: usize, mark: &Mark, sink: &mut S)
-    ensures { Tells (mark_row_at width before mark.now) (state S.Sink pen.old sink.old) (state S.Sink pen.new sink.new) }
+    ensures { Puts S.Sink (mark_row_at width before mark.now) pen.old sink.old pen.new sink.new }
 {
     pen.put_blanks(width, sink);
     pen.put(b"  ", sink);
@@ -59,7 +59,7 @@ fn put_mark<S: Sink>(pen: &mut Pen, width: usize, before: usize, mark: &Mark, si
 
 /// Tells the row of lines that aren't shown.
 fn put_gap<S: Sink>(pen: &mut Pen, width: usize, sink: &mut S)
-    ensures { Tells (gap_row width) (state S.Sink pen.old sink.old) (state S.Sink pen.new sink.new) }
+    ensures { Puts S.Sink (gap_row width) pen.old sink.old pen.new sink.new }
 {
     put_right(pen, width, b"...", sink);
     pen.put(b"\n", sink);
@@ -67,7 +67,7 @@ fn put_gap<S: Sink>(pen: &mut Pen, width: usize, sink: &mut S)
 
 /// Tells a row.
 pub(crate) fn put_row<S: Sink>(pen: &mut Pen, row: &Row<'_>, sink: &mut S)
-    ensures { Tells (row_bytes row.now) (state S.Sink pen.old sink.old) (state S.Sink pen.new sink.new) }
+    ensures { Puts S.Sink (row_bytes row.now) pen.old sink.old pen.new sink.new }
 {
     match row {
         Row::Line(width, number, line) => put_line(pen, *width, *number, line, sink),

@@ -1,5 +1,5 @@
 -- The text of a report's value, with a newline, is read as its tests, where their paths differ.
-use Rattle.std.proofs.Common.{◌≡◌, ℕ, ◌-◌, ◌==◌, ◌++◌, true, List, [], ◌∷◌, length, take, None, Some, Ok, refl, sym, ◌∙◌, ap, arith}
+use Rattle.std.proofs.Common.{◌≡◌, ℕ, ◌-◌, ◌==◌, ◌++◌, true, List, [], ◌∷◌, length, None, Some, Ok, refl, ◌∙◌, arith}
 use Rattle.std.proofs.lemmas.Bool.Decides.{Decides-eqb}
 use Rattle.std.proofs.lemmas.List.{length-append, take_at}
 use Rattle.std.proofs.lemmas.Slice.Eq.{ends_is}

@@ -1,4 +1,5 @@
 pub mod BackLemmas
+pub mod BothLemmas
 pub mod DepthLemmas
 pub mod FloatLemmas
 pub mod LineLemmas

@@ -3,7 +3,7 @@ ghost use Rattle.std.specs.Prelude.{◌≡◌, IfOk};
 ghost use Rattle.json_report.specs.Changes.{changes, differs};
 
 use crate::line::Line;
-use crate::results::Results;
+use crate::results::ByPath;
 use std::alloc::Global;
 use test_outcome::Outcome;
 use tt_base::{Bytes, Items, NoMemory};
@@ -32,12 +32,8 @@ pub(crate) fn differs(old: Option<Outcome>, new: Option<Outcome>) -> bool
 pub fn changes(alloc: Global, old: &[Line], new: &[Line]) -> Result<Items<Change>, NoMemory>
     ensures { IfOk result (λ found. found ≡ changes old.now new.now) }
 {
-    let mut before = Results::new(alloc);
-    before.add(old)?;
-    let mut after = Results::new(alloc);
-    after.add(new)?;
-    let mut both = Results::new(alloc);
-    both.add(old)?;
-    both.add(new)?;
-    both.changes(alloc, &before, &after)
+    let mut results = ByPath::new(alloc);
+    results.add_old(old)?;
+    results.add_new(new)?;
+    results.changes(alloc)
 }

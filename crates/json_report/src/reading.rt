@@ -8,7 +8,7 @@ ghost use Rattle.serde_json.specs.View.{items_view, members_view, view};
 
 use crate::counts::{counts_of, is_written_alike, outcomes};
 use crate::line::{Line, ReportFail, ReportFault};
-use crate::results::Results;
+use crate::results::ByPath;
 use serde_json::{Map, Value};
 use std::alloc::Global;
 use test_outcome::Outcome;
@@ -87,12 +87,11 @@ fn lines_in(alloc: Global, entries: &[Value]) -> Result<Items<Line>, ReportFail>
 fn twice(alloc: Global, lines: &[Line]) -> Result<Option<usize>, NoMemory>
     ensures { IfOk result (λ place. place ≡ twice_from 0 [] lines.now) }
 {
-    let mut paths = Results::new(alloc);
+    let mut paths = ByPath::new(alloc);
     for (place, line) in lines.iter().enumerate() {
-        if paths.get(line.path.as_slice()).is_some() {
+        if paths.put_old(line)?.is_some() {
             return Ok(Some(place));
         }
-        paths.put(line.path.as_slice(), line.result)?;
     }
     Ok(None)
 }

@@ -13,7 +13,7 @@ use Rattle.lit_paths.proofs.LawLemmas.{path_in_text_of}
 use Rattle.lit_paths.proofs.PartLemmas.{and_left, and_right, no_slash}
 use Rattle.lit_suite.specs.declared.suite_file.Part.{Part}
 use Rattle.lit_suite.specs.declared.suite_file.Suite.{Suite}
-use Rattle.lit_dirs.specs.Tests.{features_of, holds_path, name_of, parts_over, substitutions_of}
+use Rattle.lit_dirs.specs.Tests.{features_of, holds_path, name_of, parts_over, substitutions_of, temp_of, temps_in}
 
 -- ---- texts of paths
 
@@ -39,18 +39,17 @@ text_of_name dir name =
     ∙ slashed_append dir (name ∷ []) ∙ ap (λ xs. slashed dir ++ 47 ∷ xs) (append-nil name)
 
 pub temp_dir_text : (dir : Parts) (work : List ℕ) → work ≡ slashed dir
-    → work ++ codes "/Output" ≡ text_of (dir ++ codes "Output" ∷ [])
+    → work ++ codes "/Output" ≡ text_of (temps_in dir)
 temp_dir_text dir work is = ap (λ xs. xs ++ codes "/Output") is ∙ sym (text_of_name dir (codes "Output"))
 
 pub temp_text : (dir : Parts) (work name : List ℕ) → work ≡ slashed dir
-    → work ++ (codes "/Output/" ++ (name ++ codes ".tmp"))
-    ≡ text_of ((dir ++ codes "Output" ∷ []) ++ (name ++ codes ".tmp") ∷ [])
+    → work ++ (codes "/Output/" ++ (name ++ codes ".tmp")) ≡ temp_of dir name
 temp_text dir work name is =
     ap (λ xs. xs ++ (codes "/Output/" ++ (name ++ codes ".tmp"))) is
     ∙ sym (append_assoc (slashed dir) (codes "/Output") (47 ∷ (name ++ codes ".tmp")))
     ∙ ap (λ xs. xs ++ 47 ∷ (name ++ codes ".tmp")) (sym (text_of_name dir (codes "Output"))
     ∙ name_slashed dir (codes "Output"))
-    ∙ sym (text_of_name (dir ++ codes "Output" ∷ []) (name ++ codes ".tmp"))
+    ∙ sym (text_of_name (temps_in dir) (name ++ codes ".tmp"))
 
 -- ---- the path of a file below a root
 

@@ -3,6 +3,7 @@
 use Rattle.std.specs.Prelude.{◌≡◌, ◌≢◌, ℕ, nat_lt, Bool, true, false, codes, if◌then◌else◌, List, [], ◌∷◌, ◌++◌, length, Option, None, Some, Result, Ok, Err, ◌⊎◌, ⊤}
 use Rattle.std.specs.List.{find}
 use Rattle.std.specs.Option.{option_map}
+use Rattle.std.specs.Str.{bytes_eq}
 use Rattle.lit_paths.specs.Paths.{Parts, text_of}
 use Rattle.lit_suite.specs.declared.suite_file.Suite.{Suite}
 use Rattle.lit_suite.specs.declared.suite_file.SuiteFault.{SuiteFault}
@@ -35,9 +36,16 @@ python_names =
     codes "lit.cfg" ∷ codes "lit.cfg.py" ∷ codes "lit.local.cfg" ∷ codes "lit.local.cfg.py" ∷ codes "lit.site.cfg"
     ∷ codes "lit.site.cfg.py" ∷ []
 
+-- the item of a name, and the first of some names under which a file is listed
+abbrev pub item_named : List Item → List ℕ → Option Item
+item_named items name = find (λ item. bytes_eq item.name name) items
+
+abbrev pub first_file : List Item → List (List ℕ) → Option (List ℕ)
+first_file items names = find (λ name. is_file (map.kind_of items name)) names
+
 -- the least Python configuration among some items
 abbrev pub python_of : List Item → Option (List ℕ)
-python_of items = find (λ name. is_file (map.kind_of items name)) python_names
+python_of items = first_file items python_names
 
 -- the least Python configuration in a directory
 abbrev pub python_in : List Node → Parts → Option (List ℕ)
@@ -66,6 +74,15 @@ abbrev pub fault_in : List Node → Parts → Option DiscoverFault
 fault_in nodes dir = python_or dir (python_in nodes dir) (suite_fault_in nodes dir)
 
 -- ---- answers, whatever the tree tells
+
+-- a fault of the tree is told
+abbrev pub IsTreeFault : {A : Type 0} → Result A DiscoverFault → Type 0
+IsTreeFault result = result ≡ Err TreeFault
+
+-- a tree of which no call fails stays so, and no fault of it is told or counted
+abbrev pub HoldsSteady : {T A : Type 0} → (T → Type 0) → (T → ℕ) → T → T → Result A DiscoverFault → Type 0
+HoldsSteady is_steady count old new result =
+    is_steady old → (result ≢ Err TreeFault) × is_steady new × (count new ≡ count old)
 
 -- what is told as missing, for a look at a directory: the directory, or the suite file that it listed
 abbrev pub IsGone : Parts → DiscoverFault → Type 0

@@ -1,11 +1,10 @@
 //! What a directory tells.
-ghost use Rattle.std.specs.Prelude.{◌≡◌, ◌≢◌, ◌≤◌, ◌++◌, ◌∷◌, [], true, Err, IfErr, IfOk, IfSome};
-ghost use Rattle.std.specs.List.{list_all};
+ghost use Rattle.std.specs.Prelude.{◌≡◌, ◌≤◌, ◌++◌, ◌∷◌, [], IfErr, IfOk, IfSome};
 ghost use Rattle.tt_outside.specs.Faults.{Rose};
-ghost use Rattle.tt_outside.specs.TreeMap.{Lists, is_part};
+ghost use Rattle.tt_outside.specs.TreeMap.{Lists};
 ghost use Rattle.lit_suite.specs.Whole.{IsWhole};
-ghost use Rattle.lit_paths.specs.Paths.{text_of};
-ghost use Rattle.lit_dirs.specs.Looks.{GivesListing, GivesReading, GivesSuite, IsGone};
+ghost use Rattle.lit_paths.specs.Paths.{AreParts, text_of};
+ghost use Rattle.lit_dirs.specs.Looks.{GivesListing, GivesReading, GivesSuite, HoldsSteady, IsGone, IsTreeFault};
 ghost use Rattle.lit_dirs.specs.Suites.{suite_path};
 
 use crate::fault::DiscoverFault;
@@ -30,10 +29,9 @@ pub fn list_dir<T: Tree>(
     ensures nodes { T.nodes tree.new ≡ T.nodes tree.old }
     ensures root { T.root tree.new ≡ T.root tree.old }
     ensures later { T.faults tree.old ≤ T.faults tree.new }
-    ensures cause { result ≡ Err DiscoverFault.TreeFault → Rose (T.faults tree.old) (T.faults tree.new) }
-    ensures calm { result ≢ Err DiscoverFault.TreeFault → T.faults tree.new ≡ T.faults tree.old }
-    ensures steady { T.steady tree.old
-        → (result ≢ Err DiscoverFault.TreeFault) × T.steady tree.new × (T.faults tree.new ≡ T.faults tree.old) }
+    ensures cause { IsTreeFault result → Rose (T.faults tree.old) (T.faults tree.new) }
+    ensures calm { ¬ IsTreeFault result → T.faults tree.new ≡ T.faults tree.old }
+    ensures steady { HoldsSteady T.steady T.faults tree.old tree.new result }
 {
     let path = text_of(alloc, dir)?;
     match tree.list(alloc, path.as_slice()) {
@@ -70,10 +68,9 @@ fn read_in<T: Tree>(alloc: Global, tree: &mut T, dir: &[Bytes]) -> Result<Suite,
     ensures nodes { T.nodes tree.new ≡ T.nodes tree.old }
     ensures root { T.root tree.new ≡ T.root tree.old }
     ensures later { T.faults tree.old ≤ T.faults tree.new }
-    ensures cause { result ≡ Err DiscoverFault.TreeFault → Rose (T.faults tree.old) (T.faults tree.new) }
-    ensures calm { result ≢ Err DiscoverFault.TreeFault → T.faults tree.new ≡ T.faults tree.old }
-    ensures steady { T.steady tree.old
-        → (result ≢ Err DiscoverFault.TreeFault) × T.steady tree.new × (T.faults tree.new ≡ T.faults tree.old) }
+    ensures cause { IsTreeFault result → Rose (T.faults tree.old) (T.faults tree.new) }
+    ensures calm { ¬ IsTreeFault result → T.faults tree.new ≡ T.faults tree.old }
+    ensures steady { HoldsSteady T.steady T.faults tree.old tree.new result }
 {
     let path = suite_path(alloc, dir)?;
     match tree.read_all(alloc, path.as_slice(), MAX_SUITE) {
@@ -98,7 +95,7 @@ pub fn look_in<T: Tree>(
     dir: &[Bytes],
     items: &[Item],
 ) -> Result<Option<Suite>, DiscoverFault>
-    requires parts { list_all is_part dir.now ≡ true }
+    requires parts { AreParts dir.now }
     requires lists { IfSome (T.nodes tree.old) (λ nodes. Lists nodes (text_of dir.now) items.now) }
     ensures gives { GivesSuite (T.nodes tree.old) dir.now result }
     ensures gone { IfErr result (IsGone dir.now) }
@@ -106,10 +103,9 @@ pub fn look_in<T: Tree>(
     ensures nodes { T.nodes tree.new ≡ T.nodes tree.old }
     ensures root { T.root tree.new ≡ T.root tree.old }
     ensures later { T.faults tree.old ≤ T.faults tree.new }
-    ensures cause { result ≡ Err DiscoverFault.TreeFault → Rose (T.faults tree.old) (T.faults tree.new) }
-    ensures calm { result ≢ Err DiscoverFault.TreeFault → T.faults tree.new ≡ T.faults tree.old }
-    ensures steady { T.steady tree.old
-        → (result ≢ Err DiscoverFault.TreeFault) × T.steady tree.new × (T.faults tree.new ≡ T.faults tree.old) }
+    ensures cause { IsTreeFault result → Rose (T.faults tree.old) (T.faults tree.new) }
+    ensures calm { ¬ IsTreeFault result → T.faults tree.new ≡ T.faults tree.old }
+    ensures steady { HoldsSteady T.steady T.faults tree.old tree.new result }
 {
     if let Some(name) = python_of(items) {
         let path = path_of(alloc, dir, name.as_bytes())?;

@@ -1,10 +1,8 @@
 //! A test from its path and its suite.
-ghost use Rattle.std.specs.Prelude.{◌≡◌, ◌≢◌, ◌++◌, ◌∷◌, ℕ, [], IfOk, List, codes, map, true};
-ghost use Rattle.std.specs.List.{list_all};
-ghost use Rattle.tt_outside.specs.TreeMap.{is_part};
-ghost use Rattle.lit_paths.specs.Paths.{Parts, cut, dir_of, inner_text_of, slashed, text_of};
+ghost use Rattle.std.specs.Prelude.{◌≡◌, ◌≢◌, ◌++◌, [], IfOk, codes, map};
+ghost use Rattle.lit_paths.specs.Paths.{Parts, cut, inner_text_of, slashed, text_of};
 ghost use Rattle.lit_suite.specs.Whole.{IsWhole};
-ghost use Rattle.lit_dirs.specs.Tests.{IsTestOf, tool_of, work_dir_of};
+ghost use Rattle.lit_dirs.specs.Tests.{GivesName, GivesOf, GivesTest, GivesWorkDir, temp_of, temps_in, tool_of};
 
 use crate::additions::{features_of, substitutions_of};
 use lit_paths::{add_slashed, behind_path, chained, cut, cut_name, joined};
@@ -26,8 +24,7 @@ fn whole_text(alloc: Global, text: Bytes) -> Result<Bytes, NoMemory>
 /// The path of the directory in which the commands of a test run, each part behind a slash. `dir` is that of the test
 /// file.
 fn work_dir_of(alloc: Global, root: &[Bytes], suite: &Suite, dir: &[u8]) -> Result<Bytes, NoMemory>
-    ensures { (below : Parts) → dir.now ≡ slashed root.now ++ slashed (dir_of below)
-        → IfOk result (λ text. text ≡ slashed (work_dir_of root.now suite.now below)) }
+    ensures { GivesWorkDir root.now suite.now dir.now result }
 {
     match &suite.exec_root {
         Some(path) => {
@@ -61,7 +58,7 @@ fn full_name(alloc: Global, suite: &[u8], inner: &[u8]) -> Result<Bytes, NoMemor
 /// The directory of temporary files, in that of the commands.
 #[tactic(auto, using(crate::proofs::MadeLemmas::temp_dir_text))]
 fn temp_dir_of(alloc: Global, work: &[u8]) -> Result<Bytes, NoMemory>
-    ensures { (dir : Parts) → work.now ≡ slashed dir → IfOk result (λ text. text ≡ text_of (dir ++ codes "Output" ∷ [])) }
+    ensures { GivesOf work.now (λ dir. text_of (temps_in dir)) result }
 {
     chained(alloc, &[work, b"/Output"])
 }
@@ -69,8 +66,7 @@ fn temp_dir_of(alloc: Global, work: &[u8]) -> Result<Bytes, NoMemory>
 /// How the paths of temporary files begin.
 #[tactic(auto, using(crate::proofs::MadeLemmas::temp_text))]
 fn temp_of(alloc: Global, work: &[u8], name: &[u8]) -> Result<Bytes, NoMemory>
-    ensures { (dir : Parts) → work.now ≡ slashed dir
-        → IfOk result (λ temp. temp ≡ text_of ((dir ++ codes "Output" ∷ []) ++ (name.now ++ codes ".tmp") ∷ [])) }
+    ensures { GivesOf work.now (λ dir. temp_of dir name.now) result }
 {
     chained(alloc, &[work, b"/Output/", name, b".tmp"])
 }
@@ -87,8 +83,7 @@ fn parts_below(alloc: Global, suite: &Suite, inner: &[u8]) -> Result<Items<Bytes
 
 /// The name of the test of a file below the directory of its suite.
 pub fn name_of(alloc: Global, root: &[Bytes], suite: &Suite, path: &[u8]) -> Result<Bytes, NoMemory>
-    ensures { (below : Parts) → path.now ≡ text_of (root.now ++ below) → below ≢ []
-        → IfOk result (λ name. name ≡ suite.now.name ++ codes " :: " ++ inner_text_of below) }
+    ensures { GivesName root.now suite.now path.now result }
 {
     let inner = inner_text(behind_path(root, path));
     full_name(alloc, suite.name.as_slice(), inner)
@@ -107,8 +102,7 @@ pub fn test_of(
 ) -> Result<Test, NoMemory>
     requires whole { IsWhole suite.now }
     requires tools { tools.now ≡ map (tool_of root.now) suite.now.tools }
-    ensures { (below : Parts) → path ≡ text_of (root.now ++ below) → list_all is_part below ≡ true → below ≢ []
-        → IfOk result (IsTestOf root.now suite.now below) }
+    ensures { GivesTest root.now suite.now path result }
 {
     let inner = inner_text(behind_path(root, path.as_slice()));
     let below = parts_below(alloc, suite, inner)?;

@@ -1,10 +1,8 @@
 //! Names that a directory lists.
 ghost use Rattle.std.specs.Prelude.{◌≡◌, codes, map};
-ghost use Rattle.std.specs.List.{find};
 ghost use Rattle.std.specs.Option.{option_map};
-ghost use Rattle.std.specs.Str.{bytes_eq};
 ghost use Rattle.tt_outside.specs.TreeMap.{kind_of};
-ghost use Rattle.lit_dirs.specs.Looks.{is_file, python_of};
+ghost use Rattle.lit_dirs.specs.Looks.{first_file, is_file, item_named, python_of};
 
 use tt_outside::{Item, ItemKind};
 
@@ -23,7 +21,7 @@ const PYTHON: [&str; 6] = [
 
 /// The item of a name.
 fn item_named<'a>(items: &'a [Item], name: &[u8]) -> Option<&'a Item>
-    ensures { option_map (λ item. item.now) result ≡ find (λ item. bytes_eq item.name name.now) items.now }
+    ensures { option_map (λ item. item.now) result ≡ item_named items.now name.now }
 {
     items.iter().find(|item| item.name.as_slice() == name)
 }
@@ -40,8 +38,7 @@ fn has_file(items: &[Item], name: &[u8]) -> bool
 
 /// The first of these names under which a file is listed.
 fn first_file<'a>(items: &[Item], names: &[&'a str]) -> Option<&'a str>
-    ensures { option_map (λ name. name.now) result
-        ≡ find (λ name. is_file (kind_of items.now name)) (map (λ name. name.now) names.now) }
+    ensures { option_map (λ name. name.now) result ≡ first_file items.now (map (λ name. name.now) names.now) }
 {
     for name in names {
         if has_file(items, name.as_bytes()) {

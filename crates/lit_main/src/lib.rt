@@ -4,13 +4,17 @@
 
 mod lines;
 
+ghost use Rattle.std.specs.Prelude.{◌≡◌, IfErr, OnOk};
+ghost use Rattle.lit_main.specs.Before.{NoBase};
+ghost use Rattle.tt_run.specs.Run.{stream_of};
+
 pub use lines::{Lines, is_quiet};
 use std::env::{self, Env};
 use std::io::{self, ErrorKind};
 use tt_base::Bytes;
 use tt_main::{Pages, no_words, with_variable, words_or_page};
 use tt_outside::Sink;
-use tt_run::{Frame, answer_on};
+use tt_run::{Frame, answer_parts};
 
 /// The variable of the environment whose words stand before those of the command line.
 const VARIABLE: &str = "LIT_OPTS";
@@ -25,14 +29,24 @@ fn current_dir<R: Env + AllocGlobal>(rt: &R) -> io::Result<Bytes> {
 }
 
 /// The path that words are joined to: that of the current directory. Where there is none, that is told, with a status.
-pub fn base<R: Env + AllocGlobal, E: Sink>(rt: &R, frame: Frame, err: &mut E) -> Result<Bytes, u8> {
+pub fn base<R: Env + AllocGlobal, E: Sink>(rt: &R, frame: Frame, err: &mut E) -> Result<Bytes, u8>
+    ensures told { IfErr result (λ status. NoBase frame.name.now status (stream_of E.Sink err.old err.new)) }
+    ensures silent { OnOk result (err.new ≡ err.old) }
+{
     match current_dir(rt) {
         Ok(path) => Ok(path),
         Err(error) => match error.kind() {
             ErrorKind::OutOfMemory => Err(frame.out_of_memory(err)),
-            _ => Err(answer_on(b"lit: error: cannot read the tree\n", 3, err)),
+            _ => Err(cannot_read_tree(frame, err)),
         },
     }
+}
+
+/// Tells that the tree cannot be read.
+fn cannot_read_tree<E: Sink>(frame: Frame, err: &mut E) -> u8
+    ensures { NoBase frame.name.now result (stream_of E.Sink err.old err.new) }
+{
+    answer_parts(&[frame.name, b": error: cannot read the tree\n"], 3, err)
 }
 
 /// The words of the command line behind those of the variable. The program may end before its top call, with a status: where there are

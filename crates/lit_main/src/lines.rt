@@ -1,15 +1,26 @@
 //! The line of progress of a run.
 
+ghost use Rattle.std.specs.Prelude.{◌≡◌, string_bytes};
+ghost use Rattle.std.specs.List.{list_any};
+ghost use Rattle.lit_main.specs.Before.{hushes};
+
 use lit_progress::Line;
 use std::alloc::Global;
 use std::io::Write;
 use tt_base::NoMemory;
 
+/// Whether a word asks for failures alone, or for a report in JSON.
+fn hushes(word: &[u8]) -> bool
+    ensures { result ≡ hushes word.now }
+{
+    word == b"-q".as_slice() || word == b"--json".as_slice() || word == b"-json".as_slice()
+}
+
 /// Whether the words ask for failures alone, or for a report in JSON: then no line is shown.
-pub fn is_quiet(words: &[String]) -> bool {
-    words
-        .iter()
-        .any(|word| matches!(word.as_str(), "-q" | "--json" | "-json"))
+pub fn is_quiet(words: &[String]) -> bool
+    ensures { result ≡ list_any (λ word. hushes (string_bytes word)) words.now }
+{
+    words.iter().any(|word| hushes(word.as_bytes()))
 }
 
 /// A line of progress for each part of a run.

@@ -1,10 +1,11 @@
 -- Paths as lists of their parts.
 -- Own rule: a path is joined to a directory unless it begins with `/`; empty parts and `.` are dropped, and `..` takes
 -- away the part before it, if there is one.
-use Rattle.std.specs.Prelude.{ℕ, ◌==◌, ◌-◌, Bool, true, false, ◌||◌, codes, if◌then◌else◌, List, [], ◌∷◌, ◌++◌, length, drop, take, Option, None, Some}
-use Rattle.std.specs.List.{flat_map, fold, slice_split}
+use Rattle.std.specs.Prelude.{◌≡◌, ℕ, ◌==◌, ◌-◌, Bool, true, false, ◌||◌, codes, if◌then◌else◌, List, [], ◌∷◌, ◌++◌, All, length, drop, take, Option, None, Some}
+use Rattle.std.specs.List.{flat_map, fold, list_all, slice_split}
 use Rattle.std.specs.Str.{bytes_eq}
 use Rattle.tt_base.specs.Occurrence.{begins_with}
+use Rattle.tt_outside.specs.TreeMap.{is_part}
 
 abbrev pub Parts : Type 0
 Parts = List (List ℕ)
@@ -25,6 +26,12 @@ abbrev pub inner_text_of : Parts → List ℕ
 inner_text_of [] = []
 inner_text_of (part ∷ path) = part ++ slashed path
 
+-- a text before its last slash, and behind it
+abbrev pub CutsName : List ℕ → List ℕ → List ℕ → Type 0
+CutsName text before behind =
+    (front name : List ℕ) → text ≡ front ++ 47 ∷ name → All (λ byte. (byte == 47) ≡ false) name
+    → (before ≡ front) × (behind ≡ name)
+
 -- the parts of a text between its slashes
 abbrev pub cut : List ℕ → Parts
 cut text = slice_split (λ byte. byte == 47) text
@@ -34,6 +41,10 @@ abbrev pub path_in : List ℕ → Parts
 path_in text = cut (drop 1 text)
 
 -- ---- parts of paths
+
+-- each of these can be a part of a path
+abbrev pub AreParts : Parts → Type 0
+AreParts path = list_all is_part path ≡ true
 
 -- the directory that a path stands in; `/` stands in itself
 abbrev pub dir_of : Parts → Parts

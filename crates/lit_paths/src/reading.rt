@@ -1,8 +1,7 @@
 //! How a text reads as a path.
-ghost use Rattle.std.specs.Prelude.{◌≡◌, ◌==◌, IfOk, OnOk, true};
-ghost use Rattle.std.specs.List.{fold, list_all, slice_split};
-ghost use Rattle.tt_outside.specs.TreeMap.{is_part};
-ghost use Rattle.lit_paths.specs.Paths.{cut, joined, parts_of, with_part};
+ghost use Rattle.std.specs.Prelude.{◌≡◌, IfOk, OnOk};
+ghost use Rattle.std.specs.List.{fold};
+ghost use Rattle.lit_paths.specs.Paths.{AreParts, cut, joined, parts_of, with_part};
 
 use crate::writing::copied;
 use std::alloc::Global;
@@ -27,7 +26,7 @@ fn add_part(alloc: Global, path: &mut Vec<Bytes>, part: &[u8]) -> Result<(), NoM
 
 /// Adds the parts of a text to a path.
 fn add_parts(alloc: Global, path: &mut Vec<Bytes>, text: &[u8]) -> Result<(), NoMemory>
-    ensures { OnOk result (path.new.items ≡ fold with_part path.old.items (slice_split (λ byte. byte == 47) text.now)) }
+    ensures { OnOk result (path.new.items ≡ fold with_part path.old.items (cut text.now)) }
 {
     for part in text.split(|byte| *byte == b'/') {
         add_part(alloc, path, part)?;
@@ -39,7 +38,7 @@ fn add_parts(alloc: Global, path: &mut Vec<Bytes>, text: &[u8]) -> Result<(), No
 #[tactic(auto, using(crate::proofs::NormalLemmas::read_has_parts))]
 pub fn read_path(alloc: Global, text: &[u8]) -> Result<Items<Bytes>, NoMemory>
     ensures path { IfOk result (λ path. path ≡ parts_of text.now) }
-    ensures parts { IfOk result (λ path. list_all is_part path ≡ true) }
+    ensures parts { IfOk result AreParts }
 {
     let mut path = Vec::new(alloc);
     add_parts(alloc, &mut path, text)?;
@@ -60,7 +59,7 @@ pub fn cut(alloc: Global, text: &[u8]) -> Result<Items<Bytes>, NoMemory>
 /// A text as a path, joined to a directory unless it begins with `/`.
 pub fn joined(alloc: Global, dir: &[Bytes], text: &[u8]) -> Result<Items<Bytes>, NoMemory>
     ensures path { IfOk result (λ path. path ≡ joined dir.now text.now) }
-    ensures parts { list_all is_part dir.now ≡ true → IfOk result (λ path. list_all is_part path ≡ true) }
+    ensures parts { AreParts dir.now → IfOk result AreParts }
 {
     if text.starts_with(b"/".as_slice()) {
         return read_path(alloc, text);

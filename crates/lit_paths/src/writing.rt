@@ -1,7 +1,7 @@
 //! How a path is written, and what stands beside it.
-ghost use Rattle.std.specs.Prelude.{◌≡◌, ◌==◌, ◌++◌, ◌∷◌, ℕ, All, false, IfOk, List, OnOk, []};
+ghost use Rattle.std.specs.Prelude.{◌≡◌, ◌++◌, ◌∷◌, ℕ, IfOk, List, OnOk, []};
 ghost use Rattle.std.specs.List.{flat_map};
-ghost use Rattle.lit_paths.specs.Paths.{Parts, dir_of, is_above, slashed, text_of};
+ghost use Rattle.lit_paths.specs.Paths.{CutsName, Parts, dir_of, is_above, slashed, text_of};
 
 use memchr::memrchr;
 use std::alloc::Global;
@@ -103,8 +103,7 @@ pub fn behind_path<'a>(path: &[Bytes], text: &'a [u8]) -> &'a [u8]
 
 /// A text before its last slash and behind it.
 pub fn cut_name(text: &[u8]) -> (&[u8], &[u8])
-    ensures { (front name : List ℕ) → text.now ≡ front ++ 47 ∷ name → All (λ byte. (byte == 47) ≡ false) name
-        → (result.0.now ≡ front) × (result.1.now ≡ name) }
+    ensures { CutsName text.now result.0.now result.1.now }
 {
     match memrchr(b'/', text) {
         Some(at) => (&text[..at], &text[at + 1..]),

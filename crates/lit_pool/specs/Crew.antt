@@ -11,6 +11,7 @@ use Rattle.lit_claims.specs.Counted.{count_of}
 use Rattle.lit_round.specs.Hands.{MAX_ROUND, all_left, asked_of, begun_by, faults_of, rooms_of}
 use Rattle.lit_round.specs.Trials.{any_fault, sum_entries}
 use Rattle.lit_pool.specs.Pool.{returned}
+use Rattle.lit_pool.specs.declared.rounds.Rounds.{Rounds}
 use Rattle.lit_pool.specs.declared.stop.PoolStop.{PoolStop}
 use Rattle.lit_pool.specs.declared.stop.PoolWhy.TheVariants.{NoMemory}
 
@@ -69,6 +70,10 @@ pub record LeftAtStop (workers tests : ℕ) (stop : PoolStop) (hands : List Left
 abbrev pub AllLeft : ℕ → ℕ → Result (List Trial) PoolStop → List Left → Type 0
 AllLeft workers tests (Ok trials) hands = LeftAtEnd workers tests trials hands
 AllLeft workers tests (Err stop) hands = LeftAtStop workers tests stop hands
+
+-- the same of the hands behind rounds
+abbrev pub RoundsLeave : {H : Type 0} → OfRunner H → ℕ → ℕ → Rounds H → Type 0
+RoundsLeave runner workers tests rounds = AllLeft workers tests rounds.ended (all_left runner rounds.hands.items)
 
 -- the hands that were dismissed in a run of so many tests
 pub record LeavesHands (workers tests : ℕ) (ended : Result (List Trial) PoolStop) (old new : List Left) : Type 0 where

@@ -1,7 +1,7 @@
 -- The trials of a run, and how a run stops.
 -- Own rules: a test's number is its place among those that are run; trials are put on a desk in that order; a stopped run returns
 -- what was put, and the trial that the desk refused.
-use Rattle.std.specs.Prelude.{◌≡◌, ℕ, ◌+◌, ◌≤◌, true, false, List, ◌++◌, length, slice_get, take, Option, None, Some}
+use Rattle.std.specs.Prelude.{◌≡◌, ℕ, ◌+◌, ◌≤◌, true, false, List, ◌++◌, length, slice_get, take, Option, None, Some, IfSome}
 use Rattle.std.specs.List.{range_with_len}
 use Rattle.std.specs.Option.{option_to_list}
 use Rattle.tt_outside.specs.Faults.{Rose}
@@ -15,6 +15,7 @@ use Rattle.lit_report.specs.Report.{TestReport}
 use Rattle.lit_desk.specs.Desk.{Kept, PutFrom}
 use Rattle.lit_desk.specs.declared.stop.DeskStop.{DeskStop}
 use Rattle.lit_desk.specs.declared.stop.DeskStop.TheVariants as desk
+use Rattle.lit_pool.specs.declared.rounds.Refusal.{Refusal}
 use Rattle.lit_pool.specs.declared.stop.PoolStop.{PoolStop}
 use Rattle.lit_pool.specs.declared.stop.PoolWhy.{PoolWhy}
 use Rattle.lit_pool.specs.declared.stop.PoolWhy.TheVariants.{SinkFault, TooMuch, NoMemory}
@@ -39,11 +40,19 @@ FailsFor runner old new trials = any_fault trials ≡ true → Rose (runner.faul
 abbrev pub IsCalmFor : {H : Type 0} → OfRunner H → H → H → List Trial → Type 0
 IsCalmFor runner old new trials = any_fault trials ≡ false → runner.faults new ≡ runner.faults old
 
+-- it has begun some tests, and has room for as many fewer
+abbrev pub KeepsRoom : {H : Type 0} → OfRunner H → H → H → Type 0
+KeepsRoom runner old new = length (runner.begun new) + runner.rooms new ≡ length (runner.begun old) + runner.rooms old
+
 -- ---- a stopped run
 
 -- all trials that a stopped run returns: those that were put, and behind them the other one
 abbrev pub returned : PoolStop → List Trial
 returned stop = stop.trials ++ option_to_list stop.other
+
+-- a hand answered what the entries of these trials say, where the desk refused one of them
+abbrev pub AnswersAtStop : {H : Type 0} → OfRunner H → H → H → PoolStop → Type 0
+AnswersAtStop runner old new stop = IfSome stop.other (λ _. AnswersFor runner old new (returned stop))
 
 abbrev pub why_of : DeskStop → PoolWhy
 why_of desk.SinkFault = SinkFault
@@ -65,6 +74,11 @@ pub record RefusesAt {D : Type 0} (Takes : D → ℕ → Trial → D → Type 0)
   pub between : D
   pub put : PutFrom Takes old place (take taken trials) between
   pub kept : Keeps between (place + taken) other why new
+
+-- the same, told of a refusal
+abbrev pub RefusesNext : {D : Type 0} → (D → ℕ → Trial → D → Type 0) → (D → ℕ → Trial → DeskStop → D → Type 0) → D → ℕ → List Trial
+    → D → Refusal → Type 0
+RefusesNext Takes Keeps old place trials new refusal = RefusesAt Takes Keeps old place trials refusal.taken refusal.why new
 
 -- A run stopped: what it returns are the trials of the first tests, in order. All but the other one were put on the desk, in
 -- order, and then the desk refused that one.

@@ -2,11 +2,11 @@
 ghost use Rattle.std.specs.Prelude.{◌≡◌, ◌+◌, ◌<◌, ◌≤◌, IfErr, IfOk, OnOk, length, vec_len};
 ghost use Rattle.std.specs.List.{All};
 ghost use Rattle.lit_claims.specs.Claimed.{SHARES};
-ghost use Rattle.lit_round.specs.Hands.{IsHandOf, all_left};
+ghost use Rattle.lit_round.specs.Hands.{IsHandOf};
 ghost use Rattle.lit_round.specs.Trials.{AreTrials};
 ghost use Rattle.lit_desk.specs.Desk.{PutFrom};
-ghost use Rattle.lit_pool.specs.Crew.{AllLeft, AreFresh, HaveRoom};
-ghost use Rattle.lit_pool.specs.Pool.{IsStopped, RefusesAt};
+ghost use Rattle.lit_pool.specs.Crew.{AreFresh, HaveRoom, RoundsLeave};
+ghost use Rattle.lit_pool.specs.Pool.{IsStopped, RefusesNext};
 
 use crate::desk::Desk;
 use crate::serial::stop;
@@ -38,8 +38,7 @@ fn put_all<D: Desk>(
 ) -> Result<(), Refusal>
     requires few { first + length trials.now ≤ 100000 }
     ensures put { OnOk result (PutFrom D.took desk.old first trials.now desk.new) }
-    ensures refused { IfErr result (λ refusal.
-        RefusesAt D.took D.kept desk.old first trials.now refusal.taken refusal.why desk.new) }
+    ensures refused { IfErr result (RefusesNext D.took D.kept desk.old first trials.now desk.new) }
 {
     let mut taken = 0;
     for trial in trials {
@@ -77,8 +76,7 @@ pub(crate) fn run_rounds<R: Threads + Sync, C: Crew, D: Desk>(
     ensures trials { IfOk result.ended (AreTrials (C.gave crew.now) 0 tests.now) }
     ensures put { IfOk result.ended (λ trials. PutFrom D.took desk.old 0 trials desk.new) }
     ensures stopped { IfErr result.ended (IsStopped D.took D.kept (C.gave crew.now) tests.now desk.old desk.new) }
-    ensures left { AllLeft (length hands.items) (length tests.now) result.ended
-        (all_left C.Hand.Runner result.hands.items) }
+    ensures left { RoundsLeave C.Hand.Runner (length hands.items) (length tests.now) result }
 {
     let mut trials = Vec::new(alloc);
     let mut first = 0;

@@ -1,10 +1,10 @@
 //! A run by one hand.
-ghost use Rattle.std.specs.Prelude.{◌≡◌, ◌+◌, ◌<◌, ◌≤◌, ◌^◌, ◌++◌, IfErr, IfOk, IfSome, OnOk, length};
+ghost use Rattle.std.specs.Prelude.{◌≡◌, ◌<◌, ◌≤◌, ◌^◌, ◌++◌, IfErr, IfOk, OnOk, length};
 ghost use Rattle.std.specs.List.{range_with_len};
 ghost use Rattle.tt_outside.specs.Gave.{SameGave};
 ghost use Rattle.lit_desk.specs.Desk.{PutFrom};
 ghost use Rattle.lit_round.specs.Trials.{AreTrials};
-ghost use Rattle.lit_pool.specs.Pool.{AnswersFor, BeginsSome, FailsFor, IsCalmFor, IsStopped, returned};
+ghost use Rattle.lit_pool.specs.Pool.{AnswersAtStop, AnswersFor, BeginsSome, FailsFor, IsCalmFor, IsStopped, KeepsRoom, returned};
 
 use crate::desk::Desk;
 use crate::stop::{PoolStop, PoolWhy, why_of};
@@ -35,12 +35,11 @@ pub fn run_serial<R: Runner, D: Desk>(
     // At a stop nothing is said of what a test asked whose trial isn't returned.
     ensures stopped { IfErr result (IsStopped D.took D.kept (R.gave hand.old) tests.now desk.old desk.new) }
     ensures stop_begun { IfErr result (BeginsSome (length tests.now) (R.begun hand.old) (R.begun hand.new)) }
-    ensures stop_asked { IfErr result (λ stop.
-        IfSome stop.other (λ _. AnswersFor R.Runner hand.old hand.new (returned stop))) }
+    ensures stop_asked { IfErr result (AnswersAtStop R.Runner hand.old hand.new) }
     ensures stop_broken { IfErr result (λ stop. FailsFor R.Runner hand.old hand.new (returned stop)) }
 
     ensures later { R.faults hand.old ≤ R.faults hand.new }
-    ensures room { length (R.begun hand.new) + R.rooms hand.new ≡ length (R.begun hand.old) + R.rooms hand.old }
+    ensures room { KeepsRoom R.Runner hand.old hand.new }
     ensures gave { SameGave (R.gave hand.new) (R.gave hand.old) }
     ensures ready { R.ready hand.new }
 {

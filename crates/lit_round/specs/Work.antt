@@ -89,6 +89,10 @@ pub record DidJobs {H : Type 0} (runner : OfRunner H) (gave : Gave) (shared : Sh
 abbrev pub TrialsJoin : {H : Type 0} → Team H → Worked H → Team H → Type 0
 TrialsJoin team worked both = both.trials.items ≡ team.trials.items ++ worked.trials.items
 
+-- memory was enough for both, and so for the trials of both
+abbrev pub AreBothWhole : {H : Type 0} → Team H → Worked H → Team H → Type 0
+AreBothWhole team worked both = (team.whole ≡ true) × (worked.whole ≡ true) × TrialsJoin team worked both
+
 -- one worker did
 abbrev pub WorkerDid : {H : Type 0} → OfRunner H → Shared → H → ClaimSeat → Worked H → Type 0
 WorkerDid runner shared hand seat worked =

@@ -2,7 +2,7 @@
 ghost use Rattle.std.specs.Prelude.{◌≡◌, ◌⊎◌, ◌+◌, ◌<◌, ◌++◌, ◌∷◌, [], true, vec_capacity, vec_len};
 ghost use Rattle.std.specs.Thread.{IsSync};
 ghost use Rattle.lit_claims.specs.Seats.{claims_id, drawn_by, seat_id, share_of};
-ghost use Rattle.lit_round.specs.Work.{HasJob, HaveJobs, TeamDid, TrialsJoin, WorkerDid};
+ghost use Rattle.lit_round.specs.Work.{AreBothWhole, HasJob, HaveJobs, TeamDid, TrialsJoin, WorkerDid};
 
 use crate::worker::{Shared, Worked, work};
 use lit_claims::{ClaimSeat, Claims};
@@ -23,7 +23,8 @@ pub(crate) struct Team<H> {
 
 /// A worker joins others. For want of memory its trials are let go.
 fn add<H: Drop>(claims: &Claims, mut team: Team<H>, worked: Worked<H>) -> Team<H>
-    requires own { (seat_id team.seat ≡ claims_id claims.now) × (seat_id worked.seat ≡ claims_id claims.now) }
+    requires own { seat_id team.seat ≡ claims_id claims.now }
+    requires joining { seat_id worked.seat ≡ claims_id claims.now }
     requires space { vec_len team.hands < vec_capacity team.hands }
     ensures seat { seat_id result.seat ≡ seat_id team.seat }
     ensures share { share_of result.seat ≡ share_of team.seat + share_of worked.seat }
@@ -31,7 +32,7 @@ fn add<H: Drop>(claims: &Claims, mut team: Team<H>, worked: Worked<H>) -> Team<H
     ensures hands { result.hands.items ≡ team.hands.items ++ worked.hand ∷ [] }
     ensures space { vec_capacity result.hands ≡ vec_capacity team.hands }
     ensures trials { TrialsJoin team worked result ⊎ (result.trials.items ≡ team.trials.items) }
-    ensures whole { result.whole ≡ true → (team.whole ≡ true) × (worked.whole ≡ true) × TrialsJoin team worked result }
+    ensures whole { result.whole ≡ true → AreBothWhole team worked result }
 {
     let Worked {
         hand,

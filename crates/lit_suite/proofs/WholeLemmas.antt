@@ -14,9 +14,9 @@ use Rattle.tt_outside.specs.declared.request.Pair.{Pair}
 use Rattle.lit_suite.specs.declared.suite_file.Part.{Part}
 use Rattle.lit_suite.specs.declared.suite_file.Suite.{Suite}
 use Rattle.lit_suite.specs.declared.suite_file.SuiteFault.{SuiteFault}
-use Rattle.lit_suite.specs.Parts.{first_other, inner_path, is_key_of, optional, part_keys, part_from, part_in, part_of, parts_of, unless_other}
-use Rattle.lit_suite.specs.Suites.{and_read, document_suite, good, keys_of, known, may_have, maybe_text, must_have, parts_at, suite_file, suite_of, version_of}
-use Rattle.lit_suite.specs.Values.{any_text, each_of, full_text, full_texts, is_full, is_text, list_of, name_text, named_of, onto, pair_from, pair_in, pair_of, pairs_of, some_full_texts, unless_none}
+use Rattle.lit_suite.specs.Parts.{inner_path, optional, optional_pairs, optional_texts, other_key, part_keys, part_from, part_in, part_of, parts_of, unless_other}
+use Rattle.lit_suite.specs.Suites.{and_read, document_suite, exec_root_at, good, keys_of, known, may_have, must_have, name_at, named_at, pairs_at, parts_at, suffixes_at, suite_file, suite_of, texts_at, version_of}
+use Rattle.lit_suite.specs.Values.{any_text, each_of, full_text, full_texts, is_full, is_text, list_of, onto, pair_from, pair_in, pair_of, pairs_of, some_full_texts, unless_none}
 use Rattle.lit_suite.specs.Whole.{AreFull, AreNamed, IsWhole, ReadingIsWhole}
 
 -- a value is so, if there is one
@@ -168,9 +168,9 @@ no_pairs = All-nil IsNamed
 whole_part_in : (table : Members) → SomeIs HasNames (part_in table)
 whole_part_in table =
     let path = option_and_then inner_path (get_member (codes "path") table) in
-    let features = optional [] full_texts (get_member (codes "features") table) in
-    let pairs = optional [] pairs_of (get_member (codes "substitutions") table) in
-    unless (first_other (is_key_of part_keys) table) (part_from path features pairs) (made_part path features pairs
+    let features = optional_texts (codes "features") table in
+    let pairs = optional_pairs (codes "substitutions") table in
+    unless (other_key part_keys table) (part_from path features pairs) (made_part path features pairs
     (whole_optional AreNamed [] pairs_of no_pairs whole_pairs (get_member (codes "substitutions") table)))
 
 whole_parts : (value : Data) → SomeIs (All HasNames) (parts_of value)
@@ -193,19 +193,19 @@ whole_end suite whole = whole
 whole_suite : (table : Members) → OkIs IsWhole (suite_of table)
 whole_suite table =
     skip IsWhole (version_of (get_member (codes "version") table)) _ (λ parts.
-    skip IsWhole (known (first_other (is_key_of (keys_of parts)) table)) _ (λ only.
-    skip IsWhole (must_have (codes "name") name_text (get_member (codes "name") table)) _ (λ name.
-    and_ok IsWhole AreSuffixes (must_have (codes "suffixes") some_full_texts (get_member (codes "suffixes") table)) _
+    skip IsWhole (known (other_key (keys_of parts) table)) _ (λ only.
+    skip IsWhole (name_at table) _ (λ name.
+    and_ok IsWhole AreSuffixes (suffixes_at table) _
     (whole_must AreSuffixes (codes "suffixes") some_full_texts whole_suffixes (get_member (codes "suffixes") table))
     (λ suffixes full.
-    skip IsWhole (may_have (codes "excludes") [] full_texts (get_member (codes "excludes") table)) _ (λ excludes.
-    skip IsWhole (may_have (codes "features") [] full_texts (get_member (codes "features") table)) _ (λ features.
-    skip IsWhole (may_have (codes "exec_root") None maybe_text (get_member (codes "exec_root") table)) _ (λ exec_root.
-    and_ok IsWhole AreNamed (may_have (codes "substitutions") [] pairs_of (get_member (codes "substitutions") table)) _
+    skip IsWhole (texts_at (codes "excludes") table) _ (λ excludes.
+    skip IsWhole (texts_at (codes "features") table) _ (λ features.
+    skip IsWhole (exec_root_at table) _ (λ exec_root.
+    and_ok IsWhole AreNamed (pairs_at (codes "substitutions") table) _
     (whole_may AreNamed (codes "substitutions") [] pairs_of no_pairs whole_pairs (get_member (codes "substitutions") table))
     (λ pairs named.
-    skip IsWhole (may_have (codes "tools") [] named_of (get_member (codes "tools") table)) _ (λ tools.
-    skip IsWhole (may_have (codes "environment") [] named_of (get_member (codes "environment") table)) _ (λ environment.
+    skip IsWhole (named_at (codes "tools") table) _ (λ tools.
+    skip IsWhole (named_at (codes "environment") table) _ (λ environment.
     and_ok IsWhole (All HasNames) (parts_at parts (get_member (codes "parts") table)) _
     (whole_parts_at parts (get_member (codes "parts") table)) (λ inner parts_named.
     whole_end _ (record { some = full.0; full = full.1; named = named; parts_named = parts_named }))))))))))))

@@ -25,10 +25,21 @@ first_other takes (member key value more) = if takes key then first_other takes 
 abbrev pub is_key_of : List (List ℕ) → List ℕ → Bool
 is_key_of keys key = list_any (λ one. bytes_eq one key) keys
 
+-- the first key that isn't one of these
+abbrev pub other_key : List (List ℕ) → Members → Option (List ℕ)
+other_key keys members = first_other (is_key_of keys) members
+
 -- the value of a key that may be absent
 abbrev pub optional : {T : Type 0} → T → (Data → Option T) → Option Data → Option T
 optional absent read None = Some absent
 optional absent read (Some value) = read value
+
+-- the texts of a key that may be absent, and its pairs
+abbrev pub optional_texts : List ℕ → Members → Option (List (List ℕ))
+optional_texts key members = optional [] full_texts (get_member key members)
+
+abbrev pub optional_pairs : List ℕ → Members → Option (List Pair)
+optional_pairs key members = optional [] pairs_of (get_member key members)
 
 abbrev pub inner_path : Data → Option (List ℕ)
 inner_path value = text_that is_inner_path value
@@ -47,10 +58,9 @@ unless_other (Some key) part = None
 
 abbrev pub part_in : Members → Option Part
 part_in members =
-    unless_other (first_other (is_key_of part_keys) members)
+    unless_other (other_key part_keys members)
     (part_from (option_and_then inner_path (get_member (codes "path") members))
-    (optional [] full_texts (get_member (codes "features") members))
-    (optional [] pairs_of (get_member (codes "substitutions") members)))
+    (optional_texts (codes "features") members) (optional_pairs (codes "substitutions") members))
 
 abbrev pub part_of : Data → Option Part
 part_of value = option_and_then part_in (as_table value)

@@ -6,14 +6,15 @@ use Rattle.std.specs.Option.{option_and_then}
 use Rattle.std.specs.Str.{is_utf8}
 use Rattle.toml.specs.Data.{Data, Members, as_integer, get_member}
 use Rattle.toml.specs.Parse.{parse_document}
+use Rattle.tt_outside.specs.declared.request.Pair.{Pair}
 use Rattle.lit_suite.specs.declared.suite_file.Part.{Part}
 use Rattle.lit_suite.specs.declared.suite_file.Suite.{Suite}
 use Rattle.lit_suite.specs.declared.suite_file.SuiteFault.{SuiteFault}
 use Rattle.lit_suite.specs.declared.suite_file.SuiteFault.TheVariants.{NotToml, MissingKey, BadVersion, UnknownKey, BadValue}
 use Rattle.lit_suite.specs.declared.suite_file.SuiteFail.{SuiteFail}
 use Rattle.lit_suite.specs.declared.suite_file.SuiteFail.TheVariants.{Bad, NoMemory}
-use Rattle.lit_suite.specs.Parts.{first_other, is_key_of, optional, parts_of}
-use Rattle.lit_suite.specs.Values.{full_text, full_texts, name_text, named_of, pairs_of, some_full_texts}
+use Rattle.lit_suite.specs.Parts.{optional, optional_pairs, optional_texts, other_key, parts_of}
+use Rattle.lit_suite.specs.Values.{full_text, name_text, named_of, some_full_texts}
 
 -- what is read behind a good value
 abbrev pub and_read : {A B : Type 0} → Result A SuiteFault → (A → Result B SuiteFault) → Result B SuiteFault
@@ -60,18 +61,41 @@ abbrev pub parts_at : Bool → Option Data → Result (List Part) SuiteFault
 parts_at false value = Ok []
 parts_at true value = may_have (codes "parts") [] parts_of value
 
+-- the suite's name
+abbrev pub name_at : Members → Result (List ℕ) SuiteFault
+name_at members = must_have (codes "name") name_text (get_member (codes "name") members)
+
+-- how the names of its tests end
+abbrev pub suffixes_at : Members → Result (List (List ℕ)) SuiteFault
+suffixes_at members = must_have (codes "suffixes") some_full_texts (get_member (codes "suffixes") members)
+
+-- the texts of a key that may be absent, its pairs, and its named texts
+abbrev pub texts_at : List ℕ → Members → Result (List (List ℕ)) SuiteFault
+texts_at key members = good key (optional_texts key members)
+
+abbrev pub pairs_at : List ℕ → Members → Result (List Pair) SuiteFault
+pairs_at key members = good key (optional_pairs key members)
+
+abbrev pub named_at : List ℕ → Members → Result (List Pair) SuiteFault
+named_at key members = may_have key [] named_of (get_member key members)
+
+-- where the commands run, if it is said
+abbrev pub exec_root_at : Members → Result (Option (List ℕ)) SuiteFault
+exec_root_at members = may_have (codes "exec_root") None maybe_text (get_member (codes "exec_root") members)
+
+-- the keys of a suite in the order in which they are judged
 abbrev pub suite_of : Members → Result Suite SuiteFault
 suite_of members =
     and_read (version_of (get_member (codes "version") members)) (λ parts.
-    and_read (known (first_other (is_key_of (keys_of parts)) members)) (λ _.
-    and_read (must_have (codes "name") name_text (get_member (codes "name") members)) (λ name.
-    and_read (must_have (codes "suffixes") some_full_texts (get_member (codes "suffixes") members)) (λ suffixes.
-    and_read (may_have (codes "excludes") [] full_texts (get_member (codes "excludes") members)) (λ excludes.
-    and_read (may_have (codes "features") [] full_texts (get_member (codes "features") members)) (λ features.
-    and_read (may_have (codes "exec_root") None maybe_text (get_member (codes "exec_root") members)) (λ exec_root.
-    and_read (may_have (codes "substitutions") [] pairs_of (get_member (codes "substitutions") members)) (λ substitutions.
-    and_read (may_have (codes "tools") [] named_of (get_member (codes "tools") members)) (λ tools.
-    and_read (may_have (codes "environment") [] named_of (get_member (codes "environment") members)) (λ environment.
+    and_read (known (other_key (keys_of parts) members)) (λ _.
+    and_read (name_at members) (λ name.
+    and_read (suffixes_at members) (λ suffixes.
+    and_read (texts_at (codes "excludes") members) (λ excludes.
+    and_read (texts_at (codes "features") members) (λ features.
+    and_read (exec_root_at members) (λ exec_root.
+    and_read (pairs_at (codes "substitutions") members) (λ substitutions.
+    and_read (named_at (codes "tools") members) (λ tools.
+    and_read (named_at (codes "environment") members) (λ environment.
     and_read (parts_at parts (get_member (codes "parts") members)) (λ parts.
     Ok (record {
       name = name;

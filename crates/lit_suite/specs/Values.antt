@@ -72,11 +72,14 @@ pair_of value = option_and_then pair_in (as_array value)
 abbrev pub pairs_of : Data → Option (List Pair)
 pairs_of value = list_of pair_of value
 
+-- a name and its text in a table
+abbrev pub named_text : List ℕ → Data → Option Pair
+named_text name value = pair_from (if is_text name then Some name else None) (any_text value)
+
 -- a table of texts, in byte order of its keys
 abbrev pub named_in : Members → Option (List Pair)
 named_in no_members = Some []
-named_in (member name value more) =
-    onto (pair_from (if is_text name then Some name else None) (any_text value)) (named_in more)
+named_in (member name value more) = onto (named_text name value) (named_in more)
 
 abbrev pub named_of : Data → Option (List Pair)
 named_of value = option_and_then named_in (as_table value)

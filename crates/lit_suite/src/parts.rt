@@ -1,8 +1,6 @@
 //! The parts of a suite.
-ghost use Rattle.std.specs.Prelude.{◌≡◌, IfOk, []};
-ghost use Rattle.lit_suite.specs.Parts.{inner_path, is_inner_path, is_name, optional, part_in, part_of, parts_of};
-ghost use Rattle.lit_suite.specs.Values.{full_texts, pairs_of};
-ghost use Rattle.std.specs.Option.{option_map};
+ghost use Rattle.std.specs.Prelude.{◌≡◌, IfOk};
+ghost use Rattle.lit_suite.specs.Parts.{inner_path, is_inner_path, is_name, optional_pairs, optional_texts, part_in, part_of, parts_of};
 ghost use Rattle.toml.specs.View.{table_view, view};
 
 use crate::suite_file::Part;
@@ -40,27 +38,29 @@ fn inner_path(alloc: Global, value: &Value) -> Result<Option<Bytes>, NoMemory>
     }
 }
 
-/// Texts that may be absent.
+/// The texts of a key that may be absent.
 pub(crate) fn optional_texts(
     alloc: Global,
-    value: Option<&Value>,
+    table: &Table,
+    key: &str,
 ) -> Result<Option<Items<Bytes>>, NoMemory>
-    ensures { IfOk result (λ texts. texts ≡ optional [] full_texts (option_map (λ value. view value.now) value.entry)) }
+    ensures { IfOk result (λ texts. texts ≡ optional_texts key.now (table_view table.now)) }
 {
-    match value {
+    match value_at(table, key) {
         Some(value) => full_texts(alloc, value),
         None => Ok(Some(Items::new(alloc))),
     }
 }
 
-/// Pairs that may be absent.
+/// The pairs of a key that may be absent.
 pub(crate) fn optional_pairs(
     alloc: Global,
-    value: Option<&Value>,
+    table: &Table,
+    key: &str,
 ) -> Result<Option<Items<Pair>>, NoMemory>
-    ensures { IfOk result (λ pairs. pairs ≡ optional [] pairs_of (option_map (λ value. view value.now) value.entry)) }
+    ensures { IfOk result (λ pairs. pairs ≡ optional_pairs key.now (table_view table.now)) }
 {
-    match value {
+    match value_at(table, key) {
         Some(value) => pairs_of(alloc, value),
         None => Ok(Some(Items::new(alloc))),
     }
@@ -79,10 +79,10 @@ fn part_in(alloc: Global, table: &Table) -> Result<Option<Part>, NoMemory>
     let Some(path) = inner_path(alloc, path)? else {
         return Ok(None);
     };
-    let Some(features) = optional_texts(alloc, value_at(table, "features"))? else {
+    let Some(features) = optional_texts(alloc, table, "features")? else {
         return Ok(None);
     };
-    match optional_pairs(alloc, value_at(table, "substitutions"))? {
+    match optional_pairs(alloc, table, "substitutions")? {
         Some(substitutions) => Ok(Some(Part {
             path,
             features,

@@ -1,8 +1,7 @@
 //! How a suite file is read.
-ghost use Rattle.std.specs.Prelude.{◌≡◌, codes, [], None, IfOk, map};
-ghost use Rattle.lit_suite.specs.Parts.{first_other, is_key_of};
-ghost use Rattle.lit_suite.specs.Suites.{Reads, Tells, good, keys_of, known, maybe_text, may_have, must_have, parts_at, suite_file, suite_of, version_of};
-ghost use Rattle.lit_suite.specs.Values.{full_texts, name_text, named_of, pairs_of, some_full_texts};
+ghost use Rattle.std.specs.Prelude.{◌≡◌, codes, IfOk, map};
+ghost use Rattle.lit_suite.specs.Parts.{other_key};
+ghost use Rattle.lit_suite.specs.Suites.{Reads, Tells, exec_root_at, good, keys_of, known, maybe_text, name_at, named_at, pairs_at, parts_at, suffixes_at, suite_file, suite_of, texts_at, version_of};
 ghost use Rattle.toml.specs.Data.{get_member};
 ghost use Rattle.toml.specs.View.{table_view, view};
 
@@ -76,7 +75,7 @@ fn keys_of(parts: bool) -> &'static [&'static str]
 
 /// Refuses the first key that isn't one of a suite.
 fn check_keys(alloc: Global, table: &Table, parts: bool) -> Result<(), SuiteFail>
-    ensures { Reads result (known (first_other (is_key_of (keys_of parts)) (table_view table.now))) }
+    ensures { Reads result (known (other_key (keys_of parts) (table_view table.now))) }
 {
     match first_other(alloc, keys_of(parts), table)? {
         Some(key) => Err(SuiteFail::Bad(SuiteFault::UnknownKey(key))),
@@ -86,7 +85,7 @@ fn check_keys(alloc: Global, table: &Table, parts: bool) -> Result<(), SuiteFail
 
 /// The suite's name.
 fn name_at(alloc: Global, table: &Table) -> Result<Bytes, SuiteFail>
-    ensures { Reads result (must_have (codes "name") name_text (get_member (codes "name") (table_view table.now))) }
+    ensures { Reads result (name_at (table_view table.now)) }
 {
     match value_at(table, "name") {
         Some(value) => good(alloc, "name", name_text(alloc, value)?),
@@ -96,8 +95,7 @@ fn name_at(alloc: Global, table: &Table) -> Result<Bytes, SuiteFail>
 
 /// How the names of its tests end.
 fn suffixes_at(alloc: Global, table: &Table) -> Result<Items<Bytes>, SuiteFail>
-    ensures { Reads result
-        (must_have (codes "suffixes") some_full_texts (get_member (codes "suffixes") (table_view table.now))) }
+    ensures { Reads result (suffixes_at (table_view table.now)) }
 {
     match value_at(table, "suffixes") {
         Some(value) => good(alloc, "suffixes", some_full_texts(alloc, value)?),
@@ -107,23 +105,23 @@ fn suffixes_at(alloc: Global, table: &Table) -> Result<Items<Bytes>, SuiteFail>
 
 /// The texts of a key that may be absent.
 fn texts_at(alloc: Global, table: &Table, key: &str) -> Result<Items<Bytes>, SuiteFail>
-    ensures { Reads result (may_have key.now [] full_texts (get_member key.now (table_view table.now))) }
+    ensures { Reads result (texts_at key.now (table_view table.now)) }
 {
-    let read = optional_texts(alloc, value_at(table, key))?;
+    let read = optional_texts(alloc, table, key)?;
     good(alloc, key, read)
 }
 
 /// The pairs of a key that may be absent.
 fn pairs_at(alloc: Global, table: &Table, key: &str) -> Result<Items<Pair>, SuiteFail>
-    ensures { Reads result (may_have key.now [] pairs_of (get_member key.now (table_view table.now))) }
+    ensures { Reads result (pairs_at key.now (table_view table.now)) }
 {
-    let read = optional_pairs(alloc, value_at(table, key))?;
+    let read = optional_pairs(alloc, table, key)?;
     good(alloc, key, read)
 }
 
 /// The named texts of a key that may be absent.
 fn named_at(alloc: Global, table: &Table, key: &str) -> Result<Items<Pair>, SuiteFail>
-    ensures { Reads result (may_have key.now [] named_of (get_member key.now (table_view table.now))) }
+    ensures { Reads result (named_at key.now (table_view table.now)) }
 {
     match value_at(table, key) {
         Some(value) => good(alloc, key, named_of(alloc, value)?),
@@ -143,8 +141,7 @@ fn maybe_text(alloc: Global, value: &Value) -> Result<Option<Option<Bytes>>, NoM
 
 /// Where the commands run, if it is said.
 fn exec_root_at(alloc: Global, table: &Table) -> Result<Option<Bytes>, SuiteFail>
-    ensures { Reads result
-        (may_have (codes "exec_root") None maybe_text (get_member (codes "exec_root") (table_view table.now))) }
+    ensures { Reads result (exec_root_at (table_view table.now)) }
 {
     match value_at(table, "exec_root") {
         Some(value) => good(alloc, "exec_root", maybe_text(alloc, value)?),

@@ -1,7 +1,7 @@
 //! The keys of a table.
 ghost use Rattle.std.specs.Prelude.{◌≡◌, IfOk, map};
 ghost use Rattle.std.specs.Option.{option_map};
-ghost use Rattle.lit_suite.specs.Parts.{first_other, is_key_of};
+ghost use Rattle.lit_suite.specs.Parts.{is_key_of, other_key};
 ghost use Rattle.toml.specs.Data.{get_member};
 ghost use Rattle.toml.specs.View.{table_view, view};
 
@@ -29,7 +29,7 @@ pub(crate) fn first_other(
     keys: &[&str],
     table: &Table,
 ) -> Result<Option<Bytes>, NoMemory>
-    ensures { IfOk result (λ key. key ≡ first_other (is_key_of (map (λ one. one.now) keys.now)) (table_view table.now)) }
+    ensures { IfOk result (λ key. key ≡ other_key (map (λ one. one.now) keys.now) (table_view table.now)) }
 {
     for (key, _) in table {
         if !is_key_of(keys, key.as_str()) {

@@ -1,6 +1,6 @@
 //! The values of a suite file. None is a value that isn't good.
-ghost use Rattle.std.specs.Prelude.{◌≡◌, IfOk, None, Some, if◌then◌else◌};
-ghost use Rattle.lit_suite.specs.Values.{any_text, full_text, full_texts, is_break, is_text, name_text, named_of, pair_from, pair_of, pairs_of, some_full_texts};
+ghost use Rattle.std.specs.Prelude.{◌≡◌, IfOk, Some};
+ghost use Rattle.lit_suite.specs.Values.{any_text, full_text, full_texts, is_break, is_text, name_text, named_of, named_text, pair_of, pairs_of, some_full_texts};
 ghost use Rattle.toml.specs.View.{view};
 
 use std::alloc::Global;
@@ -140,7 +140,7 @@ pub(crate) fn pairs_of(alloc: Global, value: &Value) -> Result<Option<Items<Pair
 
 /// A name and its text in a table.
 fn named_text(alloc: Global, name: &str, value: &Value) -> Result<Option<Pair>, NoMemory>
-    ensures { IfOk result (λ pair. pair ≡ pair_from (if is_text name.now then Some name.now else None) (any_text (view value.now))) }
+    ensures { IfOk result (λ pair. pair ≡ named_text name.now (view value.now)) }
 {
     if !is_text(name.as_bytes()) {
         return Ok(None);

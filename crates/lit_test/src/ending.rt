@@ -1,10 +1,7 @@
 //! How a test ended.
 ghost use Rattle.std.specs.Prelude.{◌≡◌, IfOk};
-ghost use Rattle.test_attempts.specs.Attempts.{seen};
-ghost use Rattle.test_course.specs.Course.{shown};
-ghost use Rattle.shell_play.specs.PlayOf.{course_of as left_of};
-ghost use Rattle.lit_test.specs.Run.{ending_stopped};
-ghost use Rattle.lit_test.specs.Trial.{cause_of, failed, last_cause, not_supported, passed, resolved, shown_text, shows, unresolved_by};
+ghost use Rattle.lit_test.specs.Run.{ending_left, shown_by};
+ghost use Rattle.lit_test.specs.Trial.{cause_of, failed, last_cause, not_supported, passed, resolved, shown_text, unresolved_by};
 
 use crate::outcome::Ending;
 use crate::text::Text;
@@ -98,8 +95,7 @@ fn resolved(kept: u64, text: Text, outcome: Outcome) -> Result<Ending, NoMemory>
 
 /// What is shown of a test's attempts.
 fn shown_text(alloc: Global, runs: &Runs, done: &Finished) -> Result<Text, NoMemory>
-    ensures { IfOk result (λ text. text
-        ≡ shown_text (shows runs.now (seen done.now.attempts (shown (left_of done.now.last))))) }
+    ensures { IfOk result (λ text. text ≡ shown_text (shown_by runs.now done.now)) }
 {
     let mut text = Text::new(alloc);
     add_seen(
@@ -120,9 +116,7 @@ pub(crate) fn ending_stopped(
     done: &Finished,
     last: Cause,
 ) -> Result<Ending, NoMemory>
-    ensures { IfOk result (λ ending. ending
-        ≡ ending_stopped done.now.kept last
-        (shows runs.now (seen done.now.attempts (shown (left_of done.now.last)))) done.now.stop) }
+    ensures { IfOk result (λ ending. ending ≡ ending_left runs.now done.now last) }
 {
     let text = shown_text(alloc, runs, done)?;
     match done.stop {

@@ -1,11 +1,11 @@
 //! A test, asked request by request.
 ghost use Rattle.std.specs.Prelude.{◌≡◌, ◌≢◌, ◌≤◌, ◌+◌, ◌^◌, [], IfOk, OnOk, length};
-ghost use Rattle.tt_outside.specs.Gave.{SameGave, last_of};
+ghost use Rattle.tt_outside.specs.Gave.{SameGave};
 ghost use Rattle.test_course.specs.Bytes.{AreLimited};
-ghost use Rattle.test_course.specs.Played.{CountsAsked, CountsFaults};
+ghost use Rattle.test_attempts.specs.Hands.{Asked, Failed};
 ghost use Rattle.test_plan.specs.Plan.{IsBounded};
 ghost use Rattle.test_plan.specs.declared.plan.Plan.TheVariants.{Run};
-ghost use Rattle.lit_test.specs.Run.{EndsPlan, EndsTest};
+ghost use Rattle.lit_test.specs.Run.{EndsAs, EndsBy};
 
 use crate::ending::{ending_stopped, last_cause, not_supported, unresolved_by};
 use crate::outcome::Ending;
@@ -30,11 +30,10 @@ fn by_runs<R: Runner>(
     requires begun { R.begun hand.old ≢ [] }
     requires ready { R.ready hand.old }
     requires kept { kept ≤ 2 ^ 25 }
-    ensures ends { IfOk result (λ ending. EndsPlan (R.gave hand.old) (last_of 0 (R.begun hand.old)) test.now (Run runs.now)
-        entries.old entries.new kept ending) }
+    ensures ends { IfOk result (EndsBy R.Runner hand.old test.now (Run runs.now) entries.old entries.new kept) }
     ensures limited { OnOk result (AreLimited entries.old → AreLimited entries.new) }
-    ensures asked { OnOk result (CountsAsked (R.asked hand.old) (R.asked hand.new) entries.old entries.new) }
-    ensures faults { OnOk result (CountsFaults (R.faults hand.old) (R.faults hand.new) entries.old entries.new) }
+    ensures asked { OnOk result (Asked R.Runner hand.old hand.new entries.old entries.new) }
+    ensures faults { OnOk result (Failed R.Runner hand.old hand.new entries.old entries.new) }
     ensures later { R.faults hand.old ≤ R.faults hand.new }
     ensures begun { R.begun hand.new ≡ R.begun hand.old }
     ensures room { R.rooms hand.new ≡ R.rooms hand.old }
@@ -68,11 +67,10 @@ fn by_plan<R: Runner>(
     requires begun { R.begun hand.old ≢ [] }
     requires ready { R.ready hand.old }
     requires kept { kept ≤ 2 ^ 25 }
-    ensures ends { IfOk result (λ ending. EndsPlan (R.gave hand.old) (last_of 0 (R.begun hand.old)) test.now plan.now
-        entries.old entries.new kept ending) }
+    ensures ends { IfOk result (EndsBy R.Runner hand.old test.now plan.now entries.old entries.new kept) }
     ensures limited { OnOk result (AreLimited entries.old → AreLimited entries.new) }
-    ensures asked { OnOk result (CountsAsked (R.asked hand.old) (R.asked hand.new) entries.old entries.new) }
-    ensures faults { OnOk result (CountsFaults (R.faults hand.old) (R.faults hand.new) entries.old entries.new) }
+    ensures asked { OnOk result (Asked R.Runner hand.old hand.new entries.old entries.new) }
+    ensures faults { OnOk result (Failed R.Runner hand.old hand.new entries.old entries.new) }
     ensures later { R.faults hand.old ≤ R.faults hand.new }
     ensures begun { R.begun hand.new ≡ R.begun hand.old }
     ensures room { R.rooms hand.new ≡ R.rooms hand.old }
@@ -105,11 +103,10 @@ pub(crate) fn run_begun<R: Runner>(
     requires none { entries.old ≡ [] }
     requires begun { R.begun hand.old ≢ [] }
     requires ready { R.ready hand.old }
-    ensures ends { IfOk result (λ ending. EndsTest (R.gave hand.old) (last_of 0 (R.begun hand.old)) test.now entries.new
-        ending) }
+    ensures ends { IfOk result (EndsAs R.Runner hand.old test.now entries.new) }
     ensures limited { OnOk result (AreLimited entries.old → AreLimited entries.new) }
-    ensures asked { OnOk result (CountsAsked (R.asked hand.old) (R.asked hand.new) [] entries.new) }
-    ensures faults { OnOk result (CountsFaults (R.faults hand.old) (R.faults hand.new) [] entries.new) }
+    ensures asked { OnOk result (Asked R.Runner hand.old hand.new [] entries.new) }
+    ensures faults { OnOk result (Failed R.Runner hand.old hand.new [] entries.new) }
     ensures later { R.faults hand.old ≤ R.faults hand.new }
     ensures begun { R.begun hand.new ≡ R.begun hand.old }
     ensures room { R.rooms hand.new ≡ R.rooms hand.old }

@@ -1,14 +1,26 @@
 //! Check files that are made from outputs. A row is a line with fields between `~`: an old check file, an output, a lead, and the check file
 //! that is due, or `bad lead`, `line N` or `large`.
 use crate::fields::field_of;
-use make_checks::{MakeFail, MakeFault, make_checks, refresh};
+use make_checks::{MadeFile, MakeFail, MakeFault, make_checks, put_file, refresh};
 use std::alloc::Global;
 use tt_base::{Bytes, NoMemory};
+use tt_pieces::{Gathered, Pen};
+
+/// The bytes of a check file.
+fn bytes_of(alloc: Global, file: &MadeFile) -> Result<Bytes, NoMemory> {
+    let mut pen = Pen::new(alloc)?;
+    let mut sink = Gathered::new(alloc);
+    put_file(&mut pen, file, &mut sink);
+    match pen.finish(&mut sink) {
+        Ok(()) => Ok(sink.into_bytes()),
+        Err(_) => Err(NoMemory),
+    }
+}
 
 /// What stands for an answer in a row.
-fn told_of(alloc: Global, made: Result<Bytes, MakeFail>) -> Result<Bytes, NoMemory> {
+fn told_of(alloc: Global, made: Result<MadeFile, MakeFail>) -> Result<Bytes, NoMemory> {
     match made {
-        Ok(text) => Ok(text),
+        Ok(file) => bytes_of(alloc, &file),
         Err(MakeFail::Bad(MakeFault::BadLead)) => Bytes::from_slice(alloc, b"bad lead"),
         Err(MakeFail::Bad(MakeFault::LineTooLong(number))) => {
             let mut told = Bytes::from_slice(alloc, b"line ")?;
@@ -40,7 +52,7 @@ fn is_due(alloc: Global, row: &str) -> Result<bool, NoMemory> {
     if old.len() > 1 << 20 || output.len() > 1 << 20 {
         return Ok(false);
     }
-    let made = refresh(alloc, old.as_slice(), output.as_slice(), lead.as_slice());
+    let made = refresh(alloc, old.as_slice(), output, lead.as_slice());
     Ok(told_of(alloc, made)?.as_slice() == field_of(alloc, due)?.as_slice())
 }
 
@@ -88,10 +100,11 @@ fn is_made_of(alloc: Global, count: usize, byte: u8, due: &str) -> Result<bool, 
     if output.len() > 1 << 20 {
         return Ok(false);
     }
-    match make_checks(alloc, output.as_slice(), b"") {
-        Ok(text) => Ok(due == "made" && text.len() > count),
-        Err(fail) => Ok(told_of(alloc, Err(fail))?.as_slice() == due.as_bytes()),
+    let told = told_of(alloc, make_checks(alloc, output, b""))?;
+    if due == "made" {
+        return Ok(told.len() > count);
     }
+    Ok(told.as_slice() == due.as_bytes())
 }
 
 #[test]

@@ -1,8 +1,5 @@
 -- Texts that grow piece by piece.
-use Rattle.std.proofs.Common.{◌≡◌, ℕ, Bor, List, [], ◌++◌, Option, length, ap, arith, length-append}
-use Rattle.std.specs.List.{slice_split}
-use Rattle.std.specs.Option.{option_map_or}
-use Rattle.tt_base.specs.Place.{is_newline}
+use Rattle.std.proofs.Common.{◌≡◌, ℕ, List, ◌++◌, length, ap, arith, length-append}
 use Rattle.make_checks.specs.Adding.{IsRefused}
 use Rattle.make_checks.specs.declared.fault.MakeFail.{MakeFail}
 use Rattle.make_checks.specs.declared.fault.MakeFail.TheVariants.{Bad, NoMemory}
@@ -11,7 +8,3 @@ use Rattle.make_checks.specs.declared.fault.MakeFail.TheVariants.{Bad, NoMemory}
 pub refused : (part more whole : List ℕ) (fail : MakeFail) → part ++ more ≡ whole → IsRefused part fail → IsRefused whole fail
 refused part more whole (Bad fault) is h = (h.0, omega (arith, h.1, length-append part more, ap length is))
 refused part more whole NoMemory is h = tt
-
--- the lines that are left behind one
-abbrev pub left : Option (Bor (List ℕ)) → List (List ℕ)
-left behind = option_map_or (λ rest. slice_split is_newline rest.now) behind []

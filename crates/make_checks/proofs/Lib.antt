@@ -1,4 +1,5 @@
 pub mod AddLemmas
+pub mod DirectiveLemmas
 pub mod ExactLemmas
 pub mod KeptLemmas
 pub mod LineLemmas

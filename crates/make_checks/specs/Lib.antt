@@ -1,2 +1,4 @@
 pub mod Adding
+pub mod Directives
+pub mod Keeping
 pub mod Made

@@ -2,7 +2,9 @@
 -- Own rule: a bad lead is told before a line that is too long, and that before a file that would be too large. What the file is stands below,
 -- where it is proved to accept its output alone.
 use Rattle.std.specs.Prelude.{ℕ, ◌==◌, ◌||◌, nat_lt, Bool, if◌then◌else◌, List, [], ◌∷◌, ◌++◌, codes, length, map, Option, None, Some, Result, Ok, Err}
+use Rattle.std.specs.Borrow.{Bor}
 use Rattle.std.specs.List.{slice_split}
+use Rattle.std.specs.Option.{option_map_or}
 use Rattle.tt_base.specs.Place.{is_newline}
 use Rattle.file_laws.specs.Lead.{is_bad}
 use Rattle.file_laws.specs.Made.{canonical_lines, long_line, made_file, next_of}
@@ -20,15 +22,14 @@ abbrev pub trimmed : List ℕ → List ℕ
 trimmed [] = []
 trimmed (byte ∷ rest) = before_trimmed byte (trimmed rest)
 
--- a directive with a line of the output as its body, or as it is written
-abbrev pub asked_by : List ℕ → Option (List ℕ) → List ℕ
-asked_by directive (Some line) = directive ++ body_of line
-asked_by directive None = directive
-
 -- the lines of a text that doesn't end in a newline, of which the empty one has none
 abbrev pub lines_in : List ℕ → List (List ℕ)
 lines_in [] = []
 lines_in (byte ∷ text) = slice_split is_newline (byte ∷ text)
+
+-- the lines behind one
+abbrev pub lines_behind : Option (Bor (List ℕ)) → List (List ℕ)
+lines_behind rest = option_map_or (λ lines. slice_split is_newline lines.now) rest []
 
 -- the directives that ask for lines, of which the first stands in front of all
 abbrev pub asking : List (List ℕ) → List (List ℕ)

@@ -1,24 +1,19 @@
 //! The lines of a text, and those of an output that count.
-ghost use Rattle.std.specs.Prelude.{◌≡◌, ◌≤◌, ◌<◌, ◌^◌, ◌∷◌, [], IfSome, MatchOption, length};
+ghost use Rattle.std.specs.Prelude.{◌≡◌, ◌≤◌, ◌<◌, ◌^◌, ◌∷◌, IfSome, length};
 ghost use Rattle.std.specs.List.{position_from, slice_split};
-ghost use Rattle.std.specs.Option.{option_map_or};
 ghost use Rattle.tt_base.specs.Place.{is_newline};
 ghost use Rattle.file_laws.specs.Made.{is_too_long};
-ghost use Rattle.make_checks.specs.Made.{trimmed};
+ghost use Rattle.make_checks.specs.Made.{lines_behind, trimmed};
 
-use crate::quoting::quoted_length;
+use crate::room::room_behind_body;
 use memchr::memchr;
 use pattern_parse::MAX_BODY;
 
-/// How many bytes the two anchors of a body have.
-const ANCHORS: usize = 10;
-
 /// The first line of a text, and what stands behind its newline, if it has one.
 pub(crate) fn first_line(text: &[u8]) -> (&[u8], Option<&[u8]>)
-    ensures split { slice_split is_newline text.now
-        ≡ result.0.now ∷ option_map_or (λ rest. slice_split is_newline rest.now) result.1 [] }
+    ensures split { slice_split is_newline text.now ≡ result.0.now ∷ lines_behind result.1 }
     ensures within { length result.0.now ≤ length text.now }
-    ensures rest { MatchOption result.1 (result.0.now ≡ text.now) (λ rest. length rest.now < length text.now) }
+    ensures rest { IfSome result.1 (λ rest. length rest.now < length text.now) }
 {
     match memchr(b'\n', text) {
         Some(at) => (&text[..at], Some(&text[at + 1..])),
@@ -42,13 +37,20 @@ pub(crate) fn trimmed(text: &[u8]) -> &[u8]
     rest
 }
 
+/// The length of a line whose body is within the limit, whatever stands in it: at most seven bytes stand for one.
+const SHORT: usize = 9360;
+
 /// Whether the body of a line would be too long for a directive.
-#[tactic(auto, using(crate::proofs::QuoteLemmas::quote_small))]
 fn is_too_long(line: &[u8]) -> bool
-    requires { length line.now ≤ 2 ^ 30 }
     ensures { result ≡ is_too_long line.now }
 {
-    quoted_length(line) + ANCHORS > MAX_BODY
+    if line.len() <= SHORT {
+        return false;
+    }
+    match room_behind_body(MAX_BODY, line) {
+        Some(_) => false,
+        None => true,
+    }
 }
 
 /// The number of the first line whose body would be too long, from 1.

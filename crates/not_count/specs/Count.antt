@@ -23,6 +23,10 @@ OutcomeFrom input limit (Ok wanted) outcome =
     (counted : Counted) × IsCounted input limit counted × (outcome ≡ Compared wanted counted)
 OutcomeFrom input limit (Err refusal) outcome = SourceRests input × (outcome ≡ Refused refusal)
 
+-- the same of the words themselves, within the limit of the tool
+abbrev pub OutcomeOf : List (List ℕ) → Source → Outcome → Type 0
+OutcomeOf words input outcome = OutcomeFrom input (2 ^ 40) (asked words) outcome
+
 -- a faulty word is one of so many words
 abbrev pub IsToldOf : ℕ → Outcome → Type 0
 IsToldOf count (Refused refusal) = IsTold count refusal
@@ -65,10 +69,29 @@ abbrev pub status_of : Outcome → ℕ
 status_of (Refused refusal) = 2
 status_of (Compared wanted counted) = compared_status wanted counted
 
+-- ---- that each is told, with its status
+
+abbrev pub FaultTold : List ℕ → WordFault → ℕ → Stream → Type 0
+FaultTold word fault result err = Answered (faulty_word_text word fault) 2 result err
+
+abbrev pub RefusalTold : List (List ℕ) → Refusal → ℕ → Stream → Type 0
+RefusalTold words refusal result err = Answered (refusal_text words refusal) 2 result err
+
+abbrev pub ExpectedTold : ℕ → ℕ → ℕ → Stream → Type 0
+ExpectedTold wanted lines result err = Answered (expected_text wanted lines) 1 result err
+
+abbrev pub LinesTold : ℕ → ℕ → ℕ → Stream → Type 0
+LinesTold wanted lines result err = Answered (lines_text wanted lines) (lines_status wanted lines) result err
+
+abbrev pub ComparedTold : ℕ → Counted → ℕ → Stream → Type 0
+ComparedTold wanted counted result err = Answered (compared_text wanted counted) (compared_status wanted counted) result err
+
+abbrev pub OutcomeTold : List (List ℕ) → Outcome → ℕ → Stream → Type 0
+OutcomeTold words outcome result err = Answered (text_of words outcome) (status_of outcome) result err
+
 -- ---- a run
 
 -- what words and an input come to is told, and gives the status
 abbrev pub Counts : List (List ℕ) → Source → ℕ → Stream → Type 0
 Counts words input result err =
-    (outcome : Outcome) × OutcomeFrom input (2 ^ 40) (asked words) outcome
-    × Answered (text_of words outcome) (status_of outcome) result err
+    (outcome : Outcome) × OutcomeOf words input outcome × OutcomeTold words outcome result err

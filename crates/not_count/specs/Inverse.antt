@@ -1,6 +1,7 @@
 -- What `not` makes of the end of a program. After the tool of that name in LLVM's tree: it turns success and failure round,
 -- and with `--crash` it asks for an end by a signal. Own rule: the texts, the limits and the statuses 2 and 3.
-use Rattle.std.specs.Prelude.{◌≡◌, ◌⊎◌, ⊤, ℕ, ◌^◌, ◌<◌, ◌≤◌, ◌==◌, Bool, true, false, if◌then◌else◌, List, [], ◌∷◌, ◌++◌, drop, codes, slice_index_or, Result, Ok, Err}
+use Rattle.std.specs.Prelude.{◌≡◌, ◌⊎◌, ⊤, ℕ, ◌^◌, ◌<◌, ◌≤◌, ◌==◌, Bool, true, false, if◌then◌else◌, List, [], ◌∷◌, ◌++◌, drop, codes, slice_index_or, Result, Ok, Err, MatchResult}
+use Rattle.tt_base.specs.declared.memory.NoMemory.{NoMemory}
 use Rattle.opt_words.specs.Fault.{text_before, text_behind, word_of}
 use Rattle.tt_outside.specs.Faults.{Rose}
 use Rattle.tt_outside.specs.Gave.{Gave}
@@ -78,6 +79,10 @@ HandsOf old new (inverses.Replied command reply) = AskedOnce old new reply
 HandsOf old new (inverses.Refused refusal) = new ≡ old
 HandsOf old new inverses.TooLarge = new ≡ old
 HandsOf old new inverses.Unread = new ≡ old
+
+-- what is so of the hands where a call answered; where it lacked memory there is at most one more
+abbrev pub LeavesHands : {A : Type 0} → (List Left → List Left → A → Type 0) → List Left → List Left → Result A NoMemory → Type 0
+LeavesHands Hands old new result = MatchResult result (Hands old new) (λ fault. AtMostOneHand old new)
 
 -- ---- what is told of it, and the status
 

@@ -1,10 +1,11 @@
 //! The top call of `count`.
 ghost use Rattle.std.specs.Prelude.{◌≡◌, ◌⊎◌, ◌≤◌, ◌+◌, ◌^◌, length};
 ghost use Rattle.tt_outside.specs.Transfer.{TakesAtMost};
-ghost use Rattle.tt_run.specs.Run.{Answered, Failed, source_of, stream_of};
+ghost use Rattle.tt_run.specs.Run.{Failed, source_of, stream_of};
 ghost use Rattle.opt_words.specs.Step.{texts};
-ghost use Rattle.not_count.specs.Asked.{IsTold, asked};
-ghost use Rattle.not_count.specs.Count.{Counts, IsToldOf, OutcomeFrom, compared_status, compared_text, expected_text, faulty_word_text, lines_status, lines_text, refusal_text, status_of, text_of};
+ghost use Rattle.not_count.specs.Asked.{IsTold};
+ghost use Rattle.not_count.specs.Count.{Counts, IsToldOf, OutcomeOf};
+ghost use Rattle.not_count.specs.Count.{ComparedTold, ExpectedTold, FaultTold, LinesTold, OutcomeTold, RefusalTold};
 
 use crate::asked::{Refusal, asked};
 use crate::lines::{Counted, count_lines};
@@ -39,7 +40,7 @@ pub fn count_run<I: Source, E: Sink>(words: &[String], input: &mut I, err: &mut 
 
 /// What the words and the input come to.
 fn outcome_from<I: Source>(words: &[String], input: &mut I) -> Outcome
-    ensures value { OutcomeFrom (source_of I.Source input.old input.new) (2 ^ 40) (asked (texts words.now)) result }
+    ensures value { OutcomeOf (texts words.now) (source_of I.Source input.old input.new) result }
     ensures told { IsToldOf (length words.now) result }
     ensures taken { TakesAtMost (I.left input.old) (I.left input.new) (2 ^ 40 + 1) }
 {
@@ -52,8 +53,7 @@ fn outcome_from<I: Source>(words: &[String], input: &mut I) -> Outcome
 /// Tells the outcome, and answers its status.
 fn answer<E: Sink>(words: &[String], outcome: Outcome, err: &mut E) -> u8
     requires { IsToldOf (length words.now) outcome }
-    ensures answered { Answered (text_of (texts words.now) outcome) (status_of outcome) result
-        (stream_of E.Sink err.old err.new) }
+    ensures answered { OutcomeTold (texts words.now) outcome result (stream_of E.Sink err.old err.new) }
     ensures range { result ≤ 3 }
 {
     match outcome {
@@ -65,8 +65,7 @@ fn answer<E: Sink>(words: &[String], outcome: Outcome, err: &mut E) -> u8
 /// Tells why the words are refused.
 fn refuse<E: Sink>(words: &[String], refusal: Refusal, err: &mut E) -> u8
     requires { IsTold (length words.now) refusal }
-    ensures answered { Answered (refusal_text (texts words.now) refusal) 2 result
-        (stream_of E.Sink err.old err.new) }
+    ensures answered { RefusalTold (texts words.now) refusal result (stream_of E.Sink err.old err.new) }
     ensures range { result ≤ 3 }
 {
     match refusal {
@@ -77,8 +76,7 @@ fn refuse<E: Sink>(words: &[String], refusal: Refusal, err: &mut E) -> u8
 
 /// Tells what is wrong with a word.
 fn tell_fault<E: Sink>(word: &[u8], fault: WordFault, err: &mut E) -> u8
-    ensures answered { Answered (faulty_word_text word.now fault) 2 result
-        (stream_of E.Sink err.old err.new) }
+    ensures answered { FaultTold word.now fault result (stream_of E.Sink err.old err.new) }
     ensures range { result ≤ 3 }
 {
     answer_parts(
@@ -96,8 +94,7 @@ fn tell_fault<E: Sink>(word: &[u8], fault: WordFault, err: &mut E) -> u8
 
 /// Tells how the lines compare with the number that was asked for.
 fn compare<E: Sink>(wanted: u64, counted: Counted, err: &mut E) -> u8
-    ensures answered { Answered (compared_text wanted counted) (compared_status wanted counted) result
-        (stream_of E.Sink err.old err.new) }
+    ensures answered { ComparedTold wanted counted result (stream_of E.Sink err.old err.new) }
     ensures range { result ≤ 3 }
 {
     match counted {
@@ -108,8 +105,7 @@ fn compare<E: Sink>(wanted: u64, counted: Counted, err: &mut E) -> u8
 }
 
 fn compare_lines<E: Sink>(wanted: u64, lines: u64, err: &mut E) -> u8
-    ensures answered { Answered (lines_text wanted lines) (lines_status wanted lines) result
-        (stream_of E.Sink err.old err.new) }
+    ensures answered { LinesTold wanted lines result (stream_of E.Sink err.old err.new) }
     ensures range { result ≤ 3 }
 {
     if lines == wanted {
@@ -121,8 +117,7 @@ fn compare_lines<E: Sink>(wanted: u64, lines: u64, err: &mut E) -> u8
 
 /// Tells the number of lines that was asked for, and the one that was found.
 fn tell_lines<E: Sink>(wanted: u64, lines: u64, err: &mut E) -> u8
-    ensures answered { Answered (expected_text wanted lines) 1 result
-        (stream_of E.Sink err.old err.new) }
+    ensures answered { ExpectedTold wanted lines result (stream_of E.Sink err.old err.new) }
     ensures range { result ≤ 3 }
 {
     let (mut due, mut found) = (Buffer::new(), Buffer::new());

@@ -1,12 +1,12 @@
 //! The top call of `not`.
-ghost use Rattle.std.specs.Prelude.{◌≡◌, ◌≢◌, ◌⊎◌, ◌≤◌, ◌<◌, ◌+◌, ◌^◌, [], IfOk, MatchResult, codes, length, true};
+ghost use Rattle.std.specs.Prelude.{◌≡◌, ◌≢◌, ◌⊎◌, ◌≤◌, ◌<◌, ◌+◌, ◌^◌, [], IfOk, codes, length, true};
 ghost use Rattle.tt_outside.specs.Fits.{fits};
 ghost use Rattle.tt_outside.specs.Gave.{SameGave};
 ghost use Rattle.tt_outside.specs.Transfer.{TakesAtMost};
 ghost use Rattle.tt_run.specs.Run.{Failed, LacksMemory, crew_of, source_of, stream_of};
 ghost use Rattle.opt_words.specs.Step.{texts};
 ghost use Rattle.not_count.specs.Command.{IsToldWord, command_in};
-ghost use Rattle.not_count.specs.Inverse.{AskedOnce, AtMostOneHand, HandFailed, HandsOf, Inverts, IsToldInverse, OutcomeFrom, Replied, inverse_answer, no_command_text, reply_answer, status_at, telling, word_text};
+ghost use Rattle.not_count.specs.Inverse.{AskedOnce, AtMostOneHand, HandFailed, HandsOf, Inverts, IsToldInverse, LeavesHands, OutcomeFrom, Replied, inverse_answer, no_command_text, reply_answer, status_at, telling, word_text};
 
 use crate::command::{Command, NoCommand, bytes_of, command_in};
 use std::alloc::Global;
@@ -76,8 +76,7 @@ fn outcome_from<C: Crew, I: Source>(
     requires { C.ready crew.old }
     ensures value { IfOk result (OutcomeFrom (source_of I.Source input.old input.new) (C.gave crew.old) (2 ^ 26)
         (texts words.now) (command_in (texts words.now))) }
-    ensures hands { MatchResult result (HandsOf (C.hands crew.old) (C.hands crew.new))
-        (λ fault. AtMostOneHand (C.hands crew.old) (C.hands crew.new)) }
+    ensures hands { LeavesHands HandsOf (C.hands crew.old) (C.hands crew.new) result }
     ensures told { IfOk result (IsToldInverse (length words.now)) }
     ensures taken { TakesAtMost (I.left input.old) (I.left input.new) (2 ^ 26 + 1) }
     ensures seats { C.seats crew.new ≡ C.seats crew.old }
@@ -109,8 +108,7 @@ fn replied<C: Crew>(
     requires ready { C.ready crew.old }
     requires within { command.first < length words.now }
     ensures value { IfOk result (Replied (C.gave crew.old) (2 ^ 26) (texts words.now) command input) }
-    ensures hands { MatchResult result (HandsOf (C.hands crew.old) (C.hands crew.new))
-        (λ fault. AtMostOneHand (C.hands crew.old) (C.hands crew.new)) }
+    ensures hands { LeavesHands HandsOf (C.hands crew.old) (C.hands crew.new) result }
     ensures told { IfOk result (IsToldInverse (length words.now)) }
     ensures seats { C.seats crew.new ≡ C.seats crew.old }
     ensures gave { SameGave (C.gave crew.new) (C.gave crew.old) }
@@ -132,8 +130,7 @@ fn ask_once<C: Crew>(alloc: Global, crew: &mut C, request: &Request) -> Result<R
     requires { C.ready crew.old }
     ensures given { IfOk result (λ reply. C.gave crew.old 0 [] request.now reply) }
     ensures fit { IfOk result (λ reply. fits request.now reply ≡ true) }
-    ensures hands { MatchResult result (AskedOnce (C.hands crew.old) (C.hands crew.new))
-        (λ fault. AtMostOneHand (C.hands crew.old) (C.hands crew.new)) }
+    ensures hands { LeavesHands AskedOnce (C.hands crew.old) (C.hands crew.new) result }
     ensures seats { C.seats crew.new ≡ C.seats crew.old }
     ensures gave { SameGave (C.gave crew.new) (C.gave crew.old) }
     ensures ready { C.ready crew.new }

@@ -128,13 +128,17 @@ abbrev pub with_expr : Option Format → Option Named → Found → Reading
 with_expr format defines found =
     record { format = format; defines = defines; uses = found.uses; expr = expr_of found.outcome }
 
+-- what is found of a text that begins at an offset, read as an expression
+abbrev pub found_in : ℕ → List ℕ → Found
+found_in at text = reading_from MAX_WEIGHT (wants []) (tokens_from true at 0 text)
+
 -- the expression of a block at an offset, behind an `==` or not
 abbrev pub expr_from : Option Format → Option Named → Bool → ℕ → List ℕ → Reading
 expr_from format defines equals at text =
     if blanks text == length text then
     (if equals then refused format defines (record { at = at + length text; kind = BadExpr })
     else record { format = format; defines = defines; uses = []; expr = Ok None })
-    else with_expr format defines (reading_from MAX_WEIGHT (wants []) (tokens_from true at 0 text))
+    else with_expr format defines (found_in at text)
 
 -- what is read behind the format, and behind the name that is defined
 abbrev pub behind_name : Option Format → Option Named → ℕ → List ℕ → Reading

@@ -1,5 +1,5 @@
 -- The definitions' values that the code's values stand for.
-use Rattle.std.specs.Prelude.{◌≡◌, ℕ, List, map, reverse, Option, Result, Ok, Err}
+use Rattle.std.specs.Prelude.{◌≡◌, ℕ, List, map, reverse, Option, Result, Ok, Err, IfOk}
 use Rattle.std.specs.Option.{option_map}
 use Rattle.num_base.specs.Term.{Term, term_of}
 use Rattle.num_exprs.specs.Token.{Token, value, operator, named, open_paren, close_paren, comma}
@@ -50,6 +50,14 @@ at_last fs (last.Read expr) = has fs (term_of expr)
 
 abbrev pub place_view : places.Place → Place Term
 place_view place = at_last (frames_view place.frames.items) place.last
+
+-- a place was come to, unless memory ran out
+abbrev pub ComesTo : {E : Type 0} → Result places.Place E → Place Term → Type 0
+ComesTo result due = IfOk result (λ place. place_view place ≡ due)
+
+-- or none was, where it can't be read on
+abbrev pub MayComeTo : {E : Type 0} → Result (Option places.Place) E → Option (Place Term) → Type 0
+MayComeTo result due = IfOk result (λ found. option_map place_view found ≡ due)
 
 -- what was found of an expression
 abbrev pub term_outcome : Result Expr ℕ → Result Term ℕ

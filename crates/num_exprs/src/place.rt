@@ -5,7 +5,7 @@ ghost use Rattle.num_base.specs.Term.{term_of};
 ghost use Rattle.num_base.specs.Term as term;
 ghost use Rattle.num_exprs.specs.Place.{has, is_wanted, step, step_within, taken, wants, whole};
 ghost use Rattle.num_exprs.specs.Token.{close_paren, comma};
-ghost use Rattle.num_exprs.specs.View.{frame_view, frames_view, place_view, token_view};
+ghost use Rattle.num_exprs.specs.View.{ComesTo, MayComeTo, frame_view, frames_view, place_view, token_view};
 
 use crate::token::Token;
 use num_base::{Expr, Op};
@@ -53,7 +53,7 @@ fn binary(alloc: Global, op: Op, left: Expr, right: Expr) -> Result<Expr, NoMemo
 
 /// The place with one more open.
 fn opened(mut frames: Vec<Frame>, frame: Frame) -> Result<Place, NoMemory>
-    ensures { IfOk result (λ place. place_view place ≡ wants (frame_view frame ∷ frames_view frames.items)) }
+    ensures { ComesTo result (wants (frame_view frame ∷ frames_view frames.items)) }
 {
     match frames.push(frame) {
         Ok(()) => Ok(Place {
@@ -66,7 +66,7 @@ fn opened(mut frames: Vec<Frame>, frame: Frame) -> Result<Place, NoMemory>
 
 /// The place behind an operand.
 fn taken(alloc: Global, mut frames: Vec<Frame>, expr: Expr) -> Result<Place, NoMemory>
-    ensures { IfOk result (λ place. place_view place ≡ taken (frames_view frames.items) (term_of expr)) }
+    ensures { ComesTo result (taken (frames_view frames.items) (term_of expr)) }
 {
     match frames.pop() {
         Some(Frame::Behind(left, op)) => {
@@ -92,8 +92,7 @@ fn taken(alloc: Global, mut frames: Vec<Frame>, expr: Expr) -> Result<Place, NoM
 
 /// The place behind a `)`, unless nothing is open that it closes.
 fn closed(alloc: Global, mut frames: Vec<Frame>, expr: Expr) -> Result<Option<Place>, NoMemory>
-    ensures { IfOk result (λ found. option_map place_view found
-        ≡ step (has (frames_view frames.items) (term_of expr)) close_paren) }
+    ensures { MayComeTo result (step (has (frames_view frames.items) (term_of expr)) close_paren) }
 {
     match frames.pop() {
         Some(Frame::Paren) => Ok(Some(taken(alloc, frames, expr)?)),
@@ -107,8 +106,7 @@ fn closed(alloc: Global, mut frames: Vec<Frame>, expr: Expr) -> Result<Option<Pl
 
 /// The place behind a comma, unless no op is open before its own.
 fn parted(mut frames: Vec<Frame>, expr: Expr) -> Result<Option<Place>, NoMemory>
-    ensures { IfOk result (λ found. option_map place_view found
-        ≡ step (has (frames_view frames.items) (term_of expr)) comma) }
+    ensures { MayComeTo result (step (has (frames_view frames.items) (term_of expr)) comma) }
 {
     match frames.pop() {
         Some(Frame::First(op)) => Ok(Some(opened(frames, Frame::Second(op, expr))?)),
@@ -140,7 +138,7 @@ impl Place {
 
     /// The place behind a token, unless it can't be read on.
     fn step(self, alloc: Global, token: Token) -> Result<Option<Place>, NoMemory>
-        ensures { IfOk result (λ found. option_map place_view found ≡ step (place_view self) (token_view token)) }
+        ensures { MayComeTo result (step (place_view self) (token_view token)) }
     {
         let Place { frames, last } = self;
         match (last, token) {
@@ -167,8 +165,7 @@ impl Place {
         left: u32,
         token: Token,
     ) -> Result<Option<Place>, NoMemory>
-        ensures { IfOk result (λ found. option_map place_view found
-            ≡ step_within left (place_view self) (token_view token)) }
+        ensures { MayComeTo result (step_within left (place_view self) (token_view token)) }
     {
         if token.weight() <= left {
             self.step(alloc, token)

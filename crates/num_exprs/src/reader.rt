@@ -1,8 +1,8 @@
 //! Reading an expression.
-ghost use Rattle.std.specs.Prelude.{◌≡◌, ◌≤◌, ◌<◌, ◌+◌, ◌^◌, ◌++◌, IfOk, OnOk, [], length, true};
-ghost use Rattle.num_exprs.specs.Place.{reading_from, uses_from, wants};
+ghost use Rattle.std.specs.Prelude.{◌≡◌, ◌≤◌, ◌<◌, ◌+◌, ◌^◌, ◌++◌, IfOk, OnOk, length};
+ghost use Rattle.num_exprs.specs.Block.{found_in};
+ghost use Rattle.num_exprs.specs.Place.{uses_from};
 ghost use Rattle.num_exprs.specs.Place as places;
-ghost use Rattle.num_exprs.specs.Token.{tokens_from};
 ghost use Rattle.num_exprs.specs.View.{found_of, place_view};
 
 use crate::block::Named;
@@ -60,8 +60,7 @@ fn finished(uses: Items<Named>, at: usize, place: Place) -> ExprReading
 /// Reads a text that begins at an offset as an expression.
 pub(crate) fn read_expr(alloc: Global, at: usize, text: &[u8]) -> Result<ExprReading, NoMemory>
     requires { at + length text.now < 2 ^ 64 }
-    ensures { IfOk result (λ read. found_of read
-        ≡ reading_from MAX_WEIGHT (wants []) (tokens_from true at 0 text.now)) }
+    ensures { IfOk result (λ read. found_of read ≡ found_in at text.now) }
 {
     let mut uses = Items::new(alloc);
     let mut left = MAX_WEIGHT;

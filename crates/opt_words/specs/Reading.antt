@@ -1,6 +1,6 @@
 -- The reading of all words: what they give, and the settings that come of it.
 -- After LLVM Command Guide: the last one of an option that is given again counts. Own rule: which options are given once.
-use Rattle.std.specs.Prelude.{◌≡◌, ◌<◌, ℕ, Bool, true, false, ◌+◌, ◌==◌, ◌&&◌, nat_lt, if◌then◌else◌, List, [], ◌∷◌, ◌++◌, length, slice_get, slice_index, slice_index_or, count_by, Option, Some, None, IfSome, Result, Ok, Err}
+use Rattle.std.specs.Prelude.{◌≡◌, ◌<◌, All, ℕ, Bool, true, false, ◌+◌, ◌==◌, ◌&&◌, nat_lt, if◌then◌else◌, List, [], ◌∷◌, ◌++◌, length, slice_get, slice_index, slice_index_or, count_by, Option, Some, None, IfSome, Result, Ok, Err}
 use Rattle.opt_words.specs.Step.{Stands, step_at}
 use Rattle.opt_words.specs.declared.fault.WordFault.{WordFault}
 use Rattle.opt_words.specs.declared.fault.WordFault.TheVariants.{TwiceGiven}
@@ -9,6 +9,7 @@ use Rattle.opt_words.specs.declared.row.Form.{Form}
 use Rattle.opt_words.specs.declared.row.Form.TheVariants.{Once, Number}
 use Rattle.opt_words.specs.declared.step.Given.{Given}
 use Rattle.opt_words.specs.declared.settings.Settings.{Settings}
+use Rattle.opt_words.specs.declared.table.Table.{Table}
 
 -- whether an option may be given once
 abbrev pub is_once : Form → Bool
@@ -70,6 +71,14 @@ givens_from rows stop_at_plain at only_plain false before (word ∷ rest) =
 abbrev pub givens : List Row → Bool → List (List ℕ) → Result (List Given) WordFault
 givens rows stop_at_plain words = givens_from rows stop_at_plain 0 false false [] words
 
+-- what words give by a table
+abbrev pub givens_by : {n : ℕ} → Table n → List (List ℕ) → Result (List Given) WordFault
+givens_by table words = givens table.rows table.stop_at_plain words
+
+-- where the words have no fault, this is all that they give
+abbrev pub AreAll : Result (List Given) WordFault → List Given → Type 0
+AreAll wanted all = (due : List Given) → wanted ≡ Ok due → all ≡ due
+
 -- the settings that come of what is given: for each row how often and what last, and how many words are plain and
 -- which first
 pub record IsTally (n : ℕ) (givens : List Given) (settings : Settings n) : Type 0 where
@@ -84,6 +93,32 @@ abbrev pub AllStand : (n : ℕ) → List (List ℕ) → Settings n → Type 0
 AllStand n words settings =
     ((row : ℕ) → row < n → IfSome (slice_index_or settings.last row None) (Stands words))
     × IfSome settings.first_plain (Stands words)
+
+-- this holds of whatever was given before, where these settings come of it
+abbrev pub OfGivens : (n : ℕ) → Settings n → (List Given → Type 0) → Type 0
+OfGivens n settings holds = (before : List Given) → IsTally n before settings → holds before
+
+-- what a step takes is counted behind all that was given before
+abbrev pub IsCounted : (n : ℕ) → Option Given → Settings n → Settings n → Type 0
+IsCounted n given old new = OfGivens n old (λ before. IsTally n (behind before given) new)
+
+-- the same, where it isn't one too many; or it is, and this is the fault
+abbrev pub IsJoined : (n : ℕ) → List Row → ℕ → Option Given → Settings n → Settings n → Type 0
+IsJoined n rows at given old new =
+    OfGivens n old (λ before. (joined rows at before given ≡ Ok (behind before given)) × IsTally n (behind before given) new)
+
+abbrev pub IsRefused : (n : ℕ) → List Row → ℕ → Option Given → Settings n → WordFault → Type 0
+IsRefused n rows at given settings fault = OfGivens n settings (λ before. joined rows at before given ≡ Err fault)
+
+-- where what a step takes stands in some words, all that is given last still stands there
+abbrev pub StillStand : (n : ℕ) → Option Given → Settings n → Settings n → Type 0
+StillStand n given old new =
+    (words : List (List ℕ)) → IfSome given (Stands words) → AllStand n words old → AllStand n words new
+
+-- or all that is given does
+abbrev pub GivensStand : Option Given → List Given → List Given → Type 0
+GivensStand given old new =
+    (words : List (List ℕ)) → IfSome given (Stands words) → All (Stands words) old → All (Stands words) new
 
 -- a reading of the words: the settings that come of what they give, or the first fault
 abbrev pub Reads : (n : ℕ) → Result (List Given) WordFault → Result (Settings n) WordFault → Type 0

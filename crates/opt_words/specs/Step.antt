@@ -13,6 +13,7 @@ use Rattle.opt_words.specs.declared.row.Form.{Form}
 use Rattle.opt_words.specs.declared.row.Form.TheVariants.{Flag, Switch, Once, Many, Glued, Number}
 use Rattle.opt_words.specs.declared.step.Given.{Given}
 use Rattle.opt_words.specs.declared.step.Step.{Step}
+use Rattle.opt_words.specs.declared.table.Table.{Table}
 
 -- the bytes of the words
 abbrev pub texts : List (String Global) → List (List ℕ)
@@ -71,13 +72,21 @@ abbrev pub option_step : List Row → Option ℕ → ℕ → List ℕ → Option
 option_step rows (Some row) at word next = option_of (slice_get rows row) row at word next
 option_step rows None at word next = Err (Unknown at)
 
+-- an option at a word, with the next word
+abbrev pub option_at : List Row → ℕ → List ℕ → Option (List ℕ) → Result Step WordFault
+option_at rows at word next = option_step rows (meant rows word) at word next
+
+-- the first of the words that are left
+abbrev pub next_word : List (String Global) → Option (List ℕ)
+next_word rest = slice_get (texts rest) 0
+
 -- the step at a word, with the next word
 abbrev pub step_at : List Row → Bool → ℕ → Bool → List ℕ → Option (List ℕ) → Result Step WordFault
 step_at rows stop_at_plain at only_plain word next =
     if only_plain then Ok (takes (length rows) at 0 (at + 1) true)
     else if not (is_option word) then Ok (takes (length rows) at 0 (at + 1) stop_at_plain)
     else if bytes_eq word (codes "--") then Ok (record { given = None; next = at + 1; only_plain = true })
-    else option_step rows (meant rows word) at word next
+    else option_at rows at word next
 
 -- a step, where there was a word for it
 abbrev pub stepped : Result Step WordFault → Result (Option Step) WordFault
@@ -89,6 +98,13 @@ abbrev pub step : List Row → Bool → ℕ → Bool → List (List ℕ) → Res
 step rows stop_at_plain at only_plain [] = Ok None
 step rows stop_at_plain at only_plain (word ∷ rest) =
     stepped (step_at rows stop_at_plain at only_plain word (slice_get rest 0))
+
+-- by a table: the step at a word, and at the first of the words from an index on
+abbrev pub step_of : {n : ℕ} → Table n → ℕ → Bool → List ℕ → Option (List ℕ) → Result Step WordFault
+step_of table at only_plain word next = step_at table.rows table.stop_at_plain at only_plain word next
+
+abbrev pub step_from : {n : ℕ} → Table n → ℕ → Bool → List (List ℕ) → Result (Option Step) WordFault
+step_from table at only_plain words = step table.rows table.stop_at_plain at only_plain (drop at words)
 
 -- what is given stands in these words
 abbrev pub Stands : List (List ℕ) → Given → Type 0

@@ -1,8 +1,6 @@
 //! What the words of a command line set.
-ghost use Rattle.std.specs.Prelude.{◌≡◌, [], ◌∷◌, ◌++◌, ℕ, List, ◌<◌, ◌≤◌, ◌^◌, slice_index};
-ghost use Rattle.opt_words.specs.Reading.{AllStand, IsTally};
-ghost use Rattle.opt_words.specs.Step.{Stands};
-ghost use Rattle.opt_words.specs.declared.step.Given.{Given};
+ghost use Rattle.std.specs.Prelude.{[], ℕ, List, Some, ◌<◌, ◌≤◌, ◌^◌, slice_index};
+ghost use Rattle.opt_words.specs.Reading.{AllStand, IsCounted, IsTally, StillStand};
 
 use crate::step::Given;
 
@@ -38,8 +36,8 @@ impl<const N: usize> Settings<N> {
         requires row { given.row ≤ N }
         requires counts { (row : ℕ) → row < N → slice_index self.old.times row < 2 ^ 63 }
         requires others { self.old.plain < 2 ^ 63 }
-        ensures tally { (givens : List Given) → IsTally N givens self.old → IsTally N (givens ++ given ∷ []) self.new }
-        ensures stand { (words : List (List ℕ)) → Stands words given → AllStand N words self.old → AllStand N words self.new }
+        ensures tally { IsCounted N (Some given) self.old self.new }
+        ensures stand { StillStand N (Some given) self.old self.new }
     {
         if given.row < N {
             self.times[given.row] += 1;

@@ -1,10 +1,10 @@
 //! Tables of options, and the step from one word to the next.
-ghost use Rattle.std.specs.Prelude.{◌≡◌, ◌≤◌, ◌<◌, ◌+◌, ◌^◌, All, IfErr, IfOk, IfSome, List, ℕ, OnOk, Ok, Err, length, drop, slice_get};
+ghost use Rattle.std.specs.Prelude.{◌≡◌, ◌≤◌, ◌<◌, ◌+◌, ◌^◌, All, IfErr, IfOk, IfSome, List, OnOk, length};
 ghost use Rattle.std.specs.List.{position_from};
 ghost use Rattle.opt_words.specs.Fault.{word_of};
-ghost use Rattle.opt_words.specs.Reading.{AllStand, IsTally, Reads, behind, givens, is_once, is_twice, joined};
+ghost use Rattle.opt_words.specs.Reading.{AllStand, AreAll, GivensStand, IsJoined, IsRefused, IsTally, OfGivens, Reads, StillStand, behind, givens_by, is_once, is_twice};
 ghost use Rattle.opt_words.specs.declared.step.Given.{Given};
-ghost use Rattle.opt_words.specs.Step.{Leads, Stands, StepsOn, option_step, step, step_at, texts};
+ghost use Rattle.opt_words.specs.Step.{Leads, Stands, StepsOn, next_word, option_at, step_from, step_of, texts};
 ghost use Rattle.opt_words.specs.Word.{begins_named, dashes, is_named, meant};
 
 use crate::fault::WordFault;
@@ -68,7 +68,7 @@ impl<const N: usize> Table<N> {
     fn option_step(&self, at: usize, word: &[u8], rest: &[String]) -> Result<Step, WordFault>
         requires dashes { dashes word.now ≤ length word.now }
         requires room { at + length rest.now < 2 ^ 63 }
-        ensures value { result ≡ option_step self.now.rows (meant self.now.rows word.now) at word.now (slice_get (texts rest.now) 0) }
+        ensures value { result ≡ option_at self.now.rows at word.now (next_word rest.now) }
         ensures leads { IfOk result (Leads N at word.now (length rest.now)) }
         ensures told { IfErr result (λ fault. word_of fault ≡ at) }
     {
@@ -90,7 +90,7 @@ impl<const N: usize> Table<N> {
         rest: &[String],
     ) -> Result<Step, WordFault>
         requires { at + length rest.now < 2 ^ 63 }
-        ensures value { result ≡ step_at self.now.rows self.now.stop_at_plain at only_plain word.now (slice_get (texts rest.now) 0) }
+        ensures value { result ≡ step_of self.now at only_plain word.now (next_word rest.now) }
         ensures leads { IfOk result (Leads N at word.now (length rest.now)) }
         ensures told { IfErr result (λ fault. word_of fault ≡ at) }
     {
@@ -119,7 +119,7 @@ impl<const N: usize> Table<N> {
         only_plain: bool,
     ) -> Result<Option<Step>, WordFault>
         requires { from ≤ length words.now }
-        ensures value { result ≡ step self.now.rows self.now.stop_at_plain from only_plain (drop from (texts words.now)) }
+        ensures value { result ≡ step_from self.now from only_plain (texts words.now) }
         ensures on { IfOk result (λ step. IfSome step (StepsOn N from (texts words.now))) }
         ensures told { IfErr result (λ fault. (word_of fault ≡ from) × (from < length words.now)) }
     {
@@ -134,7 +134,7 @@ impl<const N: usize> Table<N> {
 
     /// Whether it is given a second time, and may be given once.
     fn is_twice(&self, settings: &Settings<N>, given: &Given) -> bool
-        ensures { (before : List Given) → IsTally N before settings.now → result ≡ is_twice self.now.rows before given.now }
+        ensures { OfGivens N settings.now (λ before. result ≡ is_twice self.now.rows before given.now) }
     {
         given.row < self.row_count()
             && is_once(&self.rows[given.row].form)
@@ -150,12 +150,10 @@ impl<const N: usize> Table<N> {
     ) -> Result<(), WordFault>
         requires row { IfSome given (λ given. given.row ≤ N) }
         requires room { (before : List Given) × IsTally N before settings.old × (length before < 2 ^ 63) }
-        ensures ok { OnOk result ((before : List Given) → IsTally N before settings.old
-            → (joined self.now.rows at before given ≡ Ok (behind before given)) × IsTally N (behind before given) settings.new) }
-        ensures stand { (words : List (List ℕ)) → IfSome given (Stands words) → AllStand N words settings.old → AllStand N words settings.new }
+        ensures ok { OnOk result (IsJoined N self.now.rows at given settings.old settings.new) }
+        ensures stand { StillStand N given settings.old settings.new }
         ensures told { IfErr result (λ fault. word_of fault ≡ at) }
-        ensures err { IfErr result (λ fault. (before : List Given) → IsTally N before settings.old
-            → joined self.now.rows at before given ≡ Err fault) }
+        ensures err { IfErr result (IsRefused N self.now.rows at given settings.old) }
     {
         match given {
             None => Ok(()),
@@ -171,8 +169,7 @@ impl<const N: usize> Table<N> {
 
     /// All that the words give, in order, where they are read without a fault.
     pub fn givens(&self, alloc: Global, words: &[String]) -> Result<Items<Given>, NoMemory>
-        ensures all { IfOk result (λ all. (due : List Given)
-            → givens self.now.rows self.now.stop_at_plain (texts words.now) ≡ Ok due → all ≡ due) }
+        ensures all { IfOk result (AreAll (givens_by self.now (texts words.now))) }
         ensures stand { IfOk result (All (Stands (texts words.now))) }
     {
         let mut all = Items::new(alloc);
@@ -196,7 +193,7 @@ impl<const N: usize> Table<N> {
 
     /// Reads all words.
     pub fn read(&self, words: &[String]) -> Result<Settings<N>, WordFault>
-        ensures read { Reads N (givens self.now.rows self.now.stop_at_plain (texts words.now)) result }
+        ensures read { Reads N (givens_by self.now (texts words.now)) result }
         ensures stand { IfOk result (AllStand N (texts words.now)) }
         ensures told { IfErr result (λ fault. word_of fault < length words.now) }
     {
@@ -222,8 +219,7 @@ impl<const N: usize> Table<N> {
 /// Adds what a step takes.
 fn push_given(all: &mut Items<Given>, given: Option<Given>) -> Result<(), NoMemory>
     ensures added { OnOk result (all.new ≡ behind all.old given) }
-    ensures stand { (words : List (List ℕ)) → IfSome given (Stands words) → All (Stands words) all.old
-        → OnOk result (All (Stands words) all.new) }
+    ensures stand { OnOk result (GivensStand given all.old all.new) }
 {
     match given {
         None => Ok(()),

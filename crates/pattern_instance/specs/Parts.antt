@@ -15,6 +15,7 @@ use Rattle.num_base.specs.Term.{Term}
 use Rattle.num_base.specs.declared.evaluation.EvalFault.{EvalFault}
 use Rattle.num_base.specs.declared.evaluation.EvalFault.TheVariants.{Range}
 use Rattle.num_base.specs.declared.format.Format.{Format}
+use Rattle.num_exprs.specs.Block.{Num}
 use Rattle.num_spell.specs.Spelling.{prints}
 use Rattle.num_spell.specs.Wild.{wild}
 use Rattle.pattern_parse.specs.Item.{Item, plain, regex, define, recall, number}
@@ -45,11 +46,19 @@ abbrev pub in_group : ℕ → Tree → Option Gift → Part
 in_group n t gift =
     record { tree = group (n + 1) (shifted (n + 1) t); groups = 1 + greatest_group t; gift = gift }
 
+-- an expression as it is, behind n groups
+abbrev pub regex_part : ℕ → Tree → Part
+regex_part n t = record { tree = shifted n t; groups = greatest_group t; gift = None }
+
 -- what a recall stands for: the text of the nearest group of its name, else the stored text
 abbrev pub recalled : Bool → Option ℕ → Option (List ℕ) → Tree
 recalled fold (Some nearest) text = back nearest fold
 recalled fold None (Some text) = cased fold (tree.plain text)
 recalled fold None None = tree.empty
+
+-- the same where so much is known
+abbrev pub recalled_in : Known → Groups → List ℕ → Tree
+recalled_in known groups name = recalled known.fold (get groups name) (known.text name)
 
 -- the printed bytes of a value, which is given to the name that the block defines
 abbrev pub shown : Bool → Option (List ℕ) → ℤ → Option (List ℕ) → Result Part EvalFault
@@ -71,15 +80,16 @@ number_part known n defines format None = Ok (spelled known.fold n defines forma
 number_part known n defines format (Some t) =
     valued known.fold defines format (value_of known.number known.at t)
 
+abbrev pub block_part : Known → ℕ → Num → Format → Result Part EvalFault
+block_part known n num format = number_part known n num.defines format num.expr
+
 -- the part of a piece behind n groups
 abbrev pub part_of : Known → ℕ → Groups → Item → Result Part EvalFault
 part_of known n groups (plain bytes) = Ok (ungrouped (cased known.fold (tree.plain bytes)) None)
-part_of known n groups (regex t) =
-    Ok (record { tree = shifted n t; groups = greatest_group t; gift = None })
+part_of known n groups (regex t) = Ok (regex_part n t)
 part_of known n groups (define name t) = Ok (in_group n t (Some (Text name n)))
-part_of known n groups (recall name) =
-    Ok (ungrouped (recalled known.fold (get groups name) (known.text name)) None)
-part_of known n groups (number num format) = number_part known n num.defines format num.expr
+part_of known n groups (recall name) = Ok (ungrouped (recalled_in known groups name) None)
+part_of known n groups (number num format) = block_part known n num format
 
 -- the groups of texts behind a piece
 abbrev pub groups_behind : ℕ → Groups → Item → Groups

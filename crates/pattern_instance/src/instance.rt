@@ -1,16 +1,13 @@
 //! The instance of a pattern.
-ghost use Rattle.std.specs.Prelude.{◌≡◌, false, ◌+◌, ◌<◌, ◌≤◌, ◌^◌, ◌++◌, ◌∷◌, [], ℕ, IfOk, OnOk, List, Result, Ok, Err, map};
+ghost use Rattle.std.specs.Prelude.{◌≡◌, false, ◌+◌, ◌<◌, ◌≤◌, ◌^◌, ◌++◌, ◌∷◌, [], IfOk, OnOk, map};
 ghost use Rattle.std.specs.List.{cons_option, sum_by};
-ghost use Rattle.ere_tree.specs.Tree.{cat, trees_of};
 ghost use Rattle.ere_tree.specs.View.{view};
-ghost use Rattle.pattern_parse.specs.Item.{Item};
 ghost use Rattle.pattern_parse.specs.PieceView.{item_view, items_view};
 ghost use Rattle.pattern_parse.specs.Search.{IsSearchable, greatest_of};
-ghost use Rattle.pattern_instance.specs.Instance.{before, behind, instance_of, made, spaces};
-ghost use Rattle.pattern_instance.specs.Known.{known_in, known_of};
+ghost use Rattle.pattern_instance.specs.Instance.{before, behind, spaces};
+ghost use Rattle.pattern_instance.specs.Known.{known_in};
 ghost use Rattle.pattern_instance.specs.Missing.{uses_names};
-ghost use Rattle.pattern_instance.specs.Parts.{Parts, groups_behind, map_parts, parts_from, with_part};
-ghost use Rattle.pattern_instance.specs.Views.{Added, Serve, in_front, instance_view, part_view, told_view, whole};
+ghost use Rattle.pattern_instance.specs.Views.{AddsPiece, HasPart, MayMakeAll, ServeBehind, finished, instance_by, instance_view, most_groups, part_view, whole};
 ghost use Rattle.num_base.specs.declared.evaluation.EvalFault.{EvalFault};
 
 use crate::gift::Gift;
@@ -106,8 +103,7 @@ fn push_gift(gifts: &mut Items<Gift>, gift: Option<Gift>) -> Result<(), NoMemory
 /// Adds a part with what it gives.
 fn add_part(made: &mut Made, part: Part) -> Result<(), NoMemory>
     requires { made.old.count + part.groups < 2 ^ 31 }
-    ensures added { (rest : Result Parts EvalFault) → OnOk result (
-        in_front made.new rest ≡ in_front made.old (map_parts (with_part (part_view part)) rest)) }
+    ensures added { OnOk result (HasPart made.old made.new (part_view part)) }
     ensures count { OnOk result (made.new.count ≡ made.old.count + part.groups) }
     ensures groups { made.new.groups ≡ made.old.groups }
 {
@@ -121,7 +117,7 @@ fn add_part(made: &mut Made, part: Part) -> Result<(), NoMemory>
 /// Names the group of a text that a piece behind so many groups defines, unless no piece behind it uses names.
 fn name_group(groups: &mut Groups, piece: &Piece, count: u32, uses: bool) -> Result<(), NoMemory>
     requires { count < 2 ^ 31 }
-    ensures { OnOk result (Serve uses groups.new (groups_behind count groups.old (item_view piece.now))) }
+    ensures { OnOk result (ServeBehind uses count groups.old groups.new (item_view piece.now)) }
 {
     if !uses {
         return Ok(());
@@ -145,9 +141,8 @@ fn add_piece(
     uses: bool,
 ) -> Result<Result<(), EvalFault>, NoMemory>
     requires { made.old.count + (greatest_of (item_view piece.now) + 2) < 2 ^ 31 }
-    ensures added { (items : List Item) → (uses ≡ false → uses_names items ≡ false) → IfOk result
-        (Added (known_in known.now) made.old made.new (item_view piece.now) items) }
-    ensures count { OnOk result (made.new.count ≤ made.old.count + (greatest_of (item_view piece.now) + 2)) }
+    ensures added { IfOk result (AddsPiece uses known.now made.old made.new (item_view piece.now)) }
+    ensures count { OnOk result (made.new.count ≤ made.old.count + most_groups (item_view piece.now)) }
 {
     let count = made.count;
     let part = match part_of(alloc, known, piece, count, &made.groups)? {
@@ -169,8 +164,7 @@ fn add_pieces(
 ) -> Result<Result<Made, EvalFault>, NoMemory>
     requires nameless { uses ≡ false → uses_names (items_view pieces.now) ≡ false }
     requires room { begun.count + sum_by (λ one. greatest_of one + 2) (items_view pieces.now) < 2 ^ 31 }
-    ensures { IfOk result (λ told. told_view told
-        ≡ whole (known_in known.now) begun (items_view pieces.now)) }
+    ensures { MayMakeAll result (whole (known_in known.now) begun (items_view pieces.now)) }
 {
     let mut made = begun;
     for piece in pieces {
@@ -189,8 +183,7 @@ pub fn make_instance(
     line: u32,
 ) -> Result<Instance, NoMemory>
     requires { IsSearchable (items_view pattern.now.pieces) }
-    ensures { IfOk result (λ instance. instance_view instance
-        ≡ instance_of (known_of vars.now line pattern.now.fold) pattern.now.frame (items_view pattern.now.pieces)) }
+    ensures { IfOk result (λ instance. instance_view instance ≡ instance_by vars.now line pattern.now) }
 {
     let pieces = pattern.pieces.as_slice();
     let uses = uses_names(pieces);
@@ -217,8 +210,7 @@ pub fn make_instance(
 
 /// The instance of parts, once all are made.
 fn finished(alloc: Global, parts: Made, frame: Frame) -> Result<Instance, NoMemory>
-    ensures { IfOk result (λ instance. instance_view instance
-        ≡ made (cat (trees_of (map view parts.trees.items ++ behind frame))) parts.gifts) }
+    ensures { IfOk result (λ instance. instance_view instance ≡ finished parts frame) }
 {
     let Made {
         mut trees,

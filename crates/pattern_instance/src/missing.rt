@@ -1,15 +1,10 @@
 //! The names that a pattern uses and that have no value.
-ghost use Rattle.std.specs.Prelude.{◌≡◌, false, ◌++◌, ◌∷◌, ℕ, IfOk, List, OnOk};
-ghost use Rattle.num_exprs.specs.Block.{Num};
-ghost use Rattle.num_exprs.specs.View.{num_view};
+ghost use Rattle.std.specs.Prelude.{◌≡◌, false, IfOk, OnOk};
 ghost use Rattle.num_base.specs.Term.{term_of};
-ghost use Rattle.std.specs.Option.{option_map};
 ghost use Rattle.pattern_instance.specs.Known.{known_in};
-ghost use Rattle.pattern_instance.specs.Missing.{Names, each_once, lacking, lacking_in, missing, unknown, uses_names};
-ghost use Rattle.pattern_instance.specs.Views.{still_told, told_with};
-ghost use Rattle.pattern_parse.specs.Item.{Item, recall};
-ghost use Rattle.pattern_parse.specs.PieceView.{item_view, items_view};
-ghost use Rattle.pattern_vars.specs.Vars.{number_of};
+ghost use Rattle.pattern_instance.specs.Missing.{missing, uses_names};
+ghost use Rattle.pattern_instance.specs.Views.{Tells, TellsRecall, ToldBy, lacking_of};
+ghost use Rattle.pattern_parse.specs.PieceView.{items_view};
 
 use crate::groups::Groups;
 use crate::known::Known;
@@ -28,8 +23,7 @@ fn tell_numbers(
     expr: &Expr,
     vars: &Vars,
 ) -> Result<(), NoMemory>
-    ensures { OnOk result ((rest : List (List ℕ)) →
-        still_told missing.new rest ≡ still_told missing.old (lacking (number_of vars.now) (term_of expr.now) rest)) }
+    ensures { OnOk result (ToldBy missing.old missing.new (lacking_of vars.now (term_of expr.now))) }
 {
     match expr {
         Expr::Literal(_) => Ok(()),
@@ -53,8 +47,7 @@ fn tell_text(
     name: &Bytes,
     known: &Known<'_>,
 ) -> Result<(), NoMemory>
-    ensures { (items : List Item) → OnOk result (told_with missing.new (known_in known.now) defined.now items
-        ≡ told_with missing.old (known_in known.now) defined.now (recall name.now ∷ items)) }
+    ensures { OnOk result (TellsRecall known.now name.now defined.now missing.old missing.new) }
 {
     if defined.get(name.as_slice()).is_some() || known.vars.text(name.as_slice()).is_some() {
         return Ok(());
@@ -70,8 +63,7 @@ fn tell_piece(
     piece: &Piece,
     known: &Known<'_>,
 ) -> Result<(), NoMemory>
-    ensures { (items : List Item) → OnOk result (told_with missing.new (known_in known.now) defined.new items
-        ≡ told_with missing.old (known_in known.now) defined.old (item_view piece.now ∷ items)) }
+    ensures { OnOk result (Tells known.now piece.now defined.old defined.new missing.old missing.new) }
 {
     match piece {
         Piece::Plain(_) => Ok(()),

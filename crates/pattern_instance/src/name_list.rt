@@ -2,7 +2,7 @@
 ghost use Rattle.std.specs.Prelude.{◌≡◌, ◌∷◌, [], ℕ, List, OnOk};
 ghost use Rattle.std.specs.FinMap.{empty};
 ghost use Rattle.pattern_instance.specs.Missing.{each_once};
-ghost use Rattle.pattern_instance.specs.Views.{still_told};
+ghost use Rattle.pattern_instance.specs.Views.{ToldBy, still_told};
 
 use crate::groups::Groups;
 use std::alloc::Global;
@@ -28,7 +28,7 @@ impl NameList {
 
     /// Adds a name, unless it is among them.
     pub fn add(&mut self, alloc: Global, name: &[u8]) -> Result<(), NoMemory>
-        ensures { OnOk result ((rest : List (List ℕ)) → still_told self.new rest ≡ still_told self.old (name.now ∷ rest)) }
+        ensures { OnOk result (ToldBy self.old self.new (λ rest. name.now ∷ rest)) }
     {
         if self.told.get(name).is_some() {
             return Ok(());

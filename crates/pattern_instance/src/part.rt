@@ -1,8 +1,6 @@
 //! The parts of the expression that is sought.
 ghost use Rattle.std.specs.Prelude.{◌≡◌, ◌+◌, ◌<◌, ◌≤◌, ◌^◌, ℕ, IfOk, List, OnOk, Ok, Some, None};
-ghost use Rattle.std.specs.FinMap as map;
-ghost use Rattle.std.specs.Option.{option_map};
-ghost use Rattle.ere_tree.specs.Shape.{greatest_group, greatest_number, shifted};
+ghost use Rattle.ere_tree.specs.Shape.{greatest_number};
 ghost use Rattle.ere_tree.specs.Tree.{group, plain};
 ghost use Rattle.ere_tree.specs.View.{view};
 ghost use Rattle.num_base.specs.Eval.{value_of};
@@ -12,11 +10,11 @@ ghost use Rattle.num_exprs.specs.View.{num_view};
 ghost use Rattle.pattern_parse.specs.Item.{Item};
 ghost use Rattle.pattern_parse.specs.PieceView.{item_view};
 ghost use Rattle.pattern_parse.specs.Search.{greatest_of};
-ghost use Rattle.pattern_vars.specs.Vars.{number_of, text_of};
+ghost use Rattle.pattern_vars.specs.Vars.{number_of};
 ghost use Rattle.pattern_instance.specs.declared.gift.Gift.TheVariants.{Text};
 ghost use Rattle.pattern_instance.specs.Known.{known_in};
-ghost use Rattle.pattern_instance.specs.Parts.{cased, in_group, number_part, part_of, recalled, shown, spelled, valued};
-ghost use Rattle.pattern_instance.specs.Views.{gathered, outcome_view, part_view, whole};
+ghost use Rattle.pattern_instance.specs.Parts.{block_part, cased, in_group, part_of, recalled_in, regex_part, shown, spelled, valued};
+ghost use Rattle.pattern_instance.specs.Views.{MakesPart, MayMakePart, gathered, part_view, whole};
 
 use crate::gift::Gift;
 use crate::groups::Groups;
@@ -95,8 +93,7 @@ fn in_group(alloc: Global, ere: Ere, count: u32, gift: Option<Gift>) -> Result<P
 /// The expression of a regular expression, behind so many groups.
 fn regex_part(alloc: Global, ere: &Ere, count: u32) -> Result<Part, NoMemory>
     requires { greatest_number (view ere.now) + count < 2 ^ 31 }
-    ensures { IfOk result (λ part. part_view part
-        ≡ (record { tree = shifted count (view ere.now); groups = greatest_group (view ere.now); gift = None })) }
+    ensures { MakesPart result (regex_part count (view ere.now)) }
 {
     let Ok(mut copied) = ere.copy(alloc) else {
         return Err(NoMemory);
@@ -112,7 +109,7 @@ fn regex_part(alloc: Global, ere: &Ere, count: u32) -> Result<Part, NoMemory>
 /// The part of a text that is defined.
 fn define_part(alloc: Global, name: &Bytes, ere: &Ere, count: u32) -> Result<Part, NoMemory>
     requires { greatest_number (view ere.now) + count + 1 < 2 ^ 31 }
-    ensures { IfOk result (λ part. part_view part ≡ in_group count (view ere.now) (Some (Text name.now count))) }
+    ensures { MakesPart result (in_group count (view ere.now) (Some (Text name.now count))) }
 {
     let Ok(copied) = ere.copy(alloc) else {
         return Err(NoMemory);
@@ -128,8 +125,7 @@ fn define_part(alloc: Global, name: &Bytes, ere: &Ere, count: u32) -> Result<Par
 
 /// What a recall stands for.
 fn recalled(alloc: Global, groups: &Groups, known: &Known<'_>, name: &[u8]) -> Result<Ere, NoMemory>
-    ensures { IfOk result (λ made. view made
-        ≡ recalled known.now.fold (map.get groups.now name.now) (text_of known.now.vars.now name.now)) }
+    ensures { IfOk result (λ made. view made ≡ recalled_in (known_in known.now) groups.now name.now) }
 {
     if let Some(number) = groups.get(name) {
         return Ok(Ere::Ref {
@@ -194,7 +190,7 @@ fn shown(
     value: i128,
     fold: bool,
 ) -> Result<Result<Part, EvalFault>, NoMemory>
-    ensures { IfOk result (λ told. outcome_view told ≡ valued fold defines format (Ok value)) }
+    ensures { MayMakePart result (valued fold defines format (Ok value)) }
 {
     let Some(text) = print_value(alloc, format, value)? else {
         return Ok(Err(EvalFault::Range));
@@ -218,8 +214,7 @@ fn number_part(
     count: u32,
 ) -> Result<Result<Part, EvalFault>, NoMemory>
     requires { count + 2 < 2 ^ 31 }
-    ensures { IfOk result (λ told. outcome_view told ≡ number_part (known_in known.now) count
-        block.now.defines format (option_map term_of block.now.expr)) }
+    ensures { MayMakePart result (block_part (known_in known.now) count (num_view block.now) format) }
 {
     let defines = copied(alloc, &block.defines)?;
     match &block.expr {
@@ -241,7 +236,7 @@ fn spelled(
     fold: bool,
 ) -> Result<Part, NoMemory>
     requires { count + 2 < 2 ^ 31 }
-    ensures { IfOk result (λ part. part_view part ≡ spelled fold count defines format) }
+    ensures { MakesPart result (spelled fold count defines format) }
 {
     let ere = cased(alloc, wild(alloc, format)?, fold)?;
     let gift = match defines {
@@ -264,8 +259,7 @@ pub(crate) fn part_of(
     groups: &Groups,
 ) -> Result<Result<Part, EvalFault>, NoMemory>
     requires { count + (greatest_of (item_view piece.now) + 2) < 2 ^ 31 }
-    ensures { IfOk result (λ told. outcome_view told
-        ≡ part_of (known_in known.now) count groups.now (item_view piece.now)) }
+    ensures { MayMakePart result (part_of (known_in known.now) count groups.now (item_view piece.now)) }
 {
     let ere = match piece {
         Piece::Plain(bytes) => plain(alloc, bytes.as_slice(), known.fold)?,

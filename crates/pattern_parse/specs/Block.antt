@@ -57,12 +57,16 @@ abbrev pub defined_as : List ℕ → Said → ℕ → Result Tree EreFault → R
 defined_as name said at (Ok tree) = Ok (define name tree, with_text name said)
 defined_as name said at (Err fault) = refused (BadRegex fault) (at + fault.at)
 
+-- a text that the regular expression of these bytes defines
+abbrev pub regex_defined : Bool → List ℕ → Said → ℕ → List ℕ → Result (Item × Said) PatFault
+regex_defined fold name said at bytes = defined_as name said at (ere.reading fold bytes)
+
 -- a name of this length and what is behind it
 abbrev pub behind_name : Bool → Said → ℕ → ℕ → List ℕ → Result (Item × Said) PatFault
 behind_name fold said at long bytes =
     if length bytes == long then Ok (recall (take long bytes), with_recall (take long bytes) said)
     else if begins 58 (drop long bytes)
-    then defined_as (take long bytes) said (at + long + 1) (ere.reading fold (drop (long + 1) bytes))
+    then regex_defined fold (take long bytes) said (at + long + 1) (drop (long + 1) bytes)
     else refused BadName (at + long)
 
 abbrev pub text_read : Bool → Said → ℕ → List ℕ → Result (Item × Said) PatFault
@@ -110,6 +114,11 @@ uses_read known defined written at used seen (u ∷ us) =
           else uses_read known defined written at (insert used u.name (pos 1)) (Some f) us
     ]
 
+-- the same of all that it uses, by the formats that are known
+abbrev pub all_uses_read : FinMap name_cmp Format → FinMap name_cmp ℤ → Bool → ℕ → FinMap name_cmp ℤ → List Named
+    → Result (Option Format × FinMap name_cmp ℤ) PatFault
+all_uses_read known defined written at used uses = uses_read (get known) defined written at used None uses
+
 -- the format of a block: the written one, that of the numbers that it uses, or `%u`
 abbrev pub format_of : Option Format → Option Format → Format
 format_of (Some f) seen = f
@@ -146,6 +155,10 @@ number_of known said at read =
       | Ok seen ↦ block_number said at read seen
       | Err fault ↦ Err fault
     ]
+
+-- the same by the formats that are known
+abbrev pub number_by : FinMap name_cmp Format → Said → ℕ → Reading → Result (Item × Said) PatFault
+number_by known said at read = number_of (get known) said at read
 
 -- LINES
 

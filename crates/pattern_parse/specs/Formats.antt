@@ -4,13 +4,15 @@ use Rattle.std.specs.Coded.{Coded, code_by, coded×, coded_ℕ, coded_bool}
 use Rattle.std.specs.FinMap.{FinMap, empty, insert, remove}
 use Rattle.std.specs.BTreeMap.{is_at}
 use Rattle.std.specs.Cmp.Lexicographic.{slice_cmp}
-use Rattle.std.specs.Map.{lookup}
+use Rattle.std.specs.Map.{lookup, set_value}
 use Rattle.std.specs.Ordering.{nat_cmp}
 use Rattle.std.specs.declared.alloc.Global.{Global}
 use Rattle.num_base.specs.Names.{name_cmp}
 use Rattle.num_base.specs.declared.format.Format.{Format}
 use Rattle.num_base.specs.declared.format.FormatKind.{FormatKind}
 use Rattle.num_base.specs.declared.format.FormatKind.TheVariants.{Unsigned, Signed, LowerHex, UpperHex}
+use Rattle.pattern_parse.specs.Item.{Item}
+use Rattle.pattern_parse.specs.Pieces.{with_format, with_formats}
 use Rattle.pattern_parse.specs.declared.pattern.Piece.{Piece}
 use Rattle.pattern_parse.specs.declared.pattern.Piece.TheVariants as piece
 
@@ -52,6 +54,17 @@ by_places (e ∷ es) = with_place (by_places es) e.0.items e.1
 -- what the entries have at a name
 abbrev pub value_at : List (Vec ℕ Global × Option Format) → List ℕ → Option (Option Format)
 value_at es q = lookup (is_at (λ k. slice_cmp nat_cmp q k.items)) es
+
+-- the entries with a format at a name that has a place
+abbrev pub with_entry : List ℕ → Format → List (Vec ℕ Global × Option Format) → List (Vec ℕ Global × Option Format)
+with_entry name format es = set_value (is_at (λ k. slice_cmp nat_cmp name k.items)) es (Some format)
+
+-- the formats of the numbers that items define are set, in order
+abbrev pub SetsFormat : List (Vec ℕ Global × Option Format) → List (Vec ℕ Global × Option Format) → Item → Type 0
+SetsFormat es others item = by_places others ≡ with_format (by_places es) item
+
+abbrev pub SetsFormats : List (Vec ℕ Global × Option Format) → List (Vec ℕ Global × Option Format) → List Item → Type 0
+SetsFormats es others items = by_places others ≡ with_formats (by_places es) items
 
 -- places stay
 abbrev pub Stays : List (Vec ℕ Global × Option Format) → List (Vec ℕ Global × Option Format) → Type 0

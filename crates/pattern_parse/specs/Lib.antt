@@ -7,4 +7,5 @@ pub mod Item
 pub mod PieceView
 pub mod Pieces
 pub mod RawView
+pub mod ReaderView
 pub mod Search

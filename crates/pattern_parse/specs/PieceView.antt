@@ -2,7 +2,7 @@
 use Rattle.std.specs.FinMap.{FinMap}
 use Rattle.num_base.specs.Names.{name_cmp}
 use Rattle.num_base.specs.declared.format.Format.{Format}
-use Rattle.std.specs.Prelude.{◌≡◌, ℤ, List, map, Option, Result, Ok, Err}
+use Rattle.std.specs.Prelude.{◌≡◌, ℤ, List, map, Option, Result, Ok, Err, IfOk}
 use Rattle.ere_tree.specs.View.{view}
 use Rattle.num_exprs.specs.View.{num_view}
 use Rattle.pattern_parse.specs.Block.{Said}
@@ -34,21 +34,35 @@ abbrev pub ReadsAs : Result pieces.Piece PatFault → held.Said → Result (Item
 ReadsAs (Ok one) said read = read ≡ Ok (item_view one, said_view said)
 ReadsAs (Err fault) said read = read ≡ Err fault
 
+-- the same of a reader that may want for memory, which is told apart
+abbrev pub Reads : {E : Type 0} → Result (Result pieces.Piece PatFault) E → held.Said → Result (Item × Said) PatFault → Type 0
+Reads result said due = IfOk result (λ read. ReadsAs read said due)
+
 -- what was read of the numbers that a block uses, with those that are used behind it
 abbrev pub SeenAs : Result (Option Format) PatFault → FinMap name_cmp ℤ
     → Result (Option Format × FinMap name_cmp ℤ) PatFault → Type 0
 SeenAs (Ok seen) used read = read ≡ Ok (seen, used)
 SeenAs (Err fault) used read = read ≡ Err fault
 
+abbrev pub Sees : {E : Type 0} → Result (Result (Option Format) PatFault) E → FinMap name_cmp ℤ
+    → Result (Option Format × FinMap name_cmp ℤ) PatFault → Type 0
+Sees result used due = IfOk result (λ read. SeenAs read used due)
+
 -- pieces, or a refusal
 abbrev pub told_view : Result (List pieces.Piece) PatFault → Result (List Item) PatFault
 told_view (Ok all) = Ok (items_view all)
 told_view (Err fault) = Err fault
 
+abbrev pub TellsAll : {E : Type 0} → Result (Result (List pieces.Piece) PatFault) E → Result (List Item) PatFault → Type 0
+TellsAll result due = IfOk result (λ told. told_view told ≡ due)
+
 -- what was read of a piece that says nothing of texts and numbers
 abbrev pub OneAs : Result pieces.Piece PatFault → Result Item PatFault → Type 0
 OneAs (Ok one) read = read ≡ Ok (item_view one)
 OneAs (Err fault) read = read ≡ Err fault
+
+abbrev pub ReadsOne : {E : Type 0} → Result (Result pieces.Piece PatFault) E → Result Item PatFault → Type 0
+ReadsOne result due = IfOk result (λ read. OneAs read due)
 
 -- what a parser told is so, unless memory ran out
 abbrev pub Tells : (Result (List Item) PatFault → Type 0) → Result patterns.Pattern PatFail → Type 0

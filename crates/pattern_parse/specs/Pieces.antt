@@ -19,6 +19,7 @@ use Rattle.pattern_parse.specs.declared.fault.PatKind.TheVariants.{BadRegex, NoR
 use Rattle.pattern_parse.specs.declared.pattern.BodyRules.{BodyRules}
 use Rattle.pattern_parse.specs.declared.pattern.Frame.{Frame}
 use Rattle.pattern_parse.specs.declared.pattern.Frame.TheVariants.{Open}
+use Rattle.pattern_parse.specs.declared.pattern.Pattern.{Pattern}
 
 -- where nothing was said
 abbrev pub nothing_said : Said
@@ -91,6 +92,10 @@ IsPieces body rules known told =
 -- the frame of the pattern
 abbrev pub frame_of : BodyRules → Frame
 frame_of rules = if is_excluded rules.demand.role || takes_none rules.demand.rule then Open else rules.frame
+
+-- a pattern has the frame and the case of its rules
+abbrev pub IsFramed : BodyRules → Pattern → Type 0
+IsFramed rules pattern = (pattern.frame ≡ frame_of rules) × (pattern.fold ≡ rules.fold)
 
 -- the formats with those of the numbers that the pieces define, in order
 abbrev pub with_format : FinMap name_cmp Format → Item → FinMap name_cmp Format

@@ -3,14 +3,14 @@ ghost use Rattle.std.specs.Prelude.{◌≡◌, ◌≤◌, ◌+◌, IfOk, OnOk, l
 ghost use Rattle.std.specs.List.{prefix_len};
 ghost use Rattle.ere_tree.specs.Class.{is_digit};
 ghost use Rattle.num_base.specs.Term.{binary, line, literal, term_of};
-ghost use Rattle.pattern_parse.specs.Pieces.{raw_read, regex_read};
+ghost use Rattle.pattern_parse.specs.Pieces.{regex_read};
 ghost use Rattle.pattern_parse.specs.Pieces as pieces;
 ghost use Rattle.pattern_parse.specs.RawView.{raw_of};
-ghost use Rattle.std.specs.FinMap as map;
+ghost use Rattle.pattern_parse.specs.ReaderView.{block_by, raw_by};
 ghost use Rattle.ere_tree.specs.Grammar as ere;
-ghost use Rattle.pattern_parse.specs.Block.{behind_line, behind_name, block_read, defined_as, line_digits, line_read, number_of, same_format, same_kind, text_read, uses_read, with_recall};
+ghost use Rattle.pattern_parse.specs.Block.{all_uses_read, behind_line, behind_name, line_digits, line_read, number_by, regex_defined, same_format, same_kind, text_read, with_recall};
 ghost use Rattle.pattern_parse.specs.Block as blocks;
-ghost use Rattle.pattern_parse.specs.PieceView.{OneAs, ReadsAs, SeenAs, item_view, said_view};
+ghost use Rattle.pattern_parse.specs.PieceView.{Reads, ReadsOne, Sees, item_view, said_view};
 ghost use Rattle.pattern_parse.specs.Item.{recall};
 ghost use Rattle.num_exprs.specs.View.{reading_view};
 
@@ -57,8 +57,7 @@ fn place(at: usize, behind: usize) -> Result<usize, NoMemory>
 
 /// A text that is defined by a regular expression at an offset.
 fn define(alloc: Global, name: &[u8], said: &mut Said, fold: bool, at: usize, bytes: &[u8]) -> Read
-    ensures { IfOk result (λ read. ReadsAs read said.new
-        (defined_as name.now (said_view said.old) at (ere.reading fold bytes.now))) }
+    ensures { Reads result said.new (regex_defined fold name.now (said_view said.old) at bytes.now) }
 {
     match parse(alloc, bytes, fold) {
         Ok(ere) => {
@@ -76,8 +75,7 @@ fn define(alloc: Global, name: &[u8], said: &mut Said, fold: bool, at: usize, by
 
 /// A text that is recalled.
 fn recall(alloc: Global, name: &[u8], said: &mut Said) -> Read
-    ensures { IfOk result (λ read. ReadsAs read said.new
-        (Ok (recall name.now, with_recall name.now (said_view said.old)))) }
+    ensures { Reads result said.new (Ok (recall name.now, with_recall name.now (said_view said.old))) }
 {
     let name = Bytes::from_slice(alloc, name)?;
     said.add_recall(name.as_slice())?;
@@ -94,8 +92,7 @@ fn behind_name(
     bytes: &[u8],
 ) -> Read
     requires { long ≤ length bytes.now }
-    ensures { IfOk result (λ read. ReadsAs read said.new
-        (behind_name fold (said_view said.old) at long bytes.now)) }
+    ensures { Reads result said.new (behind_name fold (said_view said.old) at long bytes.now) }
 {
     let (name, rest) = bytes.split_at(long);
     if bytes.len() == long {
@@ -110,7 +107,7 @@ fn behind_name(
 
 /// A block with a text.
 fn text_read(alloc: Global, said: &mut Said, fold: bool, at: usize, bytes: &[u8]) -> Read
-    ensures { IfOk result (λ read. ReadsAs read said.new (text_read fold (said_view said.old) at bytes.now)) }
+    ensures { Reads result said.new (text_read fold (said_view said.old) at bytes.now) }
 {
     match name_at(bytes) {
         Ok(long) => behind_name(alloc, said, fold, at, long, bytes),
@@ -162,8 +159,7 @@ fn read_uses(
     at: usize,
     uses: &[Named],
 ) -> Result<Result<Option<Format>, PatFault>, NoMemory>
-    ensures { IfOk result (λ read. SeenAs read used.new
-        (uses_read (map.get known.now) defined.now written at used.old None uses.now)) }
+    ensures { Sees result used.new (all_uses_read known.now defined.now written at used.old uses.now) }
 {
     let mut seen: Option<Format> = None;
     for named in uses {
@@ -238,8 +234,7 @@ fn add_own(defined: &mut Numbers, defines: &Option<Named>) -> Result<(), NoMemor
 
 /// A block with a number.
 fn read_number(known: &Formats, said: &mut Said, at: usize, read: BlockReading) -> Read
-    ensures { IfOk result (λ piece. ReadsAs piece said.new
-        (number_of (map.get known.now) (said_view said.old) at (reading_view read))) }
+    ensures { Reads result said.new (number_by known.now (said_view said.old) at (reading_view read)) }
 {
     let BlockReading {
         format: written,
@@ -335,8 +330,7 @@ fn behind_op(alloc: Global, op: Op, value: i128) -> Result<Expr, NoMemory>
 
 /// The digits behind `@LINE` and a sign.
 fn line_digits(alloc: Global, op: Op, at: usize, bytes: &[u8]) -> Read
-    ensures { IfOk result (λ read. OneAs read
-        (line_digits op at (prefix_len is_digit bytes.now) bytes.now)) }
+    ensures { ReadsOne result (line_digits op at (prefix_len is_digit bytes.now) bytes.now) }
 {
     let count = digits_length(bytes);
     match decimal(bytes.split_at(count).0) {
@@ -354,7 +348,7 @@ fn line_digits(alloc: Global, op: Op, at: usize, bytes: &[u8]) -> Read
 
 /// What is behind `@LINE`.
 fn behind_line(alloc: Global, at: usize, bytes: &[u8]) -> Read
-    ensures { IfOk result (λ read. OneAs read (behind_line at bytes.now)) }
+    ensures { ReadsOne result (behind_line at bytes.now) }
 {
     if bytes.is_empty() {
         Ok(Ok(line_number(Expr::Line)))
@@ -369,7 +363,7 @@ fn behind_line(alloc: Global, at: usize, bytes: &[u8]) -> Read
 
 /// A block with a line.
 fn line_read(alloc: Global, at: usize, bytes: &[u8]) -> Read
-    ensures { IfOk result (λ read. OneAs read (line_read at bytes.now)) }
+    ensures { ReadsOne result (line_read at bytes.now) }
 {
     if bytes.starts_with(b"@LINE") {
         behind_line(alloc, place(at, 5)?, behind(bytes, 5))
@@ -380,8 +374,7 @@ fn line_read(alloc: Global, at: usize, bytes: &[u8]) -> Read
 
 /// A block at an offset.
 pub(crate) fn block_read(reader: &Reader<'_>, said: &mut Said, at: usize, bytes: &[u8]) -> Read
-    ensures { IfOk result (λ read. ReadsAs read said.new
-        (block_read reader.now.fold (map.get reader.now.known.now) (said_view said.old) at bytes.now)) }
+    ensures { Reads result said.new (block_by reader.now said.old at bytes.now) }
 {
     if begins(bytes, b'#') {
         let read = read_block(reader.alloc, behind(bytes, 1))?;
@@ -395,7 +388,7 @@ pub(crate) fn block_read(reader: &Reader<'_>, said: &mut Said, at: usize, bytes:
 
 /// A regular expression at an offset.
 fn regex_read(alloc: Global, fold: bool, at: usize, bytes: &[u8]) -> Read
-    ensures { IfOk result (λ read. OneAs read (regex_read at (ere.reading fold bytes.now))) }
+    ensures { ReadsOne result (regex_read at (ere.reading fold bytes.now)) }
 {
     match parse(alloc, bytes, fold) {
         Ok(ere) => Ok(Ok(Piece::Regex(ere))),
@@ -415,8 +408,7 @@ pub(crate) fn raw_read(
     kind: RawKind,
     bytes: &[u8],
 ) -> Read
-    ensures { IfOk result (λ read. ReadsAs read said.new
-        (raw_read reader.now.fold (map.get reader.now.known.now) reader.now.label (said_view said.old) at (raw_of kind bytes.now))) }
+    ensures { Reads result said.new (raw_by reader.now said.old at (raw_of kind bytes.now)) }
 {
     match kind {
         RawKind::Text => Ok(Ok(Piece::Plain(Bytes::from_slice(reader.alloc, bytes)?))),

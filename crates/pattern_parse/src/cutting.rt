@@ -1,8 +1,8 @@
 //! Cutting a body into plain text, regular expressions and blocks.
-ghost use Rattle.std.specs.Prelude.{◌≡◌, ◌≤◌, ◌<◌, ◌+◌, ◌^◌, [], ◌∷◌, IfOk, IfSome, IsTrue, false, drop, length, map};
+ghost use Rattle.std.specs.Prelude.{◌≡◌, ◌≤◌, ◌<◌, ◌+◌, ◌^◌, [], ◌∷◌, IfOk, IfSome, IsTrue, false, drop, length};
 ghost use Rattle.pattern_parse.specs.Cut.{IsCut, front_at, over, starts_twice, text};
 ghost use Rattle.pattern_parse.specs.Ends.{behind_byte, end_of, is_text, run_of, up_to_end};
-ghost use Rattle.pattern_parse.specs.RawView.{Steps, ending_view, raw_view};
+ghost use Rattle.pattern_parse.specs.RawView.{IsCutAs, Steps};
 
 use num_spell::behind;
 use std::alloc::Global;
@@ -252,7 +252,7 @@ fn next_step(body: &[u8], at: usize) -> Step
 
 /// Cuts a body.
 pub(crate) fn cut_body(alloc: Global, body: &[u8]) -> Result<Cut, NoMemory>
-    ensures { IfOk result (λ made. IsCut body.now (map (raw_view body.now) made.raws.items) (ending_view made.ending)) }
+    ensures { IfOk result (IsCutAs body.now) }
 {
     let mut raws = Vec::new(alloc);
     let mut at: usize = 0;

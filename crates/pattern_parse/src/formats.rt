@@ -1,12 +1,8 @@
 //! Formats of numbers under names.
-ghost use Rattle.std.specs.Prelude.{◌≡◌, ℕ, List, OnErr, OnOk, Some, is_some, true};
-ghost use Rattle.std.specs.BTreeMap.{is_at};
-ghost use Rattle.std.specs.Cmp.Lexicographic.{slice_cmp};
-ghost use Rattle.std.specs.Map.{set_value};
-ghost use Rattle.std.specs.Ordering.{nat_cmp};
-ghost use Rattle.pattern_parse.specs.Formats.{HasPlace, HasPlaces, Stays, by_places, value_at};
+ghost use Rattle.std.specs.Prelude.{◌≡◌, ℕ, List, OnErr, OnOk, is_some, true};
+ghost use Rattle.pattern_parse.specs.Formats.{HasPlace, HasPlaces, SetsFormat, SetsFormats, Stays, by_places, value_at, with_entry};
 ghost use Rattle.pattern_parse.specs.PieceView.{item_view, items_view};
-ghost use Rattle.pattern_parse.specs.Pieces.{with_format, with_formats};
+ghost use Rattle.pattern_parse.specs.Pieces.{with_formats};
 ghost use Rattle.std.specs.FinMap as map;
 
 use crate::pattern::Piece;
@@ -70,8 +66,7 @@ fn set_format(held: &mut BTreeMap<Vec<u8>, Option<Format>>, name: &[u8], format:
 
 fn set_entry(held: &mut BTreeMap<Vec<u8>, Option<Format>>, name: &[u8], format: Format)
     requires { is_some (value_at held.old.entries name.now) ≡ true }
-    ensures { held.new.entries
-        ≡ set_value (is_at (λ k. slice_cmp nat_cmp name.now k.items)) held.old.entries (Some format) }
+    ensures { held.new.entries ≡ with_entry name.now format held.old.entries }
 {
     if let Some(place) = held.get_mut(name) {
         *place = Some(format);
@@ -118,7 +113,7 @@ fn make_places(
 /// Sets the format of the number that a piece defines, which has a place.
 fn set_piece_format(held: &mut BTreeMap<Vec<u8>, Option<Format>>, piece: &Piece)
     requires { HasPlace held.old.entries piece.now }
-    ensures set { by_places held.new.entries ≡ with_format (by_places held.old.entries) (item_view piece.now) }
+    ensures set { SetsFormat held.old.entries held.new.entries (item_view piece.now) }
     ensures stays { Stays held.old.entries held.new.entries }
 {
     match piece {
@@ -136,7 +131,7 @@ fn set_piece_format(held: &mut BTreeMap<Vec<u8>, Option<Format>>, piece: &Piece)
 /// Sets the formats of the numbers that pieces define, which have places.
 fn set_formats(held: &mut BTreeMap<Vec<u8>, Option<Format>>, pieces: &[Piece])
     requires { HasPlaces held.old.entries pieces.now }
-    ensures { by_places held.new.entries ≡ with_formats (by_places held.old.entries) (items_view pieces.now) }
+    ensures { SetsFormats held.old.entries held.new.entries (items_view pieces.now) }
 {
     for piece in pieces {
         set_piece_format(held, piece);

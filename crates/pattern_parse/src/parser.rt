@@ -1,11 +1,12 @@
 //! A body as pieces.
-ghost use Rattle.std.specs.Prelude.{◌≡◌, [], ◌∷◌, ◌-◌, IfOk, OnErr, drop, map, take};
+ghost use Rattle.std.specs.Prelude.{◌≡◌, [], ◌∷◌, ◌-◌, IfOk, OnErr, drop, take};
 ghost use Rattle.std.specs.FinMap as fin;
-ghost use Rattle.pattern_parse.specs.PieceView.{ReadsAs, Tells, items_view, said_view, told_view};
+ghost use Rattle.pattern_parse.specs.PieceView.{Reads, Tells, TellsAll, items_view, told_view};
 ghost use Rattle.pattern_parse.specs.Item.{plain};
 ghost use Rattle.pattern_parse.specs.Demand.{is_label};
-ghost use Rattle.pattern_parse.specs.Pieces.{IsPieces, behind_raw, ended, frame_of, is_plain, items_from, nothing_said, raw_read, with_formats};
-ghost use Rattle.pattern_parse.specs.RawView.{ending_view, raw_view};
+ghost use Rattle.pattern_parse.specs.Pieces.{IsFramed, IsPieces, behind_raw, ended, frame_of, is_plain, with_formats};
+ghost use Rattle.pattern_parse.specs.RawView.{ending_view, raw_view, raws_view};
+ghost use Rattle.pattern_parse.specs.ReaderView.{items_by, raw_by};
 ghost use Rattle.pattern_parse.specs.Search.{IsSearchable};
 
 use crate::block::{Read, Reader, behind_raw, raw_read, refused};
@@ -66,8 +67,7 @@ fn ended(label: bool, references: usize, at: usize, ending: Ending) -> Option<Pa
 
 /// A piece of a body at an offset.
 fn read_next(reader: &Reader<'_>, said: &mut Said, at: usize, body: &[u8], raw: &Raw) -> Read
-    ensures { IfOk result (λ read. ReadsAs read said.new
-        (raw_read reader.now.fold (fin.get reader.now.known.now) reader.now.label (said_view said.old) at (raw_view body.now raw.now))) }
+    ensures { Reads result said.new (raw_by reader.now said.old at (raw_view body.now raw.now)) }
 {
     raw_read(reader, said, at, raw.kind, part(body, raw.from, raw.to))
 }
@@ -91,9 +91,7 @@ fn room_for(alloc: Global, count: usize) -> Result<Items<Piece>, NoMemory>
 
 /// The pieces of a body that was cut.
 fn read_pieces(reader: &Reader<'_>, body: &[u8], raws: &[Raw], ending: Ending) -> Told
-    ensures { IfOk result (λ told. told_view told
-        ≡ items_from reader.now.fold (fin.get reader.now.known.now) reader.now.label nothing_said 0
-        (map (raw_view body.now) raws.now) (ending_view ending)) }
+    ensures { TellsAll result (items_by reader.now (raws_view body.now raws.now) (ending_view ending)) }
 {
     let mut said = Said::new(reader.alloc);
     let mut pieces = room_for(reader.alloc, raws.len())?;
@@ -168,7 +166,7 @@ pub fn parse_pattern(
     known: &mut Formats,
 ) -> Result<Pattern, PatFail>
     ensures pieces { Tells (IsPieces body.now rules.now (fin.get known.old)) result }
-    ensures framed { IfOk result (λ pattern. (pattern.frame ≡ frame_of rules.now) × (pattern.fold ≡ rules.now.fold)) }
+    ensures framed { IfOk result (IsFramed rules.now) }
     ensures known { IfOk result (λ pattern. known.new ≡ with_formats known.old (items_view pattern.pieces)) }
     ensures err { OnErr result (known.new ≡ known.old) }
     // A search finds the numbers of groups and references as it needs them.

@@ -1,5 +1,5 @@
 -- Seeking a pattern: the hit of its instance in a slice, and what the hit gives. After LLVM Command Guide, FileCheck.
-use Rattle.std.specs.Prelude.{◌≡◌, ℕ, ◌-◌, ◌≤◌, Bool, true, false, Option, Some, None, List, [], ◌∷◌, length, Result, Ok, Err}
+use Rattle.std.specs.Prelude.{◌≡◌, ℕ, ◌-◌, ◌≤◌, Bool, true, false, Option, Some, None, List, [], ◌∷◌, length, Result, Ok, Err, IfOk}
 use Rattle.std.specs.FinMap.{FinMap}
 use Rattle.std.specs.List.{cons_option}
 use Rattle.ere_hit.specs.Value.{hit_in}
@@ -10,16 +10,17 @@ use Rattle.num_base.specs.Names.{name_cmp}
 use Rattle.num_base.specs.declared.evaluation.EvalFault.{EvalFault}
 use Rattle.num_base.specs.declared.evaluation.EvalFault.TheVariants as fault
 use Rattle.pattern_hits.specs.Bound.{all_bound}
-use Rattle.pattern_instance.specs.Instance.{Instance, undefined, faulty, made, instance_of}
-use Rattle.pattern_instance.specs.Known.{known_of}
+use Rattle.pattern_instance.specs.Instance.{Instance, undefined, faulty, made}
+use Rattle.pattern_instance.specs.Views.{instance_by}
 use Rattle.pattern_instance.specs.declared.gift.Gift.{Gift}
 use Rattle.pattern_parse.specs.Item.{Item, plain, regex, define, recall, number}
 use Rattle.pattern_parse.specs.PieceView.{items_view}
 use Rattle.pattern_parse.specs.declared.pattern.Frame.TheVariants.{Open}
 use Rattle.pattern_parse.specs.declared.pattern.Pattern.{Pattern}
+use Rattle.pattern_scan.specs.declared.seeking.Context.{Context}
 use Rattle.pattern_scan.specs.declared.sought.Sought.{Sought}
 use Rattle.pattern_scan.specs.declared.sought.Sought.TheVariants.{Found, Absent, UndefinedNames, Range, ZeroDivisor, Unreadable}
-use Rattle.pattern_vars.specs.Vars.{have_places}
+use Rattle.pattern_vars.specs.Vars.{HavePlaces, have_places}
 use Rattle.pattern_vars.specs.declared.binding.Binding.{Binding}
 use Rattle.pattern_vars.specs.declared.vars.Held.{Held}
 use Rattle.tt_base.specs.Place.{span_of}
@@ -50,8 +51,11 @@ sought_of fold text from (made t gifts) = answer_of fold text gifts (hit_in text
 -- what the pattern of a directive of a line answers, with variables, in the slice of a text that begins at an offset
 abbrev pub sought : Pattern → FinMap name_cmp Held → List ℕ → ℕ → ℕ → Sought
 sought pattern vars text from line =
-    sought_of pattern.fold text from
-    (instance_of (known_of vars line pattern.fold) pattern.frame (items_view pattern.pieces))
+    sought_of pattern.fold text from (instance_by vars line pattern)
+
+-- the same where a search sees the text and the variables
+abbrev pub sought_in : Context → Pattern → ℕ → ℕ → Sought
+sought_in context pattern from line = sought pattern context.vars.now context.text.now from line
 
 -- what is found lies between two offsets, and a number that can't be read ends before the second
 abbrev pub IsWithin : ℕ → ℕ → Sought → Type 0
@@ -80,6 +84,11 @@ abbrev pub ArePlaced : FinMap name_cmp Held → Sought → Type 0
 ArePlaced vars (Found span fresh) = have_places vars fresh ≡ true
 ArePlaced vars answer = Unit {0}
 
+-- where the names that a pattern defines have places, those that it gives something do
+abbrev pub KeepsPlaces : {E : Type 0} → Context → Pattern → Result Sought E → Type 0
+KeepsPlaces context pattern result =
+    HavePlaces context.vars.now (names_of pattern) → IfOk result (ArePlaced context.vars.now)
+
 -- whether one of the pieces is a regular expression or defines a text by one
 abbrev pub is_expressed : List Item → Bool
 is_expressed [] = false
@@ -100,8 +109,11 @@ IsShown expressed text from (made t gifts) shown =
 -- the same of the pattern of a directive of a line, with variables
 abbrev pub IsShownFor : Pattern → FinMap name_cmp Held → ℕ → List ℕ → ℕ → ℕ → Type 0
 IsShownFor pattern vars line text from shown =
-    IsShown (is_expressed (items_view pattern.pieces)) text from
-    (instance_of (known_of vars line pattern.fold) pattern.frame (items_view pattern.pieces)) shown
+    IsShown (is_expressed (items_view pattern.pieces)) text from (instance_by vars line pattern) shown
+
+-- the same where a search sees the text and the variables
+abbrev pub IsShownIn : Context → Pattern → ℕ → ℕ → ℕ → Type 0
+IsShownIn context pattern line from shown = IsShownFor pattern context.vars.now line context.text.now from shown
 
 -- a pattern is one piece of plain text, as it stands
 pub record IsPlain (pattern : Pattern) (text : List ℕ) : Type 0 where

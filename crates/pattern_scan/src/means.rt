@@ -1,10 +1,8 @@
 //! How the expression of a pattern is looked for.
-ghost use Rattle.std.specs.Prelude.{◌≡◌, ◌≤◌, ◌+◌, ◌-◌, IfOk, IfSome, length, false, true};
-ghost use Rattle.ere_match.specs.Shown.{ShownForHit};
+ghost use Rattle.std.specs.Prelude.{◌≡◌, ◌≤◌, ◌+◌, ◌-◌, IfOk, length, true};
 ghost use Rattle.ere_tree.specs.Hit.{FindsHit};
-ghost use Rattle.ere_tree.specs.Shape.{has_refs};
 ghost use Rattle.ere_tree.specs.View.{view};
-ghost use Rattle.pattern_scan.specs.Means.{IsFor, Shows};
+ghost use Rattle.pattern_scan.specs.Means.{IsFor, Shows, ShowsHit};
 
 use ere_auto::Steps;
 use ere_match::{Search, find};
@@ -54,8 +52,7 @@ impl Means {
         requires inside { from ≤ length text.now }
         requires is_for { IsFor self.old (view ere.now) }
         ensures hit { IfOk result (FindsHit text.now (view ere.now) from) }
-        ensures least { Shows self.old → has_refs (view ere.now) ≡ false → IfOk result (λ found.
-            ShownForHit (length text.now - from) from found (steps.new - steps.old)) }
+        ensures least { ShowsHit self.old (view ere.now) text.now from (steps.new - steps.old) result }
         ensures most { steps.new ≤ steps.old + (length text.now - from) + 1 }
         ensures counted { steps.old ≤ steps.new }
         ensures is_for { IsFor self.new (view ere.now) }

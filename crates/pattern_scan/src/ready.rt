@@ -1,13 +1,11 @@
 //! Patterns that are made ready for the tries of a directive.
-ghost use Rattle.std.specs.Prelude.{◌≡◌, ◌≤◌, ◌+◌, ◌-◌, IfOk, IfSome, length};
+ghost use Rattle.std.specs.Prelude.{◌≡◌, ◌≤◌, ◌+◌, ◌-◌, IfOk, IfSome, OnOk, length};
 ghost use Rattle.pattern_hits.specs.Caps.{IsSoundIn};
-ghost use Rattle.pattern_instance.specs.Instance.{instance_of};
-ghost use Rattle.pattern_instance.specs.Known.{known_of};
 ghost use Rattle.pattern_instance.specs.Views.{instance_view};
 ghost use Rattle.pattern_parse.specs.PieceView.{items_view};
 ghost use Rattle.pattern_parse.specs.Search.{IsSearchable};
-ghost use Rattle.pattern_scan.specs.Ready.{IsBuilt, IsReady, sought_by};
-ghost use Rattle.pattern_scan.specs.Seek.{IsShown, IsWithin, answer_of, is_expressed, refusal_of};
+ghost use Rattle.pattern_scan.specs.Ready.{IsBuilt, IsReady, IsShownBy, sought_by};
+ghost use Rattle.pattern_scan.specs.Seek.{IsWithin, answer_of, is_expressed, refusal_of};
 
 use crate::means::Means;
 use crate::sought::Sought;
@@ -126,8 +124,7 @@ impl Ready {
         requires built { IsBuilt self.old }
         ensures value { IfOk result (λ answer. answer ≡ sought_by self.old text.now from) }
         ensures within { IfOk result (IsWithin from (length text.now)) }
-        ensures least { IfOk result (λ answer. IsShown self.old.is_expressed text.now from (instance_view self.old.instance)
-            (steps.new - steps.old)) }
+        ensures least { OnOk result (IsShownBy self.old text.now from (steps.new - steps.old)) }
         ensures most { steps.new ≤ steps.old + (length text.now - from) + 1 }
         ensures counted { steps.old ≤ steps.new }
         ensures built { IsBuilt self.new }

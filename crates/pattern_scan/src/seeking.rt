@@ -1,10 +1,9 @@
 //! Seeking a pattern.
-ghost use Rattle.std.specs.Prelude.{◌≡◌, ◌≤◌, ◌+◌, ◌-◌, [], ℕ, false, IfOk, IfSome, List, length};
+ghost use Rattle.std.specs.Prelude.{◌≡◌, ◌≤◌, ◌+◌, ◌-◌, [], ℕ, false, IfOk, IfSome, List, OnOk, length};
 ghost use Rattle.ere_tree.specs.Hit.{FindsHit};
 ghost use Rattle.pattern_parse.specs.PieceView.{items_view};
 ghost use Rattle.pattern_parse.specs.Search.{IsSearchable};
-ghost use Rattle.pattern_vars.specs.Vars.{HavePlaces};
-ghost use Rattle.pattern_scan.specs.Seek.{ArePlaced, IsPlain, IsShownFor, IsWithin, answer_of, names_of, sought};
+ghost use Rattle.pattern_scan.specs.Seek.{IsPlain, IsShownIn, IsWithin, KeepsPlaces, answer_of, sought_in};
 
 use crate::ready::prepare;
 use crate::sought::Sought;
@@ -64,9 +63,8 @@ fn seek_once<L: Ledger>(
 ) -> Result<Sought, NoMemory>
     requires inside { from ≤ length context.now.text.now }
     requires searchable { IsSearchable (items_view pattern.now.pieces) }
-    ensures value { IfOk result (λ answer. answer ≡ sought pattern.now context.now.vars.now context.now.text.now from line) }
-    ensures least { IfOk result (λ answer.
-        IsShownFor pattern.now context.now.vars.now line context.now.text.now from (steps.new - steps.old)) }
+    ensures value { IfOk result (λ answer. answer ≡ sought_in context.now pattern.now from line) }
+    ensures least { OnOk result (IsShownIn context.now pattern.now line from (steps.new - steps.old)) }
     ensures most { steps.new ≤ steps.old + (length context.now.text.now - from) + 1 }
     ensures counted { steps.old ≤ steps.new }
 {
@@ -85,11 +83,10 @@ pub fn seek<L: Ledger>(
 ) -> Result<Sought, NoMemory>
     requires inside { from ≤ length context.now.text.now }
     requires searchable { IsSearchable (items_view pattern.now.pieces) }
-    ensures value { IfOk result (λ answer. answer ≡ sought pattern.now context.now.vars.now context.now.text.now from line) }
+    ensures value { IfOk result (λ answer. answer ≡ sought_in context.now pattern.now from line) }
     ensures within { IfOk result (IsWithin from (length context.now.text.now)) }
-    ensures named { HavePlaces context.now.vars.now (names_of pattern.now) → IfOk result (ArePlaced context.now.vars.now) }
-    ensures least { IfOk result (λ answer.
-        IsShownFor pattern.now context.now.vars.now line context.now.text.now from (steps.new - steps.old)) }
+    ensures named { KeepsPlaces context.now pattern.now result }
+    ensures least { OnOk result (IsShownIn context.now pattern.now line from (steps.new - steps.old)) }
     ensures most { steps.new ≤ steps.old + (length context.now.text.now - from) + 1 }
     ensures counted { steps.old ≤ steps.new }
 {

@@ -1,10 +1,8 @@
 //! Patterns whose pieces are all text once variables have their values.
-ghost use Rattle.std.specs.Prelude.{◌≡◌, false, true, IfOk, IfSome, Some};
-ghost use Rattle.std.specs.Option.{option_map};
-ghost use Rattle.num_base.specs.Term.{term_of};
-ghost use Rattle.pattern_instance.specs.Known.{known_of};
+ghost use Rattle.std.specs.Prelude.{IfOk, IfSome};
+ghost use Rattle.num_exprs.specs.View.{num_view};
 ghost use Rattle.pattern_parse.specs.PieceView.{item_view, items_view};
-ghost use Rattle.pattern_scan.specs.Stored.{AddsRun, AreText, IsStored, number_text, piece_text};
+ghost use Rattle.pattern_scan.specs.Stored.{AddsText, IsBlockText, IsStored, MayBeText, known_at};
 
 use crate::ready::is_expressed;
 use num_base::Format;
@@ -27,8 +25,7 @@ fn number_text(
     vars: &Vars,
     line: u32,
 ) -> Result<Option<Bytes>, NoMemory>
-    ensures { IfOk result (λ told. told ≡ number_text (known_of vars.now line false) block.now.defines format
-        (option_map term_of block.now.expr)) }
+    ensures { IfOk result (IsBlockText (known_at vars.now line) (num_view block.now) format) }
 {
     let (None, Some(expr)) = (&block.defines, &block.expr) else {
         return Ok(None);
@@ -47,8 +44,7 @@ fn add_piece(
     vars: &Vars,
     line: u32,
 ) -> Result<bool, NoMemory>
-    ensures { IfOk result (λ told. told ≡ true →
-        AddsRun (piece_text (known_of vars.now line false) (item_view piece.now)) text.old text.new) }
+    ensures { IfOk result (AddsText (known_at vars.now line) (item_view piece.now) text.old text.new) }
 {
     match piece {
         Piece::Plain(run) => text.append(run.as_slice())?,
@@ -73,7 +69,7 @@ fn pieces_text(
     vars: &Vars,
     line: u32,
 ) -> Result<Option<Bytes>, NoMemory>
-    ensures { IfOk result (λ told. IfSome told (AreText (known_of vars.now line false) (items_view pieces.now))) }
+    ensures { IfOk result (MayBeText (known_at vars.now line) (items_view pieces.now)) }
 {
     let mut text = Bytes::with_capacity(alloc, FIRST_BYTES)?;
     for piece in pieces {

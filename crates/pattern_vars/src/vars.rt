@@ -1,13 +1,9 @@
 //! Texts and numbers under names.
-ghost use Rattle.std.specs.Prelude.{◌≡◌, IfOk, IfSome, OnOk, Some, is_some, true};
-ghost use Rattle.std.specs.BTreeMap.{is_at};
-ghost use Rattle.std.specs.Cmp.Lexicographic.{slice_cmp};
-ghost use Rattle.std.specs.Map.{set_value};
+ghost use Rattle.std.specs.Prelude.{◌≡◌, IfOk, OnOk, is_some, true};
 ghost use Rattle.std.specs.Option.{option_map};
-ghost use Rattle.std.specs.Ordering.{nat_cmp};
 ghost use Rattle.std.specs.FinMap as map;
 ghost use Rattle.num_base.specs.Names.{by_names};
-ghost use Rattle.pattern_vars.specs.Vars.{IsCleared, bound, bound_all, forgotten, has_place, have_places, is_lasting, nothing_held, number_of, text_of, value_at, with_places};
+ghost use Rattle.pattern_vars.specs.Vars.{Changes, IsCleared, MakesPlace, MakesPlaces, bound, bound_all, forgotten, has_place, have_places, is_lasting, number_of, text_of, with_number, with_places, with_text};
 
 use crate::binding::{Binding, Bindings};
 use std::alloc::Global;
@@ -44,7 +40,7 @@ impl Model for Vars {
 
 /// A place with nothing in it.
 fn add_place(alloc: Global, held: &mut BTreeMap<Vec<u8>, Held>, name: &[u8]) -> Result<(), NoMemory>
-    ensures { OnOk result (by_names held.new.entries ≡ map.insert (by_names held.old.entries) name.now nothing_held) }
+    ensures { OnOk result (MakesPlace held.old.entries held.new.entries name.now) }
 {
     let Ok(owned) = Vec::from_slice(alloc, name) else {
         return Err(NoMemory);
@@ -61,8 +57,7 @@ fn add_place(alloc: Global, held: &mut BTreeMap<Vec<u8>, Held>, name: &[u8]) -> 
 
 /// Stores a text at a name's place.
 fn set_text(held: &mut BTreeMap<Vec<u8>, Held>, name: &[u8], text: Bytes)
-    ensures { IfSome (value_at held.old.entries name.now) (λ one. held.new.entries
-        ≡ set_value (is_at (λ k. slice_cmp nat_cmp name.now k.items)) held.old.entries (record one { text = Some text })) }
+    ensures { Changes held.old.entries held.new.entries name.now (with_text text) }
 {
     if let Some(place) = held.get_mut(name) {
         place.text = Some(text);
@@ -71,8 +66,7 @@ fn set_text(held: &mut BTreeMap<Vec<u8>, Held>, name: &[u8], text: Bytes)
 
 /// Stores a number at a name's place.
 fn set_number(held: &mut BTreeMap<Vec<u8>, Held>, name: &[u8], number: Option<i128>)
-    ensures { IfSome (value_at held.old.entries name.now) (λ one. held.new.entries
-        ≡ set_value (is_at (λ k. slice_cmp nat_cmp name.now k.items)) held.old.entries (record one { number = number })) }
+    ensures { Changes held.old.entries held.new.entries name.now (with_number number) }
 {
     if let Some(place) = held.get_mut(name) {
         place.number = number;
@@ -108,7 +102,7 @@ fn make_places(
     held: &mut BTreeMap<Vec<u8>, Held>,
     names: &[Bytes],
 ) -> Result<(), NoMemory>
-    ensures { OnOk result (by_names held.new.entries ≡ with_places (by_names held.old.entries) names.now) }
+    ensures { OnOk result (MakesPlaces held.old.entries held.new.entries names.now) }
 {
     for name in names {
         add_place(alloc, held, name.as_slice())?;

@@ -5,14 +5,10 @@ use Rattle.std.proofs.lemmas.Bool.{cases_lt}
 use Rattle.std.proofs.lemmas.List.{get_or-replicate}
 use Rattle.std.specs.Prelude.{replicate}
 use Rattle.std.proofs.lemmas.List.Elements.{All-get_or, All-weaker}
-use Rattle.prefix_tree.specs.Heads.{AreHeads, HasHead, may_begin}
+use Rattle.prefix_tree.specs.Heads.{AreHeads, HasHead, HeadsStay, may_begin}
 use Rattle.prefix_tree.specs.Prefix.{IsMeant}
 
--- flags that are set stay set
-abbrev pub Stay : List Bool → List Bool → Type 0
-Stay old new = (byte : ℕ) → get_or old byte false ≡ true → get_or new byte false ≡ true
-
-pub heads_stay : (old new : List Bool) (prefixes : List (List ℕ)) → Stay old new → AreHeads old prefixes → AreHeads new prefixes
+pub heads_stay : (old new : List Bool) (prefixes : List (List ℕ)) → HeadsStay old new → AreHeads old prefixes → AreHeads new prefixes
 heads_stay old new prefixes stay are =
     All-weaker (HasHead old) (HasHead new) (λ prefix has byte rest small begins. stay byte (has byte rest small begins)) prefixes are
 

@@ -11,23 +11,10 @@ use Rattle.std.proofs.Math.Logic.{∥∥₁_elim, ∥∥₁_map, ∥∥₁_prop}
 use Rattle.std.proofs.lemmas.Grind.{not_there}
 use Rattle.prefix_tree.proofs.PrefixLemmas.{counts_by_value, meant_counts, meant_once, stable}
 use Rattle.prefix_tree.specs.Prefix.{CountsBefore, IsMeant, Stands, meant}
-use Rattle.prefix_tree.specs.Tree.{IsTree, Leads, LeadsToEnd, ended}
-use Rattle.prefix_tree.specs.Turns.{IsOnly}
+use Rattle.prefix_tree.specs.Tree.{End, EndOnly, EndStay, IsTree, Leads, LeadsToEnd, Next, NextOnly, NextStay, ended}
 use Rattle.prefix_tree.specs.declared.standing.Standing.{Standing}
 
-abbrev pub Next : Type 0
-Next = ℕ → ℕ → ℕ → Option ℕ
-
-abbrev pub End : Type 0
-End = ℕ → ℕ → Option ℕ
-
 -- ---- more turns
-
-abbrev pub NextStay : Next → Next → Type 0
-NextStay old new = (owner count byte to : ℕ) → old owner count byte ≡ Some to → new owner count byte ≡ Some to
-
-abbrev pub EndStay : End → End → Type 0
-EndStay old new = (owner count to : ℕ) → old owner count ≡ Some to → new owner count ≡ Some to
 
 pub leads_stay : (old new : Next) → NextStay old new → (owner count : ℕ) (text : List ℕ) (last : ℕ)
     → Leads old owner count text last → Leads new owner count text last
@@ -59,12 +46,10 @@ AreTurns prefixes next = (owner length byte to : ℕ) → next owner length byte
 -- so are those to which one of a prefix comes
 pub turns_more : (prefixes : List (List ℕ)) (old new : Next) (owner count byte index : ℕ) → AreTurns prefixes old
     → take (count + 1) (get_or prefixes index []) ≡ take count (get_or prefixes owner []) ++ byte ∷ []
-    → ((from length one to : ℕ) → new from length one ≡ Some to
-    → (old from length one ≡ Some to) ⊎ IsOnly owner count byte index from length one to)
-    → AreTurns prefixes new
+    → NextOnly old new owner count byte index → AreTurns prefixes new
 turns_more prefixes old new owner count byte index turns this only from length one to is =
     ⊎_elim (λ (was : old from length one ≡ Some to). turns from length one to was)
-    (λ (new : IsOnly owner count byte index from length one to).
+    (λ (new : (from ≡ owner) × (length ≡ count) × (one ≡ byte) × (to ≡ index)).
     ap (λ n. take (n + 1) (get_or prefixes to [])) new.1 ∙ ap (λ i. take (count + 1) (get_or prefixes i [])) new.3 ∙ this
     ∙ ap (λ i. take count (get_or prefixes i []) ++ byte ∷ []) (sym new.0)
     ∙ ap (λ n. take n (get_or prefixes from []) ++ byte ∷ []) (sym new.1)
@@ -75,8 +60,7 @@ turns_more prefixes old new owner count byte index turns this only from length o
 pub added : (prefixes : List (List ℕ)) (index : ℕ) (old new : Next) (end ends : End) (owner : ℕ)
     → IsTree old end prefixes index → NextStay old new → EndStay end ends
     → AreTurns prefixes new
-    → ((from count to : ℕ) → ends from count ≡ Some to → (end from count ≡ Some to)
-    ⊎ ((from ≡ owner) × (count ≡ length (get_or prefixes index [])) × (to ≡ index)))
+    → EndOnly end ends owner (length (get_or prefixes index [])) index
     → Leads new 0 0 (get_or prefixes index []) owner
     → take (length (get_or prefixes index [])) (get_or prefixes owner []) ≡ get_or prefixes index []
     → ((to : ℕ) × (ends owner (length (get_or prefixes index [])) ≡ Some to))

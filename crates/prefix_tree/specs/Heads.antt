@@ -12,6 +12,10 @@ HasHead heads prefix =
 abbrev pub AreHeads : List Bool → List (List ℕ) → Type 0
 AreHeads heads prefixes = All (HasHead heads) prefixes
 
+-- flags that are set stay set
+abbrev pub HeadsStay : List Bool → List Bool → Type 0
+HeadsStay old new = (byte : ℕ) → slice_index_or old byte false ≡ true → slice_index_or new byte false ≡ true
+
 -- whether a prefix may stand at the front of a text
 abbrev pub may_begin : List Bool → List ℕ → Bool
 may_begin heads [] = true

@@ -1,6 +1,6 @@
 //! The bytes that a prefix may begin with.
-ghost use Rattle.std.specs.Prelude.{◌≡◌, ℕ, false, true, slice_index_or};
-ghost use Rattle.prefix_tree.specs.Heads.{AreHeads, HasHead, may_begin};
+ghost use Rattle.std.specs.Prelude.{◌≡◌};
+ghost use Rattle.prefix_tree.specs.Heads.{AreHeads, HasHead, HeadsStay, may_begin};
 
 use tt_base::Bytes;
 
@@ -18,8 +18,7 @@ pub fn heads_of(prefixes: &[Bytes]) -> [bool; 256]
 /// Sets the flag of the byte with which a prefix begins; an empty one may stand anywhere.
 fn set_head(heads: &mut [bool; 256], prefix: &[u8])
     ensures head { HasHead heads.new prefix.now }
-    ensures stay { (byte : ℕ) → slice_index_or heads.old byte false ≡ true
-        → slice_index_or heads.new byte false ≡ true }
+    ensures stay { HeadsStay heads.old heads.new }
 {
     match prefix {
         [] => *heads = [true; 256],

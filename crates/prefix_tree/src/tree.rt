@@ -3,7 +3,7 @@ ghost use Rattle.std.specs.Prelude.{◌≡◌, ◌+◌, ◌<◌, ◌≤◌, IfOk
 ghost use Rattle.prefix_tree.specs.Heads.{AreHeads};
 ghost use Rattle.prefix_tree.specs.Prefix.{IsMeant, meant, taken};
 ghost use Rattle.prefix_tree.specs.Tree.{IsTree, ended};
-ghost use Rattle.prefix_tree.specs.Turns.{end_of, next_of};
+ghost use Rattle.prefix_tree.specs.Turns.{IsWholeTree, end_of, next_of};
 
 use crate::heads::{heads_of, may_begin};
 use crate::standing::Standing;
@@ -21,7 +21,7 @@ pub struct PrefixTree<'a> {
     turns: Turns,
     /// For each byte, whether a prefix may begin with it.
     heads: [bool; 256],
-    ghost whole: { ∥ IsTree (next_of turns) (end_of turns) prefixes.now (length prefixes.now) ∥₁ },
+    ghost whole: { IsWholeTree turns prefixes.now },
     ghost begins: { AreHeads heads prefixes.now },
 }
 
@@ -58,7 +58,7 @@ impl<'a> PrefixTree<'a> {
 
 /// The turns of all prefixes.
 fn turns_of(alloc: Global, prefixes: &[Bytes]) -> Result<Turns, NoMemory>
-    ensures { IfOk result (λ turns. ∥ IsTree (next_of turns) (end_of turns) prefixes.now (length prefixes.now) ∥₁) }
+    ensures { IfOk result (λ turns. IsWholeTree turns prefixes.now) }
 {
     let mut turns = Turns::new(alloc);
     for index in 0..prefixes.len() {
@@ -84,7 +84,7 @@ fn add(turns: &mut Turns, prefixes: &[Bytes], index: usize) -> Result<(), NoMemo
 
 /// The same where one of the prefixes may stand. A few prefixes need no turns.
 fn longest_of(turns: &Turns, prefixes: &[Bytes], text: &[u8]) -> Option<Standing>
-    requires { ∥ IsTree (next_of turns.now) (end_of turns.now) prefixes.now (length prefixes.now) ∥₁ }
+    requires { IsWholeTree turns.now prefixes.now }
     ensures { result ≡ meant prefixes.now text.now }
 {
     if prefixes.len() <= FEW {
@@ -122,7 +122,7 @@ fn taken(stands: bool, index: usize, length: usize, best: Option<Standing>) -> O
 
 /// The longest of the prefixes of a tree that stand at the front of a text.
 fn longest_in(turns: &Turns, prefixes: &[Bytes], text: &[u8]) -> Option<Standing>
-    requires { ∥ IsTree (next_of turns.now) (end_of turns.now) prefixes.now (length prefixes.now) ∥₁ }
+    requires { IsWholeTree turns.now prefixes.now }
     ensures { result ≡ meant prefixes.now text.now }
 {
     let mut best = None;

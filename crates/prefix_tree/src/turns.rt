@@ -1,6 +1,7 @@
 //! The turns from one front of prefixes to the next.
-ghost use Rattle.std.specs.Prelude.{◌≡◌, ◌⊎◌, ◌≤◌, ℕ, None, Some, IfOk, OnOk};
-ghost use Rattle.prefix_tree.specs.Turns.{IsOnly, next_of, end_of};
+ghost use Rattle.std.specs.Prelude.{◌≡◌, ◌≤◌, ℕ, None, Some, IfOk, OnOk};
+ghost use Rattle.prefix_tree.specs.Tree.{EndOnly, EndStay, NextOnly, NextStay};
+ghost use Rattle.prefix_tree.specs.Turns.{next_of, end_of};
 
 use std::alloc::Global;
 use std::collections::HashMap;
@@ -51,10 +52,8 @@ impl Turns {
         new: usize,
     ) -> Result<usize, NoMemory>
         ensures went { IfOk result (λ to. next_of self.new owner length byte ≡ Some to) }
-        ensures stay { OnOk result ((from count one to : ℕ) → next_of self.old from count one ≡ Some to
-            → next_of self.new from count one ≡ Some to) }
-        ensures only { OnOk result ((from count one to : ℕ) → next_of self.new from count one ≡ Some to
-            → (next_of self.old from count one ≡ Some to) ⊎ IsOnly owner length byte new from count one to) }
+        ensures stay { OnOk result (NextStay (next_of self.old) (next_of self.new)) }
+        ensures only { OnOk result (NextOnly (next_of self.old) (next_of self.new) owner length byte new) }
         ensures ends { OnOk result (self.new.end ≡ self.old.end) }
     {
         match self.next(owner, length, byte) {
@@ -69,10 +68,8 @@ impl Turns {
     /// A front is a whole prefix, of the number `new` where none was before.
     pub fn end_at(&mut self, owner: usize, length: usize, new: usize) -> Result<(), NoMemory>
         ensures ended { OnOk result ((to : ℕ) × (end_of self.new owner length ≡ Some to)) }
-        ensures stay { OnOk result ((from count to : ℕ) → end_of self.old from count ≡ Some to
-            → end_of self.new from count ≡ Some to) }
-        ensures only { OnOk result ((from count to : ℕ) → end_of self.new from count ≡ Some to
-            → (end_of self.old from count ≡ Some to) ⊎ ((from ≡ owner) × (count ≡ length) × (to ≡ new))) }
+        ensures stay { OnOk result (EndStay (end_of self.old) (end_of self.new)) }
+        ensures only { OnOk result (EndOnly (end_of self.old) (end_of self.new) owner length new) }
         ensures nexts { OnOk result (self.new.next ≡ self.old.next) }
     {
         match self.end(owner, length) {

@@ -6,11 +6,11 @@ use Rattle.tt_outside.specs.declared.request.Request.{Request}
 use Rattle.tt_outside.specs.declared.request.Reply.{Reply}
 use Rattle.tt_outside.specs.declared.test_data.Test.{Test}
 use Rattle.test_course.specs.Bytes.{LIMIT}
-use Rattle.test_course.specs.Course.{over, asks}
+use Rattle.test_course.specs.Course.{over, asks, after}
 use Rattle.shell_play.specs.Play.{PlayCourse, Onward, Scene, Task, quiet, task_of, is_none_left, by_read, by_spawn, by_write, spawned, streamed, write_files, behind_command, behind_pipe, behind_line, commands, pipes, lines, from_dir}
 use Rattle.mini_shell.specs.declared.line.Line.{Line}
 use Rattle.mini_shell.specs.declared.line.Pipe.{Pipe}
-use Rattle.shell_play.specs.Places.{errors_of, flow_of, is_null, writes_of}
+use Rattle.shell_play.specs.Places.{errors_of, flow_of, is_null, places_of, writes_of}
 use Rattle.shell_play.specs.declared.stage.Found.{Found}
 use Rattle.shell_play.specs.declared.stage.Found.TheVariants.{Due, Ended}
 use Rattle.shell_play.specs.declared.stage.Running.{Running}
@@ -105,23 +105,34 @@ stands test told (Dir script) = from_dir test script.now told
 stands test told (Command r wants) = wanted test told r wants
 stands test told (Over began end) = over (record { told = told; began = began }) end
 
--- what is found is what a course has left, for each test and whatever was told
-abbrev pub FoundAs : ℕ → List Line → (Test → List Told → PlayCourse) → Found → Type 0
-FoundAs line rest course next = (test : Test) (told : List Told) → found test told line rest next ≡ course test told
+-- what is found is what pipes of a line have left in a directory and behind a status, for each test and whatever was told
+abbrev pub FoundAs : ℕ → List Line → List Pipe → List ℕ → ℕ → Found → Type 0
+FoundAs line rest left dir status next =
+    (test : Test) (told : List Told) → found test told line rest next ≡ in_line_from test line rest left dir status told
 
 -- a play stands where a course does, whatever was told
 abbrev pub StandsAs : Test → (List Told → PlayCourse) → Stage → Type 0
 StandsAs test course stage = (told : List Told) → stands test told stage ≡ course told
+
+-- and where these pipes of a line do
+abbrev pub StandsIn : Test → ℕ → List Line → List Pipe → List ℕ → ℕ → Stage → Type 0
+StandsIn test line script left dir status = StandsAs test (in_line_from test line script left dir status)
 
 -- behind a change it stands where a course does, whatever was told before the command at hand
 abbrev pub ChangesTo : Test → (List Told → PlayCourse) → Change → Type 0
 ChangesTo test course change =
     (before : List Told) → stands test (before ++ change.now ∷ []) change.stage ≡ course before
 
+-- where the streams of a command go
+abbrev pub places_at : Running → Places
+places_at r = places_of r.dir r.command.now.redirs
+
 -- the streams of a command come to their places: into files, to the transcript's errors, and to the flow
-abbrev pub IsPoured : Places → List ℕ → List ℕ → Poured → Type 0
-IsPoured places out err poured =
-    (poured.writes ≡ writes_of places out err) × (poured.errors ≡ errors_of places out err) × (poured.flow ≡ flow_of places out err)
+abbrev pub IsPoured : Running → Output → Poured → Type 0
+IsPoured r output poured =
+    (poured.writes ≡ writes_of (places_at r) output.out output.err)
+    × (poured.errors ≡ errors_of (places_at r) output.out output.err)
+    × (poured.flow ≡ flow_of (places_at r) output.out output.err)
 
 -- how many lines there are, as far as they are numbered
 abbrev pub lines_of : Stage → ℕ
@@ -178,6 +189,11 @@ is_heard (Files writes flow status) = true
 -- those that were told, where this is told now of the command at hand
 abbrev pub told_now : Bool → List Told → Told → List Told
 told_now heard told now = if heard then told_before told ++ now ∷ [] else told ++ now ∷ []
+
+-- behind a change of the command at hand it stands where a reply to its request leads
+abbrev pub ChangesBy : Test → List Told → Running → Wants → Reply → Change → Type 0
+ChangesBy test told r wants reply change =
+    stands test (told_now (is_heard wants) told change.now) change.stage ≡ after (wanted test told r wants) reply
 
 -- the request of a command that is due
 abbrev pub file_request : List Write → Request

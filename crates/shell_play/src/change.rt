@@ -1,16 +1,14 @@
 //! What a reply changes.
 ghost use Rattle.std.specs.Prelude.{◌≡◌, ◌+◌, ◌<◌, ◌++◌, ◌∷◌, [], IfOk, OnOk, length, if◌then◌else◌};
-ghost use Rattle.test_course.specs.Course.{after};
-ghost use Rattle.shell_play.specs.Places.{places_of};
 ghost use Rattle.shell_play.specs.Play.{is_none_left, first_word, last_failed, lacking, status_of, tooled};
-ghost use Rattle.shell_play.specs.Standing.{IsHere, IsPoured, AreFew, ChangesTo, files_by, files_left, is_heard, told_last, read_by, spawned_by, stands, streamed_by, task, told_now, wanted, written_by};
+ghost use Rattle.shell_play.specs.Standing.{IsHere, IsPoured, AreFew, ChangesBy, ChangesTo, files_by, files_left, is_heard, told_last, read_by, spawned_by, streamed_by, task, written_by};
 
 use crate::places::{Write, errors_of, flow_of, places_of, writes_of};
 use crate::stage::{Running, Stage, Wants};
 use crate::steps::next_command;
 use crate::told::{Note, PlayEnd, Told};
 use crate::tools::tooled;
-use mini_shell::{Command, Redir};
+use mini_shell::Command;
 use std::alloc::Global;
 use tt_base::{Bytes, Items, NoMemory};
 use tt_outside::{Finish, Reply, SharedBytes, Test};
@@ -109,19 +107,15 @@ struct Poured {
     flow: SharedBytes,
 }
 
-fn pour(
-    alloc: Global,
-    dir: &[u8],
-    redirs: &[Redir],
-    out: &SharedBytes,
-    err: &SharedBytes,
-) -> Result<Poured, NoMemory>
-    ensures { IfOk result (IsPoured (places_of dir.now redirs.now) out.now err.now) }
+/// The streams of a command, each at its place.
+fn pour(alloc: Global, running: &Running, output: &Output) -> Result<Poured, NoMemory>
+    ensures { IfOk result (IsPoured running.now output.now) }
 {
-    let places = places_of(alloc, dir, redirs)?;
-    let writes = writes_of(alloc, &places, out, err)?;
-    let errors = errors_of(alloc, &places, out, err)?;
-    let flow = flow_of(alloc, &places, out, err)?;
+    let redirs = running.command.redirs.as_slice();
+    let places = places_of(alloc, running.dir.as_slice(), redirs)?;
+    let writes = writes_of(alloc, &places, &output.out, &output.err)?;
+    let errors = errors_of(alloc, &places, &output.out, &output.err)?;
+    let flow = flow_of(alloc, &places, &output.out, &output.err)?;
     Ok(Poured {
         writes,
         errors,
@@ -168,18 +162,11 @@ fn streamed<'a>(
     ensures here { IfOk result (λ change. IsHere change.stage change.now.line) }
     ensures exact { IfOk result (ChangesTo test.now (streamed_by test.now running.now notes output.now)) }
 {
-    let poured = pour(
-        alloc,
-        running.dir.as_slice(),
-        running.command.redirs.as_slice(),
-        &output.out,
-        &output.err,
-    )?;
     let Poured {
         writes,
         errors,
         flow,
-    } = poured;
+    } = pour(alloc, running, output)?;
     let last = is_none_left(running.commands);
     let (shown, passed) = shown_or_passed(last, flow);
     let told = Told {
@@ -395,12 +382,11 @@ pub(crate) fn change_by<'a>(
     wants: &Wants,
     reply: &Reply,
 ) -> Result<Change<'a>, NoMemory>
-    requires few { (running.now.line + length running.now.lines.now < 1000) × (0 < files_left wants.now) }
+    requires few { running.now.line + length running.now.lines.now < 1000 }
+    requires next { 0 < files_left wants.now }
     ensures few { IfOk result (λ change. AreFew change.stage) }
     ensures here { IfOk result (λ change. IsHere change.stage change.now.line) }
-    ensures exact { IfOk result (λ change.
-        stands test.now (told_now (is_heard wants.now) told.now change.now) change.stage
-        ≡ after (wanted test.now told.now running.now wants.now) reply.now) }
+    ensures exact { IfOk result (ChangesBy test.now told.now running.now wants.now reply.now) }
 {
     match wants {
         Wants::Input(path) => by_read(alloc, test, running, path, reply),

@@ -2,9 +2,10 @@
 ghost use Rattle.std.specs.Prelude.{◌≡◌, ◌≢◌, ◌+◌, ◌≤◌, ◌^◌, [], IfOk, OnOk};
 ghost use Rattle.tt_outside.specs.Gave.{SameGave, last_of};
 ghost use Rattle.test_course.specs.Bytes.{AreLimited};
-ghost use Rattle.test_course.specs.Played.{CountsAsked, CountsFaults, IsFull, Played};
+ghost use Rattle.test_course.specs.Played.{IsFull, Played};
 ghost use Rattle.shell_play.specs.PlayOf.{course_of};
 ghost use Rattle.test_attempts.specs.Ends.{Ends};
+ghost use Rattle.test_attempts.specs.Hands.{Asked, Failed};
 
 use shell_play::{Due, Play, PlayEnd};
 use std::alloc::Global;
@@ -45,8 +46,8 @@ pub fn play_out<R: Runner>(
     ensures ends { IfOk result (λ left. Ends (course_of play.new) left.stop) }
     ensures most { IfOk result (λ left. left.kept ≤ 2 ^ 25) }
     ensures limited { OnOk result (AreLimited entries.old → AreLimited entries.new) }
-    ensures asked { OnOk result (CountsAsked (R.asked hand.old) (R.asked hand.new) entries.old entries.new) }
-    ensures faults { OnOk result (CountsFaults (R.faults hand.old) (R.faults hand.new) entries.old entries.new) }
+    ensures asked { OnOk result (Asked R.Runner hand.old hand.new entries.old entries.new) }
+    ensures faults { OnOk result (Failed R.Runner hand.old hand.new entries.old entries.new) }
     ensures later { R.faults hand.old ≤ R.faults hand.new }
     ensures begun { R.begun hand.new ≡ R.begun hand.old }
     ensures room { R.rooms hand.new ≡ R.rooms hand.old }

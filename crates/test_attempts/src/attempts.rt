@@ -2,11 +2,11 @@
 ghost use Rattle.std.specs.Prelude.{◌≡◌, ◌≢◌, ◌≤◌, ◌+◌, ◌^◌, [], IfOk, OnOk, length};
 ghost use Rattle.tt_outside.specs.Gave.{SameGave, last_of};
 ghost use Rattle.test_course.specs.Bytes.{AreLimited};
-ghost use Rattle.test_course.specs.Played.{CountsAsked, CountsFaults};
 ghost use Rattle.shell_play.specs.Play.{play};
 ghost use Rattle.test_attempts.specs.Attempts.{attempts_of};
 ghost use Rattle.test_attempts.specs.Ends.{is_failed};
 ghost use Rattle.test_attempts.specs.Finish.{Finishes};
+ghost use Rattle.test_attempts.specs.Hands.{Asked, Failed};
 
 use crate::attempt::{Stop, play_out};
 use mini_shell::Line;
@@ -49,8 +49,8 @@ pub fn run_attempts<'a, R: Runner>(
     ensures finishes { IfOk result (λ done. Finishes (R.gave hand.old) (last_of 0 (R.begun hand.old)) entries.old entries.new
         kept (attempts_of (play lines.now test.now) retries) done) }
     ensures limited { OnOk result (AreLimited entries.old → AreLimited entries.new) }
-    ensures asked { OnOk result (CountsAsked (R.asked hand.old) (R.asked hand.new) entries.old entries.new) }
-    ensures faults { OnOk result (CountsFaults (R.faults hand.old) (R.faults hand.new) entries.old entries.new) }
+    ensures asked { OnOk result (Asked R.Runner hand.old hand.new entries.old entries.new) }
+    ensures faults { OnOk result (Failed R.Runner hand.old hand.new entries.old entries.new) }
     ensures later { R.faults hand.old ≤ R.faults hand.new }
     ensures begun { R.begun hand.new ≡ R.begun hand.old }
     ensures room { R.rooms hand.new ≡ R.rooms hand.old }

@@ -1,7 +1,6 @@
 //! Where the windows of a text stand first.
-ghost use Rattle.std.specs.Prelude.{◌≡◌, ◌+◌, ◌<◌, ◌≤◌, ℕ, List, length, IfOk, slice_index_or};
-ghost use Rattle.tt_base.specs.Occurrence.{StandsNowhere};
-ghost use Rattle.text_windows.specs.Windows.{ArePlaces, slot_at};
+ghost use Rattle.std.specs.Prelude.{◌≡◌, ◌+◌, ◌<◌, ◌≤◌, length, IfOk, slice_index_or};
+ghost use Rattle.text_windows.specs.Windows.{ArePlaces, Delay, slot_at};
 
 use crate::windows::{WIDTH, slot_at};
 use std::alloc::Global;
@@ -59,7 +58,7 @@ impl Firsts {
 
     /// A place before which a text doesn't begin in this one, as far as its windows tell.
     pub fn earliest(&self, needle: &[u8]) -> usize
-        ensures { (text : List ℕ) → ArePlaces self.now text → StandsNowhere text needle.now (length text) 0 result }
+        ensures { Delay self.now needle.now result }
     {
         if needle.len() < WIDTH {
             return 0;

@@ -1,7 +1,6 @@
 //! Windows of a text.
-ghost use Rattle.std.specs.Prelude.{◌≡◌, ◌+◌, ◌<◌, ◌≤◌, ℕ, List, false, true, length, IfOk, slice_index_or};
-ghost use Rattle.tt_base.specs.Occurrence.{StandsNowhere};
-ghost use Rattle.text_windows.specs.Windows.{Covers, slot_at};
+ghost use Rattle.std.specs.Prelude.{◌≡◌, ◌+◌, ◌<◌, ◌≤◌, false, true, length, IfOk, slice_index_or};
+ghost use Rattle.text_windows.specs.Windows.{Covers, Exclude, slot_at};
 
 use std::alloc::Global;
 use std::marker::Model;
@@ -71,8 +70,7 @@ impl Windows {
     /// is never told absent.
     #[tactic(auto, using(crate::proofs::WindowLemmas::lacking))]
     pub fn lack(&self, needle: &[u8]) -> bool
-        ensures { result ≡ true → (text : List ℕ) → Covers self.now text →
-            StandsNowhere text needle.now (length text) 0 (length text + 1) }
+        ensures { result ≡ true → Exclude self.now needle.now }
     {
         if needle.len() < WIDTH {
             return false;

@@ -1,5 +1,5 @@
 -- What hands and crews keep. Own rule: a hand leaves what it began, and its counts.
-use Rattle.std.specs.Prelude.{ℕ, List}
+use Rattle.std.specs.Prelude.{◌≡◌, ℕ, List, []}
 use Rattle.tt_outside.specs.declared.crew.Left.{Left}
 use Rattle.tt_outside.specs.declared.seats.Seats.{Seats}
 use Rattle.tt_outside.specs.declared.seats.Work.{Work}
@@ -19,3 +19,7 @@ left_by seats = seats.left.items
 -- how many hands there is room for
 abbrev pub seats_of : Seats → ℕ
 seats_of seats = seats.seats
+
+-- nothing was done, and there is room for so many tests
+abbrev pub IsUnused : ℕ → Work → Type 0
+IsUnused room work = (begun_by work ≡ []) × (work.rooms ≡ room) × (work.asked ≡ 0) × (work.faults ≡ 0)

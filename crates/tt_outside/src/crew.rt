@@ -59,8 +59,7 @@ pub trait Runner {
         requires begun { begun self.old ≢ [] }
         requires ready { ready self.old }
         ensures ready { ready self.new }
-        ensures given { IfOk result (λ reply.
-            gave self.old (last_of 0 (begun self.old)) earlier.now request.now reply) }
+        ensures given { IfOk result (gave self.old (last_of 0 (begun self.old)) earlier.now request.now) }
         ensures fit { IfOk result (λ reply. fits request.now reply ≡ true) }
         ensures counted { OnOk result (asked self.new ≡ one_more (asked self.old)) }
         ensures refused { OnErr result (asked self.new ≡ asked self.old) }

@@ -1,6 +1,6 @@
 //! A tree in memory.
 ghost use Rattle.std.specs.Prelude.{◌≡◌, ◌≢◌, ◌≤◌, ◌↔◌, IfOk, IfSome, Some, Err, IsTrue, length, true};
-ghost use Rattle.tt_outside.specs.Faults.{Rose};
+ghost use Rattle.tt_outside.specs.Faults.{Lasts, Rose};
 ghost use Rattle.tt_outside.specs.TreeMap.{GivesItems, GivesText, are_nested};
 
 use crate::listing::{kind_at, list_nodes, node_at};
@@ -84,16 +84,16 @@ fn read_node(alloc: Global, nodes: &[Node], path: &[u8], limit: u64) -> Result<B
 }
 
 impl Tree for MemTree {
-    ghost use Rattle.tt_outside.specs.TreeOf.{tree_base, tree_nodes, tree_plan};
-    ghost use Rattle.tt_outside.specs.Plan.{after_call, fails_next, NeverFails};
+    ghost use Rattle.tt_outside.specs.TreeOf.{tree_base, tree_faults, tree_nodes, tree_plan, tree_steady};
+    ghost use Rattle.tt_outside.specs.Plan.{after_call, fails_next};
 
     ghost nodes = { λ tree. Some (tree_nodes tree) };
 
     ghost root = { λ tree. tree_base tree };
 
-    ghost faults = { λ tree. (tree_plan tree).faults };
+    ghost faults = { tree_faults };
 
-    ghost steady = { λ tree. NeverFails (tree_plan tree) };
+    ghost steady = { tree_steady };
 
     fn base(&self) -> &[u8] {
         self.base.as_slice()
@@ -106,14 +106,10 @@ impl Tree for MemTree {
         ensures small { result ≢ Err TreeFault.TooLarge }
         ensures nodes { Some (tree_nodes self.new) ≡ Some (tree_nodes self.old) }
         ensures root { tree_base self.new ≡ tree_base self.old }
-        ensures later { (tree_plan self.old).faults ≤ (tree_plan self.new).faults }
-        ensures cause { result ≡ Err TreeFault.Failed
-            → Rose (tree_plan self.old).faults (tree_plan self.new).faults }
-        ensures calm { result ≢ Err TreeFault.Failed
-            → (tree_plan self.new).faults ≡ (tree_plan self.old).faults }
-        ensures steady { NeverFails (tree_plan self.old)
-            → (result ≢ Err TreeFault.Failed) × NeverFails (tree_plan self.new)
-            × ((tree_plan self.new).faults ≡ (tree_plan self.old).faults) }
+        ensures later { tree_faults self.old ≤ tree_faults self.new }
+        ensures cause { result ≡ Err TreeFault.Failed → Rose (tree_faults self.old) (tree_faults self.new) }
+        ensures calm { result ≢ Err TreeFault.Failed → tree_faults self.new ≡ tree_faults self.old }
+        ensures steady { Lasts tree_steady tree_faults self.old self.new (result ≢ Err TreeFault.Failed) }
     {
         if self.plan.call() {
             return Err(TreeFault::Failed);
@@ -129,14 +125,10 @@ impl Tree for MemTree {
         ensures file { result ≢ Err TreeFault.NotDirectory }
         ensures nodes { Some (tree_nodes self.new) ≡ Some (tree_nodes self.old) }
         ensures root { tree_base self.new ≡ tree_base self.old }
-        ensures later { (tree_plan self.old).faults ≤ (tree_plan self.new).faults }
-        ensures cause { result ≡ Err TreeFault.Failed
-            → Rose (tree_plan self.old).faults (tree_plan self.new).faults }
-        ensures calm { result ≢ Err TreeFault.Failed
-            → (tree_plan self.new).faults ≡ (tree_plan self.old).faults }
-        ensures steady { NeverFails (tree_plan self.old)
-            → (result ≢ Err TreeFault.Failed) × NeverFails (tree_plan self.new)
-            × ((tree_plan self.new).faults ≡ (tree_plan self.old).faults) }
+        ensures later { tree_faults self.old ≤ tree_faults self.new }
+        ensures cause { result ≡ Err TreeFault.Failed → Rose (tree_faults self.old) (tree_faults self.new) }
+        ensures calm { result ≢ Err TreeFault.Failed → tree_faults self.new ≡ tree_faults self.old }
+        ensures steady { Lasts tree_steady tree_faults self.old self.new (result ≢ Err TreeFault.Failed) }
     {
         if self.plan.call() {
             return Err(TreeFault::Failed);

@@ -21,11 +21,11 @@ pub struct Work {
 }
 
 impl Work {
-    ghost use Rattle.tt_outside.specs.Seats.{begun_by, work_left};
+    ghost use Rattle.tt_outside.specs.Seats.{IsUnused, begun_by, work_left};
 
     /// Nothing was done, and there is room to begin so many tests.
     pub fn with_room(alloc: Global, room: u64) -> Result<Work, NoMemory>
-        ensures { IfOk result (λ work. (begun_by work ≡ []) × (work.rooms ≡ room) × (work.asked ≡ 0) × (work.faults ≡ 0)) }
+        ensures { IfOk result (IsUnused room) }
     {
         match Vec::with_capacity(alloc, room as usize) {
             Ok(begun) => Ok(Work {

@@ -1,6 +1,6 @@
 //! A tree of directories.
 ghost use Rattle.std.specs.Prelude.{◌≡◌, ◌≢◌, ◌≤◌, Err, IfOk, IfSome, length, true};
-ghost use Rattle.tt_outside.specs.Faults.{Rose};
+ghost use Rattle.tt_outside.specs.Faults.{Lasts, Rose};
 ghost use Rattle.tt_outside.specs.TreeMap.{GivesItems, GivesText, are_nested};
 
 use std::alloc::Global;
@@ -81,8 +81,7 @@ pub trait Tree {
         ensures later { faults self.old ≤ faults self.new }
         ensures cause { result ≡ Err TreeFault.Failed → Rose (faults self.old) (faults self.new) }
         ensures calm { result ≢ Err TreeFault.Failed → faults self.new ≡ faults self.old }
-        ensures steady { steady self.old
-            → (result ≢ Err TreeFault.Failed) × steady self.new × (faults self.new ≡ faults self.old) };
+        ensures steady { Lasts steady faults self.old self.new (result ≢ Err TreeFault.Failed) };
 
     /// Reads a file from its beginning to its end, if it has at most `limit` bytes.
     fn read_all(&mut self, alloc: Global, name: &[u8], limit: u64) -> Result<Bytes, TreeFault>
@@ -94,6 +93,5 @@ pub trait Tree {
         ensures later { faults self.old ≤ faults self.new }
         ensures cause { result ≡ Err TreeFault.Failed → Rose (faults self.old) (faults self.new) }
         ensures calm { result ≢ Err TreeFault.Failed → faults self.new ≡ faults self.old }
-        ensures steady { steady self.old
-            → (result ≢ Err TreeFault.Failed) × steady self.new × (faults self.new ≡ faults self.old) };
+        ensures steady { Lasts steady faults self.old self.new (result ≢ Err TreeFault.Failed) };
 }

@@ -1,6 +1,6 @@
 -- A message that is told to a stream by way of a buffer.
 -- Own rule: what is told first waits in the buffer, as far as there is room; after a fault of the stream nothing more is written to it.
-use Rattle.std.specs.Prelude.{◌≡◌, ℕ, ◌+◌, ◌<◌, ◌≤◌, Bool, true, false, List, [], ◌++◌, length, Option, Result, Ok, Err}
+use Rattle.std.specs.Prelude.{◌≡◌, ℕ, ◌+◌, ◌<◌, ◌≤◌, Bool, true, false, if◌then◌else◌, List, [], ◌++◌, length, Option, Result, Ok, Err}
 use Rattle.std.specs.Io.KnownBytes.{Appends}
 use Rattle.tt_outside.specs.Faults.{Rose}
 use Rattle.tt_outside.specs.Transfer.{AppendsPart}
@@ -51,6 +51,14 @@ IsTold origin now message = IsToldBy now.failed origin now.waiting now.stream me
 -- so much more is told
 abbrev pub Tells : List ℕ → State → State → Type 0
 Tells text old new = (origin : Seen) (message : List ℕ) → IsTold origin old message → IsTold origin new (message ++ text)
+
+-- a pen tells a stream a text: so much more is told of both as they are than as they were
+abbrev pub Puts : {S : Type 0} → OfSink S → List ℕ → Pen → S → Pen → S → Type 0
+Puts sink text old stream new now = Tells text (state sink old stream) (state sink new now)
+
+-- what waits with one more piece, where it is kept
+abbrev pub with_kept : Bool → List ℕ → List ℕ → List ℕ
+with_kept kept waiting piece = if kept then waiting ++ piece else waiting
 
 -- what was told stays told
 abbrev pub Flushes : State → State → Type 0

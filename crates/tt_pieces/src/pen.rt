@@ -1,7 +1,7 @@
 //! What writes a message by way of a buffer.
-ghost use Rattle.std.specs.Prelude.{◌≡◌, ◌++◌, if◌then◌else◌, [], IfOk, OnOk, replicate};
+ghost use Rattle.std.specs.Prelude.{◌≡◌, [], IfOk, OnOk, replicate};
 ghost use Rattle.std.specs.Fmt.{decimal};
-ghost use Rattle.tt_pieces.specs.Telling.{Finishes, Flushes, IsIdle, Tells, Writes, seen, state};
+ghost use Rattle.tt_pieces.specs.Telling.{Finishes, Flushes, IsIdle, Puts, Writes, seen, state, with_kept};
 
 use itoa::Buffer;
 use std::alloc::Global;
@@ -61,7 +61,7 @@ impl Pen {
     /// Keeps a piece for later, if there is room for it.
     fn keep(&mut self, piece: &[u8]) -> bool
         ensures failed { self.new.failed ≡ self.old.failed }
-        ensures waiting { self.new.waiting.items ≡ (if result then self.old.waiting.items ++ piece.now else self.old.waiting.items) }
+        ensures waiting { self.new.waiting.items ≡ with_kept result self.old.waiting.items piece.now }
     {
         self.waiting.len().saturating_add(piece.len()) <= ROOM
             && self.waiting.extend_from_slice(piece).is_ok()
@@ -69,7 +69,7 @@ impl Pen {
 
     /// Tells bytes.
     pub fn put<S: Sink>(&mut self, piece: &[u8], sink: &mut S)
-        ensures { Tells piece.now (state S.Sink self.old sink.old) (state S.Sink self.new sink.new) }
+        ensures { Puts S.Sink piece.now self.old sink.old self.new sink.new }
     {
         if self.keep(piece) {
             return;
@@ -80,7 +80,7 @@ impl Pen {
 
     /// Tells a number in decimal digits.
     pub fn put_number<S: Sink>(&mut self, number: u64, sink: &mut S)
-        ensures { Tells (decimal number) (state S.Sink self.old sink.old) (state S.Sink self.new sink.new) }
+        ensures { Puts S.Sink (decimal number) self.old sink.old self.new sink.new }
     {
         let mut digits = Buffer::new();
         self.put(digits.format(number).as_bytes(), sink);
@@ -88,7 +88,7 @@ impl Pen {
 
     /// Tells so many blanks.
     pub fn put_blanks<S: Sink>(&mut self, count: usize, sink: &mut S)
-        ensures { Tells (replicate count 32) (state S.Sink self.old sink.old) (state S.Sink self.new sink.new) }
+        ensures { Puts S.Sink (replicate count 32) self.old sink.old self.new sink.new }
     {
         let mut left = count;
         while left > BLANKS.len() {

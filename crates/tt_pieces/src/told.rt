@@ -1,6 +1,6 @@
 //! Pieces, told one behind the other.
 ghost use Rattle.tt_pieces.specs.Pieces.{bytes_in, bytes_of};
-ghost use Rattle.tt_pieces.specs.Telling.{Tells, state};
+ghost use Rattle.tt_pieces.specs.Telling.{Puts};
 
 use crate::pen::Pen;
 use crate::piece::Piece;
@@ -9,7 +9,7 @@ use tt_outside::Sink;
 
 /// Tells a piece.
 fn put_piece<S: Sink>(pen: &mut Pen, piece: &Piece<'_>, sink: &mut S)
-    ensures { Tells (bytes_of piece.now) (state S.Sink pen.old sink.old) (state S.Sink pen.new sink.new) }
+    ensures { Puts S.Sink (bytes_of piece.now) pen.old sink.old pen.new sink.new }
 {
     match piece {
         Piece::Bytes(bytes) => pen.put(bytes, sink),
@@ -20,7 +20,7 @@ fn put_piece<S: Sink>(pen: &mut Pen, piece: &Piece<'_>, sink: &mut S)
 
 /// Tells pieces in order.
 fn put_each<S: Sink>(pen: &mut Pen, pieces: &[Piece<'_>], sink: &mut S)
-    ensures { Tells (bytes_in pieces.now) (state S.Sink pen.old sink.old) (state S.Sink pen.new sink.new) }
+    ensures { Puts S.Sink (bytes_in pieces.now) pen.old sink.old pen.new sink.new }
 {
     for piece in pieces {
         put_piece(pen, piece, sink);
@@ -29,7 +29,7 @@ fn put_each<S: Sink>(pen: &mut Pen, pieces: &[Piece<'_>], sink: &mut S)
 
 /// Tells a text.
 pub fn put_pieces<S: Sink>(pen: &mut Pen, pieces: &Pieces<'_>, sink: &mut S)
-    ensures { Tells pieces.now (state S.Sink pen.old sink.old) (state S.Sink pen.new sink.new) }
+    ensures { Puts S.Sink pieces.now pen.old sink.old pen.new sink.new }
 {
     put_each(pen, pieces.as_slice(), sink);
 }

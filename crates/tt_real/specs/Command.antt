@@ -12,6 +12,10 @@ said_by [] name before = before
 said_by (pair ∷ pairs) name before =
     said_by pairs name (if bytes_eq pair.name name then Some (Some pair.value) else before)
 
+-- what a command says of each name behind the pairs that were added to it
+abbrev pub SaysMore : {A : Type 0} → List Pair → Command A → Command A → Type 0
+SaysMore pairs old new = (name : List ℕ) → command_var new name ≡ said_by pairs name (command_var old name)
+
 pub record IsCommand {A : Type 0} (command : Command A) (words : List (List ℕ)) (dir : List ℕ) (env : List Pair) : Type 0 where
   pub runs : words ≡ command_program command ∷ command_args command
   pub stands : command_dir command ≡ Some dir

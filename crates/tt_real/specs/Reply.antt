@@ -1,9 +1,10 @@
 -- What a hand makes of what the system told of a program or a file.
 -- Own rules: a program that the system doesn't find is Missing. What else the system refuses or fails at is Broken; it counts
 -- before a stream that passes its limit, of which the output counts before the errors. A program that stops reading is no fault.
-use Rattle.std.specs.Prelude.{ℕ, Bool, nat_lt, if◌then◌else◌, List, [], length, Option, Some, None, Result, Ok, Err, ℤ, pos, negsuc}
+use Rattle.std.specs.Prelude.{◌≡◌, ℕ, Bool, nat_lt, if◌then◌else◌, List, [], length, Option, Some, None, Result, Ok, Err, MatchResult, ℤ, pos, negsuc}
 use Rattle.std.specs.declared.io.ErrorKind.{ErrorKind}
 use Rattle.std.specs.declared.io.ErrorKind.TheVariants.{NotFound, OutOfMemory, BrokenPipe}
+use Rattle.tt_base.specs.declared.memory.NoMemory.{NoMemory as Lacks}
 use Rattle.tt_outside.specs.declared.files.FilesFault.{FilesFault}
 use Rattle.tt_outside.specs.declared.files.FilesFault.TheVariants as faults
 use Rattle.tt_outside.specs.declared.request.Finish.{Finish}
@@ -17,6 +18,10 @@ use Rattle.tt_real.specs.declared.told.Told.{Told}
 use Rattle.tt_real.specs.declared.told.Told.TheVariants.{Whole, OutPast, ErrPast, Failed, NoMemory}
 
 -- ---- a program
+
+-- a reply, where there was memory for it
+abbrev pub GivesReply : Option Reply → Result Reply Lacks → Type 0
+GivesReply due result = MatchResult result (λ reply. due ≡ Some reply) (λ _. due ≡ None)
 
 -- the reply is one that a program may get each of whose streams may have so many bytes
 abbrev pub fits_program : ℕ → Reply → Bool

@@ -1,7 +1,7 @@
 //! The command of a request.
-ghost use Rattle.std.specs.Prelude.{◌≡◌, ◌++◌, IfOk, List, OnOk, Some, ℕ};
+ghost use Rattle.std.specs.Prelude.{◌≡◌, ◌++◌, IfOk, OnOk, Some};
 ghost use Rattle.std.specs.Process.{SameEnv, SameOtherVars, SameProgramAndArgs, clears_env, command_args, command_program, command_var};
-ghost use Rattle.tt_real.specs.Command.{IsCommand, said_by};
+ghost use Rattle.tt_real.specs.Command.{IsCommand, SaysMore};
 
 use std::alloc::Global;
 use std::process::{Command, Stdio};
@@ -60,8 +60,7 @@ fn add_words(command: &mut Command, words: &[Bytes]) -> Result<(), CommandFault>
 
 /// Adds variables to those of a command.
 fn add_pairs(command: &mut Command, env: &[Pair]) -> Result<(), CommandFault>
-    ensures vars { OnOk result ((name : List ℕ)
-        → command_var command.new name ≡ said_by env.now name (command_var command.old name)) }
+    ensures vars { OnOk result (SaysMore env.now command.old command.new) }
     ensures call { OnOk result (SameProgramAndArgs command.old command.new) }
     ensures clears { OnOk result (clears_env command.new ≡ clears_env command.old) }
 {

@@ -1,8 +1,8 @@
 //! What a hand makes of what the system told of a program.
-ghost use Rattle.std.specs.Prelude.{◌≡◌, ◌≤◌, IfOk, MatchResult, None, Some, length, true};
+ghost use Rattle.std.specs.Prelude.{◌≡◌, ◌≤◌, IfOk, length, true};
 ghost use Rattle.std.specs.IoError.{error_kind, raw_os_error};
 ghost use Rattle.std.specs.Process.{exit_code, exit_signal};
-ghost use Rattle.tt_real.specs.Reply.{finish_fed, finish_of, fits_program, past_or, refused_reply, reply_of, told_of};
+ghost use Rattle.tt_real.specs.Reply.{GivesReply, finish_fed, finish_of, fits_program, past_or, refused_reply, reply_of, told_of};
 
 use std::io::{Error, ErrorKind};
 use std::os::unix::process::ExitStatusExt;
@@ -85,8 +85,7 @@ pub(crate) fn reply_of(
     limit: u64,
 ) -> Result<Reply, NoMemory>
     requires { told ≡ Told.Whole → (length out ≤ limit) × (length err ≤ limit) }
-    ensures value { MatchResult result (λ reply. reply_of told finish out err ≡ Some reply)
-        (λ _. reply_of told finish out err ≡ None) }
+    ensures value { GivesReply (reply_of told finish out err) result }
     ensures fit { IfOk result (λ reply. fits_program limit reply ≡ true) }
 {
     match (told, finish) {
@@ -100,9 +99,7 @@ pub(crate) fn reply_of(
 
 /// The reply to a start that was refused.
 pub(crate) fn refused_reply(error: &Error) -> Result<Reply, NoMemory>
-    ensures { MatchResult result
-        (λ reply. refused_reply (error_kind error.now) (raw_os_error error.now) ≡ Some reply)
-        (λ _. refused_reply (error_kind error.now) (raw_os_error error.now) ≡ None) }
+    ensures { GivesReply (refused_reply (error_kind error.now) (raw_os_error error.now)) result }
 {
     match error.kind() {
         ErrorKind::NotFound => Ok(Reply::Missing),

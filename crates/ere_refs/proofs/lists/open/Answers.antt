@@ -1,3 +1,6 @@
+-- A state that is opened: the stack and what is found fit as before, and each row is found or goes on from a spot as before.
+-- What follows the stage tells which lemma of MachineLemmas carries the stack over: drop, end, like or open.
+-- The hard one is `opened`, where the ends of what follows are those of the opened state.
 use Rattle.std.proofs.Common.{◌≡◌, ◌<◌, true, List, [], ◌∷◌, ◌++◌, refl, sym, subst, eqb-true}
 use Rattle.std.proofs.lemmas.List.Elements.{All-push}
 use Rattle.std.proofs.lemmas.Result.{on_ok_weaker}

@@ -31,6 +31,6 @@ returns c =
     let calm : c.count_run.result ≢ 3 = λ three. omega arith in
     let whole = told_whole words c.args.input.now (sink_bytes c.in_ok-err.err) (sink_bytes c.count_run.new.err) c.count_run.result _ _ _
     c.args.limit told.0 outcome c.in_ok-err.ensures.bytes calm told.2 in
-    c.in_ok-reply.ensures
+    c.in_ok-reply-in_default.ensures
     ∙ ap (reply_within c.args.limit)
     ((λ i. record { out = c.new-in_default.ensures i; err = c.into_bytes.ensures i; status = c.count_run.result }) ∙ whole)

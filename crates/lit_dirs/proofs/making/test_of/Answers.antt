@@ -1,6 +1,6 @@
-use Rattle.std.proofs.Common.{◌≡◌, ◌≢◌, ◌++◌, ◌∷◌, [], sym, ap, ◌∙◌, codes}
-use Rattle.lit_paths.specs.Paths.{cut, dir_of, inner_text_of, slashed, text_of}
-use Rattle.lit_dirs.specs.Tests.{name_of, temp_dir_of, work_dir_of}
+use Rattle.std.proofs.Common.{◌≡◌, ◌≢◌, ◌++◌, [], sym, ap, ◌∙◌, codes}
+use Rattle.lit_paths.specs.Paths.{cut, dir_of, inner_text_of, slashed}
+use Rattle.lit_dirs.specs.Tests.{name_of, temp_of, work_dir_of}
 use Rattle.lit_dirs.proofs.MadeLemmas.{below_text, cut_below, file_text, name_whole, same_features, same_substitutions, slashed_append}
 use Rattle.lit_dirs.proofs.making.test_of.Goals as goal
 
@@ -25,7 +25,7 @@ returns c = λ below is parts some.
       work = c.in_ok-whole_text-2.ensures work_dir work;
       temps = c.in_ok-temp_dir_of.ensures work_dir (c.as_slice-4.ensures ∙ work);
       temporary = c.in_ok-temp_of.ensures work_dir (c.as_slice-5.ensures ∙ work)
-          ∙ ap (λ name. text_of (temp_dir_of root suite below ++ (name ++ codes ".tmp") ∷ [])) pieces.1;
+          ∙ ap (temp_of work_dir) pieces.1;
       features = same_features suite c.as_slice-6.result.now below c.in_ok-features_of.field-0
           (λ have. c.as_slice-6.ensures ∙ own have) c.in_ok-features_of.ensures;
       substitutions = c.in_ok-substitutions_of.ensures ∙ same_substitutions suite c.as_slice-7.result.now below

@@ -100,7 +100,8 @@ join-worked-requires-after_bounds g t c κs within =
 
 pub add-requires : goal.add-requires
 add-requires g t c = record {
-  own = (c.join-worked.ensures.second.0.own, c.join-worked.ensures.first.own);
+  own = c.join-worked.ensures.second.0.own;
+  joining = c.join-worked.ensures.first.own;
   space = search (rules, arith);
 }
 

@@ -3,9 +3,9 @@
 -- The hard one is `loop-length-preserved`, where a byte leads on by a turn that was there or is made.
 use Rattle.std.proofs.Common.{◌≡◌, ℕ, ◌+◌, ◌∷◌, ◌++◌, [], Some, get_or, length, take, take_all, refl, sym, subst, ◌∙◌, ap, inl, inr, ⊎_elim, arith}
 use Rattle.std.proofs.lemmas.List.{get_or_default, length-take-le, take_more}
-use Rattle.prefix_tree.specs.Tree.{Leads}
+use Rattle.prefix_tree.specs.Tree.{EndStay, Leads, NextStay}
 use Rattle.prefix_tree.specs.Turns.{end_of, next_of}
-use Rattle.prefix_tree.proofs.TreeLemmas.{AreTurns, EndStay, NextStay, added, leads_more, leads_nowhere, leads_stay, turns_more}
+use Rattle.prefix_tree.proofs.TreeLemmas.{AreTurns, added, leads_more, leads_nowhere, leads_stay, turns_more}
 use Rattle.prefix_tree.proofs.tree.add.Goals as goal
 
 pub loop-length-init : goal.loop-length-init

@@ -1,7 +1,8 @@
 use Rattle.std.proofs.Common.{◌≡◌, [], get_or, take}
 use Rattle.prefix_tree.specs.Tree.{Leads}
 use Rattle.prefix_tree.specs.Turns.{next_of}
-use Rattle.prefix_tree.proofs.TreeLemmas.{AreTurns, NextStay}
+use Rattle.prefix_tree.proofs.TreeLemmas.{AreTurns}
+use Rattle.prefix_tree.specs.Tree.{NextStay}
 use Rattle.prefix_tree.proofs.tree.add.Given as goal
 
 abbrev pub invariant-loop-length : goal.invariant-loop-length

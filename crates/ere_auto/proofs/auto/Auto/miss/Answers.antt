@@ -1,6 +1,6 @@
 use Rattle.std.proofs.Common.{◌≡◌, ◌<◌, ◌==◌, ◌&&◌, is_none, List, length, refl, sym, ap, ◌∙◌, subst, arith}
 use Rattle.ere_table.specs.Node.{node_at}
-use Rattle.ere_auto.specs.RowTable.{row_in, threads_of, AreSteps, Keeps, IsRow, Leads}
+use Rattle.ere_auto.specs.RowTable.{row_in, AreSteps, Keeps, IsRow, Leads}
 use Rattle.ere_auto.specs.RowTableView.{row_table_of}
 use Rattle.ere_auto.specs.State.{state_of}
 use Rattle.ere_auto.specs.declared.thread.Thread.{Thread}

@@ -1,4 +1,4 @@
-use Rattle.std.proofs.Common.{◌≡◌, ◌∙◌, true, ap, sym, length, arith}
+use Rattle.std.proofs.Common.{◌≡◌, ◌∙◌, true, ap, sym}
 use Rattle.std.proofs.lemmas.Bool.{not-false}
 use Rattle.ere_auto.specs.RowTable.{row_in}
 use Rattle.ere_auto.specs.State.{state_of}

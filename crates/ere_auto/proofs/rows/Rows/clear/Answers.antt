@@ -1,9 +1,7 @@
-use Rattle.std.proofs.Common.{◌≡◌, ℕ, ◌+◌, ◌*◌, ◌<◌, ◌≤◌, ◌==◌, ◌&&◌, not, true, false, length, refl, sym, ap, ◌∙◌, subst, arith, List, []}
-use Rattle.ere_auto.specs.RowTable.{row_in, slot_or_zero}
-use Rattle.ere_auto.specs.RowTableView.{row_table_of}
+use Rattle.std.proofs.Common.{◌≡◌, ℕ, ◌+◌, ◌<◌, ◌≤◌, ◌==◌, ◌&&◌, not, length, sym, ap, ◌∙◌, subst, arith}
+use Rattle.ere_auto.specs.RowTable.{slot_or_zero}
 use Rattle.ere_auto.specs.declared.row.Row.{Row}
-use Rattle.ere_auto.specs.declared.thread.Thread.{Thread}
-use Rattle.ere_auto.proofs.RowTableLemmas.{row_front, two_rows, all_zero, cells_inside, steps_none}
+use Rattle.ere_auto.proofs.RowTableLemmas.{row_front, two_rows, all_zero, steps_none}
 use Rattle.ere_auto.proofs.rows.Rows.clear.Goals as goal
 
 pub invariant_of-self : goal.invariant_of-self

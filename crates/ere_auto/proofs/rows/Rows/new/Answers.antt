@@ -1,4 +1,4 @@
-use Rattle.std.proofs.Common.{◌≡◌, ℕ, ◌+◌, ◌<◌, ◌≤◌, ◌==◌, ◌&&◌, not, true, false, None, refl, ap, arith, length}
+use Rattle.std.proofs.Common.{◌≡◌, ◌+◌, ◌≤◌, ◌==◌, ◌&&◌, not, true, false, None, refl, ap, arith}
 use Rattle.ere_auto.specs.RowTable.{row_in, slot_or_zero}
 use Rattle.ere_auto.specs.declared.row.Row.{Row}
 use Rattle.ere_auto.proofs.RowTableLemmas.{two_of, each_two, all_zero, steps_none}

@@ -1,12 +1,12 @@
 -- A row that is pushed: the table of steps keeps its invariant, and all that it knew stays known.
 -- The lists are the old ones with an end, so each old row, its threads and its cells are where they were.
 -- The hard one is `invariant_of-self`, the invariant field by field.
-use Rattle.std.proofs.Common.{◌≡◌, ℕ, ◌+◌, ◌*◌, ◌<◌, ◌≤◌, ◌==◌, ◌&&◌, not, true, false, length, refl, sym, ap, ◌∙◌, arith, List, length-append}
-use Rattle.ere_auto.specs.RowTable.{row_in, slot_or_zero}
+use Rattle.std.proofs.Common.{◌≡◌, ℕ, ◌+◌, ◌<◌, ◌≤◌, ◌==◌, ◌&&◌, not, length, ap, ◌∙◌, arith, length-append}
+use Rattle.ere_auto.specs.RowTable.{slot_or_zero}
 use Rattle.ere_auto.specs.RowTableView.{row_table_of}
 use Rattle.ere_auto.specs.declared.row.Row.{Row}
 use Rattle.ere_auto.specs.declared.thread.Thread.{Thread}
-use Rattle.ere_auto.proofs.RowTableLemmas.{each_row, each_thread, row_kept, threads_kept, cells_inside, keeps_more, steps_more}
+use Rattle.ere_auto.proofs.RowTableLemmas.{each_row, each_thread, row_kept, cells_inside, keeps_more, steps_more}
 use Rattle.ere_auto.proofs.rows.Rows.push_row.Goals as goal
 
 pub invariant_of-self : goal.invariant_of-self

@@ -1,4 +1,4 @@
-use Rattle.std.proofs.Common.{◌+◌, ◌*◌, refl, arith}
+use Rattle.std.proofs.Common.{refl, arith}
 use Rattle.ere_auto.specs.RowTableView.{row_table_of}
 use Rattle.ere_auto.proofs.RowTableLemmas.{steps_set, keeps_rows}
 use Rattle.ere_auto.proofs.rows.Rows.set_cell.Goals as goal

@@ -1,6 +1,0 @@
-use Rattle.std.proofs.Common.{◌≡◌, ◌++◌, drop}
-use Rattle.filecheck_messages.specs.Message.{told}
-use Rattle.filecheck_messages.proofs.message.told.Given as goal
-
-abbrev pub invariant-loop-finding : goal.invariant-loop-finding
-invariant-loop-finding l = l.message ++ told (drop l.finding-index l.findings) ≡ told l.findings
