@@ -23,10 +23,10 @@ use Rattle.ere_laws.proofs.FrontSpelling.{begins_from, chosen, if_some, not_begi
 
 -- NAMES
 
-abbrev in_name : ℕ → Bool
+abbrev pub in_name : ℕ → Bool
 in_name b = not (b == 58) && not (b == 93)
 
-class_is : (name rest : List ℕ) → spelled_member (class name) ++ rest ≡ 91 ∷ 58 ∷ (name ++ 58 ∷ 93 ∷ rest)
+pub class_is : (name rest : List ℕ) → spelled_member (class name) ++ rest ≡ 91 ∷ 58 ∷ (name ++ 58 ∷ 93 ∷ rest)
 class_is name rest = simp append_assoc
 
 class_long : (name : List ℕ) → length (spelled_member (class name)) ≡ length name + 4
@@ -162,12 +162,12 @@ lone_front b rest plain none = rw (plain, none) refl
 
 -- a member that was read, so many bytes of the text
 pub record MemberRead (text : List ℕ) (test : ℕ → Bool) (count : ℕ) : Type 0 where
-  one : Member
-  behind : List ℕ
-  stands : MayStand one behind
-  is : text ≡ spelled_member one ++ behind
-  test_is : test ≡ is_of one
-  long : count ≡ length (spelled_member one)
+  pub one : Member
+  pub behind : List ℕ
+  pub stands : MayStand one behind
+  pub is : text ≡ spelled_member one ++ behind
+  pub test_is : test ≡ is_of one
+  pub long : count ≡ length (spelled_member one)
 
 one_byte : (b c : ℕ) → is_in_range b b c ≡ (c == b)
 one_byte b c = grind (arith, nat_tests)
@@ -338,7 +338,7 @@ pub ok_is : {A : Type 0} (x y : A) (r : Result A EreFault) → r ≡ Ok x → r 
 ok_is x y r is other = cc
 
 -- the reading goes on behind a member
-goes_on : (test : ℕ → Bool) (first : Bool) (at : ℕ) (text behind : List ℕ) (found : (ℕ → Bool) × ℕ)
+pub goes_on : (test : ℕ → Bool) (first : Bool) (at : ℕ) (text behind : List ℕ) (found : (ℕ → Bool) × ℕ)
     → (starts (codes "]") text && not first) ≡ false → member text ≡ Ok found → 0 < found.1
     → found.1 ≤ length text → drop found.1 text ≡ behind
     → members test first at 0 text ≡ members (λ c. test c || found.0 c) false (at + found.1) 0 behind
@@ -352,7 +352,7 @@ goes_on test first at (b ∷ rest) behind found here is some fits same =
     ∙ ap (members (λ c. test c || found.0 c) false (at + found.1) 0) same)
 
 -- a `]` closes, or may not
-no_close_here : (text : List ℕ) (first : Bool) → (starts (codes "]") text && not first) ≡ false → first ≡ false
+pub no_close_here : (text : List ℕ) (first : Bool) → (starts (codes "]") text && not first) ≡ false → first ≡ false
     → Begins text (codes "]") → ⊥
 no_close_here text true is last begins = true≢false last
 no_close_here text false is last (rest, same) =
@@ -364,7 +364,7 @@ stays_open : (text : List ℕ) (first : Bool) → (first ≡ false → Begins te
 stays_open text true bare = and_right (starts (codes "]") text) false refl
 stays_open text false bare = and_left (starts (codes "]") text) true (starts_not (codes "]") text (bare refl))
 
-member_some : (one : Member) → 0 < length (spelled_member one)
+pub member_some : (one : Member) → 0 < length (spelled_member one)
 member_some (single b) = omega arith
 member_some (range low high) = omega arith
 member_some (class name) = omega (arith, class_long name)

@@ -22,14 +22,14 @@ use Rattle.ere_laws.proofs.BracketSpelling.{opens, range_read}
 use Rattle.ere_laws.specs.Laws.{FaultsLieWithin, HitsLieWithin}
 
 -- a fault that is told at a place
-same_place : {A : Type 0} (at : ℕ) (kind : EreKind) (r : Result A EreFault) (refused : EreFault) → r ≡ fault at kind
+pub same_place : {A : Type 0} (at : ℕ) (kind : EreKind) (r : Result A EreFault) (refused : EreFault) → r ≡ fault at kind
     → r ≡ Err refused → refused.at ≡ at
 same_place at kind r refused is told =
     let same : Err (record { at = at; kind = kind }) ≡ Err refused = sym is ∙ told in cc
 
 -- MEMBERS
 
-choice_fault : {A : Type 0} (v : Bool) (x : A) (kind : EreKind) (refused : EreFault)
+pub choice_fault : {A : Type 0} (v : Bool) (x : A) (kind : EreKind) (refused : EreFault)
     → cond v (Ok x) (fault 0 kind) ≡ Err refused → refused.at ≤ 0
 choice_fault true x kind refused told = cc
 choice_fault false x kind refused told = omega (arith, same_place 0 kind _ refused refl told)
@@ -53,7 +53,7 @@ class_fault : (o : Option (ℕ → Bool)) (count : ℕ) (refused : EreFault) →
 class_fault None count refused told = omega (arith, same_place 0 _ _ refused refl told)
 class_fault (Some test) count refused told = cc
 
-alone_fault : (text : List ℕ) (refused : EreFault) → alone text (element text) ≡ Err refused → refused.at ≤ 0
+pub alone_fault : (text : List ℕ) (refused : EreFault) → alone text (element text) ≡ Err refused → refused.at ≤ 0
 unfolding element
 alone_fault text refused told = by_test (opens text) (class_len text) refl refl
   where
@@ -102,7 +102,7 @@ members_fault test first at zero (b ∷ rest) refused told =
           (λ found is. omega (arith, members_fault _ false (suc at) (found.1 - 1) rest refused is))
     ]
 
-map_fault : {A B : Type 0} (f : A → B) (o : Result A EreFault) (refused : EreFault) → map_ok f o ≡ Err refused
+pub map_fault : {A B : Type 0} (f : A → B) (o : Result A EreFault) (refused : EreFault) → map_ok f o ≡ Err refused
     → o ≡ Err refused
 map_fault f (Ok a) refused told = cc
 map_fault f (Err e) refused told = cc
@@ -121,7 +121,7 @@ bracket_fault rest refused told = by_test (starts (codes "^") rest) refl
         let e = map_fault _ (members (λ b. false) true 1 0 rest) refused (rw is at told) in
         omega (arith, members_fault (λ b. false) true 1 0 rest refused e)
 
-item_fault : (text : List ℕ) (o : Result (Bool × List ℕ × ℕ) EreFault) (refused : EreFault)
+pub item_fault : (text : List ℕ) (o : Result (Bool × List ℕ × ℕ) EreFault) (refused : EreFault)
     → bracket_item text o ≡ Err refused → o ≡ Err refused
 item_fault text (Ok found) refused told = cc
 item_fault text (Err e) refused told = cc

@@ -21,7 +21,7 @@ use Rattle.ere_laws.proofs.BracketSpelling.{bracket_read, bracket_spelled, ok_is
 
 -- THE BOUND BEHIND
 
-none_spelled : (behind : List ℕ) → bound_at behind ≡ None → HasNoBound behind
+pub none_spelled : (behind : List ℕ) → bound_at behind ≡ None → HasNoBound behind
 none_spelled behind none least most rest (one, good, a, b, same) =
     cc (ap bound_at same ∙ bound_spelled one rest good)
 
