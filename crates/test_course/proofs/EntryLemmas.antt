@@ -47,7 +47,7 @@ AreGiven_same one two same number earlier (entry ∷ entries) a = (
 -- ---- how many bytes entries keep
 
 -- what is counted alike stays so
-kept_alike : (one other : ℕ) (entries : List Entry) → capped one ≡ capped other
+pub kept_alike : (one other : ℕ) (entries : List Entry) → capped one ≡ capped other
     → capped (kept_behind one entries) ≡ capped (kept_behind other entries)
 kept_alike one other [] is = is
 kept_alike one other (entry ∷ entries) is =
@@ -59,8 +59,7 @@ pub kept_first : (rest behind : List Entry) (entry : Entry) (kept later : ℕ) �
 kept_first rest behind entry kept later is counted =
     rw is (kept_alike later (kept + entry_bytes entry) behind (omega (arith, counted)))
 
-pub kept_none : (rest : List Entry) (kept : ℕ) → length rest ≡ 0 → kept ≤ 2 ^ 25
-    → kept ≡ capped (kept_behind kept rest)
+pub kept_none : (rest : List Entry) (kept : ℕ) → length rest ≡ 0 → kept ≤ 2 ^ 25 → kept ≡ capped (kept_behind kept rest)
 kept_none [] kept none most = omega (arith, most)
 kept_none (entry ∷ rest) kept none most = absurd (omega arith)
 
@@ -70,17 +69,11 @@ AreLimited-append (entry ∷ entries) other a b = (a.0, AreLimited-append entrie
 
 -- ---- along a course that goes on as another one
 
-pub AreAsked_followed : {S E T F : Type 0} (say : S → T) (next : S → E → Course T F) (kept : ℕ) (course : Course S E)
+pub asked_followed : {S E T F : Type 0} (say : S → T) (next : S → E → Course T F) (kept : ℕ) (course : Course S E)
     (entries : List Entry) → AreAsked kept course entries → AreAsked kept (followed say next course) entries
-AreAsked_followed say next kept course [] a = tt
-AreAsked_followed say next kept (over now end) (entry ∷ entries) a = absurd a.0.0
-AreAsked_followed say next kept (asks now request answered) (entry ∷ entries) a =
-    (a.0, AreAsked_followed say next (kept + entry_bytes entry) (answered entry.reply) entries a.1)
-
-pub behind_followed : {S E T F : Type 0} (say : S → T) (next : S → E → Course T F) (kept : ℕ) (course : Course S E)
-    (entries : List Entry) → AreAsked kept course entries
-    → behind (followed say next course) entries ≡ followed say next (behind course entries)
-behind_followed say next kept course [] a = refl
-behind_followed say next kept (over now end) (entry ∷ entries) a = absurd a.0.0
-behind_followed say next kept (asks now request answered) (entry ∷ entries) a =
-    behind_followed say next (kept + entry_bytes entry) (answered entry.reply) entries a.1
+    × (behind (followed say next course) entries ≡ followed say next (behind course entries))
+asked_followed say next kept course [] a = (tt, refl)
+asked_followed say next kept (over now end) (entry ∷ entries) a = absurd a.0.0
+asked_followed say next kept (asks now request answered) (entry ∷ entries) a =
+    let later = asked_followed say next (kept + entry_bytes entry) (answered entry.reply) entries a.1 in
+    ((a.0, later.0), later.1)

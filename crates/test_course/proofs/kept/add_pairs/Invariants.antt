@@ -1,6 +1,5 @@
 use Rattle.std.proofs.Common.{◌≡◌, ◌+◌, ◌≤◌, ◌^◌, drop}
-use Rattle.test_course.specs.Bytes.{bytes_in_pairs}
-use Rattle.test_course.specs.Bytes.{capped}
+use Rattle.test_course.specs.Bytes.{bytes_in_pairs, capped}
 use Rattle.test_course.proofs.kept.add_pairs.Given as goal
 
 abbrev pub invariant-loop-pair : goal.invariant-loop-pair

@@ -1,6 +1,5 @@
 use Rattle.std.proofs.Common.{◌≡◌, ◌+◌, ◌≤◌, ◌^◌, drop}
-use Rattle.test_course.specs.Bytes.{bytes_in}
-use Rattle.test_course.specs.Bytes.{capped}
+use Rattle.test_course.specs.Bytes.{bytes_in, capped}
 use Rattle.test_course.proofs.kept.add_texts.Given as goal
 
 abbrev pub invariant-loop-text : goal.invariant-loop-text
