@@ -1,4 +1,4 @@
--- What `refresh` answers, at each of its returns.
+-- What `refresh_file` answers, at each of its returns.
 -- Shown: the lines that are gone through are those of the canonical text, so what is told is what is due; and what is answered with Ok stands for
 -- its output, since it is what is due. The hard one is the return with Ok, where what is kept and what is made are the whole.
 use Rattle.std.proofs.Common.{◌≡◌, ◌-◌, List, ℕ, false, ◌++◌, None, Some, Ok, ap, sym, ◌∙◌, refl, subst}
@@ -9,7 +9,7 @@ use Rattle.file_laws.specs.Kept.{kept}
 use Rattle.file_laws.specs.Made.{made_text}
 use Rattle.make_checks.specs.Directives.{LeavesRoom}
 use Rattle.make_checks.specs.Made.{lines_in, refreshed, trimmed, unless_large, unless_long}
-use Rattle.make_checks.proofs.making.refresh.Goals as goal
+use Rattle.make_checks.proofs.making.refresh_file.Goals as goal
 
 -- what is due, where the lead is good: at each return the first three lines are the same
 pub returns-in-Some : goal.returns-in-Some
