@@ -8,7 +8,7 @@ use crate::fault::{MAX_FILE, MakeFail, MakeFault};
 use crate::kept::kept_lines;
 use crate::lead::is_bad;
 use crate::lines::{long_line, trimmed};
-use crate::room::room_behind;
+use crate::room::has_room;
 use crate::told::{MadeFile, bytes_of};
 use check_lines::canon_owned;
 use std::alloc::Global;
@@ -70,11 +70,9 @@ pub fn refresh_file(
         Ok(kept) => kept,
         Err(fail) => return Err(fail),
     };
-    match room_behind(MAX_FILE - kept.len(), lead, lines) {
-        None => Err(MakeFail::Bad(MakeFault::TooLarge)),
-        Some(_) => {
-            let lead = Bytes::from_slice(alloc, lead)?;
-            Ok(MadeFile { kept, lead, output })
-        }
+    if !has_room(MAX_FILE - kept.len(), lead, lines) {
+        return Err(MakeFail::Bad(MakeFault::TooLarge));
     }
+    let lead = Bytes::from_slice(alloc, lead)?;
+    Ok(MadeFile { kept, lead, output })
 }
