@@ -9,7 +9,7 @@ use crate::check_file::whole;
 use crate::verdict::{filled, input_name};
 use filecheck_messages::{Refusal, Report, StepFail, refuse};
 use filecheck_words::Making;
-use make_checks::{MakeFail, refresh};
+use make_checks::{MakeFail, refresh_file};
 use std::alloc::Global;
 use std::mem::drop;
 use tt_base::Bytes;
@@ -55,7 +55,7 @@ fn made_behind(
     requires short { length output ≤ 2 ^ 30 }
     ensures { Gives (λ report. report) result (made_behind making.now old.now output) }
 {
-    match refresh(alloc, old, output, making.lead.as_slice()) {
+    match refresh_file(alloc, old, output, making.lead.as_slice()) {
         Ok(file) => Ok(Report::Checks(file)),
         Err(MakeFail::Bad(fault)) => refuse(Refusal::BadMake(fault)),
         Err(MakeFail::NoMemory) => Err(StepFail::NoMemory),

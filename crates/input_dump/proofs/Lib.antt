@@ -1,5 +1,6 @@
 pub mod BeginLemmas
 pub mod FollowLemmas
+pub mod JumpLemmas
 pub mod LawLemmas
 pub mod LineLemmas
 pub mod NewlineLemmas

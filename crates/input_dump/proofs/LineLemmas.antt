@@ -34,7 +34,7 @@ line_further text from at low =
     omega (arith, parts)
 
 -- behind the beginning of a line the number is greater than before
-before_begin : (text : List ℕ) (start at : ℕ) → start ≤ length text → BeginsLine text start → at < start → line_at text at < line_at text start
+pub before_begin : (text : List ℕ) (start at : ℕ) → start ≤ length text → BeginsLine text start → at < start → line_at text at < line_at text start
 before_begin text start at low begins below =
     let there : start - 1 + 1 ≡ start = omega (arith, below) in
     let more : count_by is_newline (take (start - 1 + 1) text) ≡ count_by is_newline (take (start - 1) text) + 1 =

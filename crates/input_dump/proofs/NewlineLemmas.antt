@@ -1,16 +1,18 @@
--- Newlines that a search finds, one by one.
--- Shown: behind the first newline from an offset on the line has the next number (`next_line_at`), and without one it is the same (`same_line_at`).
--- By counting newlines. The hard one is `none_in`, that no newline stands in a front.
-use Rattle.std.proofs.Common.{◌≡◌, ℕ, zero, suc, ◌+◌, ◌-◌, ◌<◌, ◌≤◌, Bool, true, false, List, length, get_or, take, drop, refl, sym, ap, ◌∙◌, arith, take_all, length-drop}
-use Rattle.std.proofs.lemmas.List.{take-take, length-take-le}
-use Rattle.std.proofs.lemmas.List.Sums.{count_by_more_no, count_by_more_yes}
+-- Newlines before an offset, and the line that it lies in.
+-- Shown: behind the last newline before an offset its line begins (`last_begins`), and without one the text does (`text_begins`); before a line
+-- there is the one with the number before (`line_before`). By counting newlines. The hard one is `same_behind`, where none stands between.
+use Rattle.std.proofs.Common.{◌≡◌, ℕ, zero, suc, ◌+◌, ◌-◌, ◌<◌, ◌≤◌, Bool, true, false, Some, None, List, length, get_or, take, drop, refl, sym, ap, ◌∙◌, arith, take_all, length-drop}
+use Rattle.std.proofs.lemmas.List.{get_or-drop, get_or-take, length-take, length-take-le}
+use Rattle.std.proofs.lemmas.List.Sums.{count_by-le-length, count_by_more_no, count_by_more_yes}
 use Rattle.std.specs.List.{count_by}
+use Rattle.memchr.specs.Find.{IsLastByte}
 use Rattle.tt_base.specs.Place.{is_newline}
 use Rattle.input_dump.proofs.LineLemmas.{line_further}
 use Rattle.input_dump.specs.Dump.{line_at}
+use Rattle.input_dump.specs.Follow.{BeginsLine}
 
 -- a byte that isn't one
-pub no_newline_by : (byte : ℕ) → (is_newline byte ≡ true → ⊥) → is_newline byte ≡ false
+no_newline_by : (byte : ℕ) → (is_newline byte ≡ true → ⊥) → is_newline byte ≡ false
 no_newline_by byte none = by (is_newline byte) none
   where
     by : (b : Bool) → (b ≡ true → ⊥) → b ≡ false
@@ -27,30 +29,53 @@ none_in xs (suc k) within none =
     ∙ count_by_more_no is_newline xs k 0 (omega (arith, within)) (none k (omega arith))
     ∙ none_in xs k (omega (arith, within)) (λ i low. none i (omega (arith, low)))
 
-module _ (text : List ℕ) (from at : ℕ) (ordered : from ≤ at) where
-  abbrev part : List ℕ
-  part = take (at - from) (drop from text)
+pub line_small : (text : List ℕ) (at : ℕ) → line_at text at ≤ length text + 1
+line_small text at = omega (arith, count_by-le-length is_newline (take at text), length-take at text)
 
-  pub part_length : at ≤ length text → length part ≡ at - from
-  part_length within = length-take-le (at - from) (drop from text) (omega (arith, within, length-drop from text))
+-- a line behind the first one doesn't begin with the text
+pub first_begins : (text : List ℕ) (from : ℕ) → 1 < line_at text from → 0 < from
+first_begins text zero more = absurd (omega (arith, more))
+first_begins text (suc from) more = omega arith
 
-  -- the newline that is found is the only one up to behind it
-  pub next_line_at : (k : ℕ) → k < length part → is_newline (get_or part k 0) ≡ true
-      → ((i : ℕ) → i < k → is_newline (get_or part i 0) ≡ false) → from + k + 1 ≤ at
-      → line_at text (from + k + 1) ≡ line_at text from + 1
-  next_line_at k inside found before within =
-      let long : from + k + 1 - from ≡ k + 1 = omega arith in
-      let front : take (k + 1) part ≡ take (k + 1) (drop from text) = take-take (k + 1) (at - from) (drop from text) (omega (arith, within)) in
-      let one : count_by is_newline (take (k + 1) part) ≡ 1 =
-      count_by_more_yes is_newline part k 0 inside found
-      ∙ ap (λ n. n + 1) (none_in part k (omega (arith, inside)) before) in
-      let counted : count_by is_newline (take (from + k + 1 - from) (drop from text)) ≡ 1 =
-      ap (λ n. count_by is_newline (take n (drop from text))) long ∙ ap (count_by is_newline) (sym front) ∙ one in
-      omega (arith, counted, line_further text from (from + k + 1) (omega arith))
+-- a line begins behind the one with the number before
+pub line_before : (text : List ℕ) (from : ℕ) → BeginsLine text from → 0 < from → from ≤ length text
+    → line_at text (from - 1) + 1 ≡ line_at text from
+line_before text from begins some within =
+    let there : from - 1 + 1 ≡ from = omega (arith, some) in
+    let more : count_by is_newline (take (from - 1 + 1) text) ≡ count_by is_newline (take (from - 1) text) + 1 =
+    count_by_more_yes is_newline text (from - 1) 0 (omega (arith, some, within)) (begins some) in
+    let same = ap (λ n. count_by is_newline (take n text)) there in
+    omega (arith, sym same ∙ more)
 
-  -- without one the line is the same
-  pub same_line_at : ((i : ℕ) → i < length part → is_newline (get_or part i 0) ≡ false) → line_at text at ≡ line_at text from
-  same_line_at none =
-      let all : count_by is_newline part ≡ 0 =
-      sym (ap (count_by is_newline) (take_all (length part) part (omega arith))) ∙ none_in part (length part) (omega arith) none in
-      omega (arith, all, line_further text from at ordered)
+module _ (text : List ℕ) (at : ℕ) (within : at ≤ length text) where
+  front_length : length (take at text) ≡ at
+  front_length = length-take-le at text within
+
+  -- where no newline stands between
+  same_behind : (from : ℕ) → from ≤ at
+      → ((i : ℕ) → from ≤ i → i < length (take at text) → is_newline (get_or (take at text) i 0) ≡ true → ⊥)
+      → line_at text from ≡ line_at text at
+  same_behind from low none =
+      let rest = drop from text in
+      let count = at - from in
+      let counted : count_by is_newline (take count rest) ≡ 0 =
+      none_in rest count (omega (arith, within, low, length-drop from text))
+      (λ i below. let inside : from + i < at = omega (arith, low, below) in
+      ap is_newline (get_or-drop from text i 0) ∙ ap is_newline (sym (get_or-take at text (from + i) 0 inside))
+      ∙ no_newline_by _ (none (from + i) (omega arith) (omega (arith, inside, front_length)))) in
+      omega (arith, line_further text from at low, counted)
+
+  -- behind the last newline
+  pub last_begins : (k : ℕ) → IsLastByte is_newline (take at text) (Some k)
+      → BeginsLine text (k + 1) × (line_at text (k + 1) ≡ line_at text at) × (k + 1 ≤ at)
+  last_begins k found =
+      let inside : k < at = omega (arith, found.0.high, front_length) in
+      let there : k + 1 - 1 ≡ k = omega arith in (
+        λ some. ap (λ n. is_newline (get_or text n 0)) there ∙ ap is_newline (sym (get_or-take at text k 0 inside)) ∙ found.1,
+        same_behind (k + 1) (omega (arith, inside)) (λ i low high. found.0.after i (omega (arith, low)) high),
+        omega (arith, inside),
+      )
+
+  -- and where there is none
+  pub text_begins : IsLastByte is_newline (take at text) None → line_at text 0 ≡ line_at text at
+  text_begins none = same_behind 0 (omega arith) (λ i low high. none i (omega arith) high)

@@ -1,6 +1,6 @@
 -- How far a dump has come, and what of it is left.
 -- Own rule: the marks of a line follow it, so those of the line before the one at hand come first; then the lines from there on.
-use Rattle.std.specs.Prelude.{◌≡◌, ◌⊎◌, ◌≤◌, ◌<◌, ◌^◌, ℕ, true, ◌+◌, ◌-◌, ◌==◌, nat_le, if◌then◌else◌, IsTrue, MatchOption, Option, All, List, [], ◌∷◌, ◌++◌, false, length, drop, map, slice_index}
+use Rattle.std.specs.Prelude.{◌≡◌, ◌⊎◌, ◌≤◌, ◌<◌, ◌^◌, ℕ, true, ◌+◌, ◌-◌, ◌==◌, nat_le, if◌then◌else◌, IsTrue, Option, All, List, [], ◌∷◌, ◌++◌, false, length, drop, map, slice_index}
 use Rattle.std.specs.List.{AllByRecursion, filter, flat_map, slice_split}
 use Rattle.tt_base.specs.Place.{is_newline, place_at}
 use Rattle.input_dump.specs.Dump.{any_close, counted, full_row, is_shown, line_at, mark_line, mark_row, on_line, rows_from}
@@ -85,12 +85,6 @@ IsNearAsAll subject number passed =
 abbrev pub AreHidden : Subject → ℕ → ℕ → Type 0
 AreHidden subject number near =
     (line : ℕ) → number ≤ line → line < near → is_shown subject.shown subject.lines.items line ≡ false
-
--- the lines from a number on are hidden up to another one, or all of them
-abbrev pub AreHiddenUpTo : Subject → ℕ → Option ℕ → Type 0
-AreHiddenUpTo subject number near =
-    MatchOption near ((line : ℕ) → number ≤ line → is_shown subject.shown subject.lines.items line ≡ false)
-    (λ one. AreHidden subject number one)
 
 -- a line begins at an offset
 abbrev pub BeginsLine : List ℕ → ℕ → Type 0

@@ -1,10 +1,10 @@
 //! The steps of a dump.
 ghost use Rattle.std.specs.Prelude.{◌≡◌, ◌≤◌, ◌<◌, ◌↔◌, IfSome, IsTrue, None, drop, false, length, true};
 ghost use Rattle.input_dump.specs.Dump.{any_close, is_shown};
-ghost use Rattle.input_dump.specs.Follow.{AreHidden, AreHiddenUpTo, AreNearTheSame, ArePassedAlike, Follows, GoesSilently, HasLess, HasLine, HasMark, IsAtEnd, IsFirstInReach, IsNearAsAll, IsReached, IsSubject, TakesRow, left};
+ghost use Rattle.input_dump.specs.Follow.{AreNearTheSame, ArePassedAlike, Follows, GoesSilently, HasLess, HasLine, HasMark, IsAtEnd, IsFirstInReach, IsNearAsAll, IsReached, IsSubject, TakesRow, left};
 ghost use Rattle.input_dump.specs.Order.{AreAscending};
 
-use crate::newlines::line_end;
+use crate::newlines::{begin_before, line_end};
 use crate::row::Row;
 use crate::subject::{Cursor, Subject};
 
@@ -155,19 +155,6 @@ fn take_line<'a>(subject: &Subject<'a>, cursor: &mut Cursor) -> Option<Row<'a>>
     }
 }
 
-/// The first line that may be shown from the one at hand on; there is none where no mark is near one.
-fn first_near(subject: &Subject<'_>, cursor: &Cursor) -> Option<u64>
-    requires subject { IsSubject subject.now }
-    requires follows { Follows subject.now cursor.now }
-    requires not_all { subject.now.shown.all ≡ false }
-    ensures { AreHiddenUpTo subject.now cursor.now.number result }
-{
-    match subject.lines.get(passed_on(subject, cursor)) {
-        Some(line) => Some(line.saturating_sub(subject.shown.context)),
-        None => None,
-    }
-}
-
 /// Goes over lines that are hidden behind one that is.
 fn pass_hidden(subject: &Subject<'_>, cursor: &mut Cursor)
     requires subject { IsSubject subject.now }
@@ -182,28 +169,35 @@ fn pass_hidden(subject: &Subject<'_>, cursor: &mut Cursor)
     if subject.shown.all {
         return;
     }
-    match first_near(subject, cursor) {
-        Some(near) => pass_before(subject, cursor, near),
-        None => cursor.start = subject.text.len() + 1,
+    let next = passed_on(subject, cursor);
+    if next < subject.lines.len() {
+        pass_before(subject, cursor, next);
+    } else {
+        cursor.start = subject.text.len() + 1;
     }
 }
 
-/// Goes over the lines before one, which are hidden.
-fn pass_before(subject: &Subject<'_>, cursor: &mut Cursor, near: u64)
+/// Goes over the lines that are hidden before a mark, where the marks before it are near none of them. Where the first line that is near it
+/// begins is found from the mark on backwards, so that they aren't looked at.
+fn pass_before(subject: &Subject<'_>, cursor: &mut Cursor, next: usize)
     requires subject { IsSubject subject.now }
     requires follows { Follows subject.now cursor.old }
     requires no_mark { ¬ HasMark subject.now cursor.old }
     requires hidden { cursor.old.hidden ≡ true }
-    requires are_hidden { AreHidden subject.now cursor.old.number near }
+    requires not_all { subject.now.shown.all ≡ false }
+    requires within { next < length subject.now.lines.items }
+    requires passed { ArePassedAlike subject.now cursor.old.number next cursor.old.passed }
     ensures same { left subject.now cursor.new ≡ left subject.now cursor.old }
     ensures no_mark { ¬ HasMark subject.now cursor.new }
     ensures on { cursor.old.start ≤ cursor.new.start }
     ensures follows { Follows subject.now cursor.new }
 {
-    while cursor.number < near && cursor.start < subject.text.len() {
-        let start = cursor.start;
-        cursor.start = line_end(subject.text, start) + 1;
-        cursor.last = start;
-        cursor.number += 1;
+    let line = subject.lines[next];
+    let near = line.saturating_sub(subject.shown.context);
+    if cursor.start < subject.text.len() && cursor.number < near {
+        let before = begin_before(subject.text, near - 1, line, subject.order[next].at);
+        cursor.start = line_end(subject.text, before) + 1;
+        cursor.last = before;
+        cursor.number = near;
     }
 }

@@ -97,3 +97,32 @@ fn a_dump_shows_marked_lines_and_those_near(rt: HostRuntime) -> Result<(), NoMem
     }
     Ok(())
 }
+
+/// The dump of so many lines, of which one has a mark.
+fn is_told_of(alloc: Global, lines: usize, marked: usize, due: &str) -> Result<bool, NoMemory> {
+    let mut text = Bytes::new(alloc);
+    for _ in 0..lines {
+        text.append(b"a\n")?;
+    }
+    let mark = Mark {
+        at: marked.saturating_sub(1).saturating_mul(2),
+        sign: b'X',
+        text: Bytes::from_slice(alloc, b"m")?,
+    };
+    let shown = Shown {
+        all: false,
+        context: 1,
+    };
+    if text.len() > 10_000 || mark.at > text.len() {
+        return Ok(false);
+    }
+    let told = dump(alloc, text.as_slice(), &[mark], &shown)?;
+    Ok(told.as_slice() == field_of(alloc, due)?.as_slice())
+}
+
+#[test]
+fn lines_are_numbered_far_into_a_text(rt: HostRuntime) -> Result<(), NoMemory> {
+    let due = "Input was:/<<<<<</   .../   998: a/   999: a/        X m/  1000: a/   .../>>>>>>/";
+    assert!(rt; is_told_of(rt.alloc(), 2000, 999, due)?);
+    Ok(())
+}

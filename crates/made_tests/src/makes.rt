@@ -1,26 +1,36 @@
 //! Check files that are made from outputs. A row is a line with fields between `~`: an old check file, an output, a lead, and the check file
 //! that is due, or `bad lead`, `line N` or `large`.
 use crate::fields::field_of;
-use make_checks::{MadeFile, MakeFail, MakeFault, make_checks, put_file, refresh};
+use make_checks::{
+    MadeFile, MakeFail, MakeFault, make_checks, make_file, put_file, refresh, refresh_file,
+};
 use std::alloc::Global;
 use tt_base::{Bytes, NoMemory};
 use tt_pieces::{Gathered, Pen};
 
-/// The bytes of a check file.
-fn bytes_of(alloc: Global, file: &MadeFile) -> Result<Bytes, NoMemory> {
+/// What is written of a check file.
+fn written(alloc: Global, file: &MadeFile) -> Result<Bytes, MakeFail> {
     let mut pen = Pen::new(alloc)?;
     let mut sink = Gathered::new(alloc);
     put_file(&mut pen, file, &mut sink);
     match pen.finish(&mut sink) {
         Ok(()) => Ok(sink.into_bytes()),
-        Err(_) => Err(NoMemory),
+        Err(_) => Err(MakeFail::NoMemory),
+    }
+}
+
+/// The same, if there is a file.
+fn written_of(alloc: Global, made: Result<MadeFile, MakeFail>) -> Result<Bytes, MakeFail> {
+    match made {
+        Ok(file) => written(alloc, &file),
+        Err(fail) => Err(fail),
     }
 }
 
 /// What stands for an answer in a row.
-fn told_of(alloc: Global, made: Result<MadeFile, MakeFail>) -> Result<Bytes, NoMemory> {
+fn told_of(alloc: Global, made: Result<Bytes, MakeFail>) -> Result<Bytes, NoMemory> {
     match made {
-        Ok(file) => bytes_of(alloc, &file),
+        Ok(bytes) => Ok(bytes),
         Err(MakeFail::Bad(MakeFault::BadLead)) => Bytes::from_slice(alloc, b"bad lead"),
         Err(MakeFail::Bad(MakeFault::LineTooLong(number))) => {
             let mut told = Bytes::from_slice(alloc, b"line ")?;
@@ -33,6 +43,30 @@ fn told_of(alloc: Global, made: Result<MadeFile, MakeFail>) -> Result<Bytes, NoM
         Err(MakeFail::Bad(MakeFault::TooLarge)) => Bytes::from_slice(alloc, b"large"),
         Err(MakeFail::NoMemory) => Err(NoMemory),
     }
+}
+
+/// Whether an answer is due.
+fn is_told(alloc: Global, made: Result<Bytes, MakeFail>, due: &[u8]) -> Result<bool, NoMemory> {
+    Ok(told_of(alloc, made)?.as_slice() == due)
+}
+
+/// Whether both calls make what is due: that which answers bytes, and that whose file is written.
+fn are_made(
+    alloc: Global,
+    old: &[u8],
+    output: Bytes,
+    lead: &[u8],
+    due: &[u8],
+) -> Result<bool, NoMemory> {
+    if old.len() > 1 << 20 || output.len() > 1 << 20 {
+        return Ok(false);
+    }
+    let bytes = refresh(alloc, old, output.as_slice(), lead);
+    if !is_told(alloc, bytes, due)? {
+        return Ok(false);
+    }
+    let file = refresh_file(alloc, old, output, lead);
+    is_told(alloc, written_of(alloc, file), due)
 }
 
 /// Whether what is made is due.
@@ -49,11 +83,14 @@ fn is_due(alloc: Global, row: &str) -> Result<bool, NoMemory> {
     let old = field_of(alloc, old)?;
     let output = field_of(alloc, output)?;
     let lead = field_of(alloc, lead)?;
-    if old.len() > 1 << 20 || output.len() > 1 << 20 {
-        return Ok(false);
-    }
-    let made = refresh(alloc, old.as_slice(), output, lead.as_slice());
-    Ok(told_of(alloc, made)?.as_slice() == field_of(alloc, due)?.as_slice())
+    let due = field_of(alloc, due)?;
+    are_made(
+        alloc,
+        old.as_slice(),
+        output,
+        lead.as_slice(),
+        due.as_slice(),
+    )
 }
 
 const MADE: [&str; 24] = [
@@ -100,11 +137,16 @@ fn is_made_of(alloc: Global, count: usize, byte: u8, due: &str) -> Result<bool, 
     if output.len() > 1 << 20 {
         return Ok(false);
     }
-    let told = told_of(alloc, make_checks(alloc, output, b""))?;
-    if due == "made" {
-        return Ok(told.len() > count);
+    let bytes = told_of(alloc, make_checks(alloc, output.as_slice(), b""))?;
+    let file = written_of(alloc, make_file(alloc, output, b""));
+    if !is_told(alloc, file, bytes.as_slice())? {
+        return Ok(false);
     }
-    Ok(told.as_slice() == due.as_bytes())
+    Ok(if due == "made" {
+        bytes.len() > count
+    } else {
+        bytes.as_slice() == due.as_bytes()
+    })
 }
 
 #[test]

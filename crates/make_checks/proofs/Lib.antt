@@ -5,4 +5,6 @@ pub mod KeptLemmas
 pub mod LineLemmas
 pub mod MadeLemmas
 pub mod QuoteLemmas
+pub mod ShortLemmas
+pub mod SizeLemmas
 pub mod TrimLemmas

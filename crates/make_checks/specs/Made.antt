@@ -1,13 +1,13 @@
 -- What is answered of the check file that is made from an output, and the steps by which it is made.
 -- Own rule: a bad lead is told before a line that is too long, and that before a file that would be too large. What the file is stands below,
 -- where it is proved to accept its output alone.
-use Rattle.std.specs.Prelude.{ℕ, ◌==◌, ◌||◌, nat_lt, Bool, if◌then◌else◌, List, [], ◌∷◌, ◌++◌, codes, length, map, Option, None, Some, Result, Ok, Err}
+use Rattle.std.specs.Prelude.{◌≡◌, ℕ, ◌==◌, ◌||◌, nat_lt, Bool, if◌then◌else◌, List, [], ◌∷◌, ◌++◌, codes, length, map, Option, None, Some, Result, Ok, Err}
 use Rattle.std.specs.Borrow.{Bor}
-use Rattle.std.specs.List.{slice_split}
+use Rattle.std.specs.List.{position_from, slice_split}
 use Rattle.std.specs.Option.{option_map_or}
 use Rattle.tt_base.specs.Place.{is_newline}
 use Rattle.file_laws.specs.Lead.{is_bad}
-use Rattle.file_laws.specs.Made.{canonical_lines, long_line, made_file, next_of}
+use Rattle.file_laws.specs.Made.{canonical_lines, is_too_long, long_line, made_file, next_of}
 use Rattle.quote_laws.specs.Quote.{body_of}
 use Rattle.make_checks.specs.declared.fault.MakeFault.{MakeFault}
 use Rattle.make_checks.specs.declared.fault.MakeFault.TheVariants.{BadLead, LineTooLong, TooLarge}
@@ -37,6 +37,10 @@ asking [] = []
 asking (first ∷ lines) = (codes "CHECK: " ++ body_of first) ∷ map next_of lines
 
 -- ---- what stands in its way
+
+-- no body of these lines would be too long, from whichever number they count
+abbrev pub NoneIsLong : List (List ℕ) → Type 0
+NoneIsLong lines = (number : ℕ) → position_from is_too_long number lines ≡ None
 
 -- whether a byte isn't written as it is
 abbrev pub is_quoted : ℕ → Bool

@@ -15,5 +15,5 @@ mod room;
 mod told;
 
 pub use fault::{MAX_FILE, MakeFail, MakeFault};
-pub use making::{make_checks, refresh};
+pub use making::{make_checks, make_file, refresh, refresh_file};
 pub use told::{MadeFile, put_file};

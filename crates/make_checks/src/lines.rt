@@ -1,12 +1,12 @@
 //! The lines of a text, and those of an output that count.
-ghost use Rattle.std.specs.Prelude.{◌≡◌, ◌≤◌, ◌<◌, ◌^◌, ◌∷◌, IfSome, length};
+ghost use Rattle.std.specs.Prelude.{◌≡◌, ◌≤◌, ◌<◌, ◌^◌, ◌∷◌, IfSome, IsTrue, length, slice_index, true};
 ghost use Rattle.std.specs.List.{position_from, slice_split};
 ghost use Rattle.tt_base.specs.Place.{is_newline};
 ghost use Rattle.file_laws.specs.Made.{is_too_long};
-ghost use Rattle.make_checks.specs.Made.{lines_behind, trimmed};
+ghost use Rattle.make_checks.specs.Made.{NoneIsLong, lines_behind, trimmed};
 
 use crate::room::room_behind_body;
-use memchr::memchr;
+use memchr::{memchr, memrchr};
 use pattern_parse::MAX_BODY;
 
 /// The first line of a text, and what stands behind its newline, if it has one.
@@ -53,11 +53,38 @@ fn is_too_long(line: &[u8]) -> bool
     }
 }
 
+/// The last newline that a short line at the front of a text could end before.
+fn newline_near(text: &[u8]) -> Option<usize>
+    requires { SHORT < length text.now }
+    ensures within { IfSome result (λ at. at < length text.now) }
+    ensures near { IfSome result (λ at. at ≤ SHORT) }
+    ensures newline { IfSome result (λ at. is_newline (slice_index text.now at) ≡ true) }
+{
+    memrchr(b'\n', &text[..SHORT + 1])
+}
+
+/// Whether all lines are short: within so many bytes and one more there is always a newline.
+fn are_short(text: &[u8]) -> bool
+    ensures { IsTrue result → NoneIsLong (slice_split is_newline text.now) }
+{
+    let mut rest = text;
+    while rest.len() > SHORT {
+        match newline_near(rest) {
+            Some(at) => rest = &rest[at + 1..],
+            None => return false,
+        }
+    }
+    true
+}
+
 /// The number of the first line whose body would be too long, from 1.
 pub(crate) fn long_line(text: &[u8]) -> Option<u32>
     requires { length text.now ≤ 2 ^ 30 }
     ensures { result ≡ position_from is_too_long 1 (slice_split is_newline text.now) }
 {
+    if are_short(text) {
+        return None;
+    }
     let mut number = 1;
     let mut rest = text;
     loop {

@@ -1,5 +1,5 @@
 //! Whether there is room for a check file.
-ghost use Rattle.std.specs.Prelude.{◌≤◌, ◌+◌, ◌-◌, SomeIff};
+ghost use Rattle.std.specs.Prelude.{◌≤◌, ◌+◌, ◌-◌, ◌^◌, ◌↔◌, IsTrue, SomeIff, length};
 ghost use Rattle.quote_laws.specs.Quote.{body_of, quote};
 ghost use Rattle.file_laws.specs.Made.{made_text};
 ghost use Rattle.make_checks.specs.Directives.{LeavesRoom, directive_text, line_text};
@@ -7,6 +7,7 @@ ghost use Rattle.make_checks.specs.Made.{lines_in};
 
 use crate::directives::{Directive, Left, parted};
 use crate::quoting::quoted;
+use byte_counts::count_of;
 use memchr::memchr2;
 
 /// How many bytes the two anchors of a body have.
@@ -65,7 +66,7 @@ fn room_behind_line(room: usize, lead: &[u8], directive: Directive<'_>) -> Optio
 }
 
 /// The room that is left behind the directives of lines.
-pub(crate) fn room_behind(room: usize, lead: &[u8], lines: &[u8]) -> Option<usize>
+fn room_behind(room: usize, lead: &[u8], lines: &[u8]) -> Option<usize>
     ensures { LeavesRoom (made_text lead.now (lines_in lines.now)) room result }
 {
     let mut room = room;
@@ -78,4 +79,37 @@ pub(crate) fn room_behind(room: usize, lead: &[u8], lines: &[u8]) -> Option<usiz
         left = later;
     }
     Some(room)
+}
+
+/// How many bytes a line of the output takes at most, beside its own and the lead: those of the words, of both anchors and of the newline.
+const LINE: usize = 23;
+
+/// Whether so many bytes and so many more fit.
+fn both_fit(room: usize, first: usize, second: usize) -> bool
+    ensures { IsTrue result ↔ (first + second ≤ room) }
+{
+    first <= room && second <= room - first
+}
+
+/// Whether there is room even if each directive were as long as the longest of them; three counts tell it.
+fn is_roomy(room: usize, lead: &[u8], lines: &[u8]) -> bool
+    requires { length lines.now ≤ 2 ^ 30 }
+    ensures { IsTrue result → length (made_text lead.now (lines_in lines.now)) ≤ room }
+{
+    let brackets = count_of(b'[', lines);
+    let braces = count_of(b'{', lines);
+    let newlines = count_of(b'\n', lines);
+    let bodies = lines.len() + 6 * (brackets + braces);
+    match (lead.len() + LINE).checked_mul(newlines + 3) {
+        Some(words) => both_fit(room, words, bodies),
+        None => false,
+    }
+}
+
+/// Whether there is room for the directives of lines.
+pub(crate) fn has_room(room: usize, lead: &[u8], lines: &[u8]) -> bool
+    requires { length lines.now ≤ 2 ^ 30 }
+    ensures { IsTrue result ↔ (length (made_text lead.now (lines_in lines.now)) ≤ room) }
+{
+    is_roomy(room, lead, lines) || room_behind(room, lead, lines).is_some()
 }

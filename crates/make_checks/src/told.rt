@@ -1,4 +1,5 @@
 //! A check file before it is written, and how it is.
+ghost use Rattle.std.specs.Prelude.{◌≡◌, IfOk};
 ghost use Rattle.file_laws.specs.Made.{made_text};
 ghost use Rattle.make_checks.specs.Directives.{directive_text, line_text};
 ghost use Rattle.make_checks.specs.Made.{lines_in};
@@ -7,10 +8,11 @@ ghost use Rattle.tt_pieces.specs.Telling.{Puts};
 use crate::directives::{Directive, Left, parted};
 use crate::lines::trimmed;
 use crate::quoting::put_body;
+use std::alloc::Global;
 use std::marker::Model;
-use tt_base::Bytes;
+use tt_base::{Bytes, NoMemory};
 use tt_outside::Sink;
-use tt_pieces::Pen;
+use tt_pieces::{Gathered, Pen};
 
 /// A check file, of which a contract sees the bytes. It is written line by line, and takes no memory for them.
 #[derive(Drop, Debug)]
@@ -76,4 +78,17 @@ pub fn put_file<S: Sink>(pen: &mut Pen, file: &MadeFile, sink: &mut S)
         trimmed(file.output.as_slice()),
         sink,
     );
+}
+
+/// The bytes of a check file.
+pub(crate) fn bytes_of(alloc: Global, file: &MadeFile) -> Result<Bytes, NoMemory>
+    ensures { IfOk result (λ bytes. bytes ≡ file.now) }
+{
+    let mut pen = Pen::new(alloc)?;
+    let mut sink = Gathered::new(alloc);
+    put_file(&mut pen, file, &mut sink);
+    match pen.finish(&mut sink) {
+        Ok(()) => Ok(sink.into_bytes()),
+        Err(_) => Err(NoMemory),
+    }
 }

@@ -1,4 +1,4 @@
-use Rattle.std.proofs.Common.{[], ◌++◌, ◌+◌, ◌-◌, List, ℕ, get_or, length, take, sym, ap, ◌∙◌, arith, refl, length-drop}
+use Rattle.std.proofs.Common.{[], ◌++◌, ◌+◌, List, ℕ, get_or, length, take, sym, ap, ◌∙◌, arith, refl, length-drop}
 use Rattle.std.proofs.lemmas.List.{take_rest}
 use Rattle.quote_laws.specs.Quote.{quote, quote_byte}
 use Rattle.make_checks.proofs.QuoteLemmas.{quote_none, quote_step}
