@@ -1,13 +1,15 @@
 #!/usr/bin/env python3
 """Times how lit runs tests, beside LLVM's lit where it is installed, and beside the floor.
 
-    benches/running.py [--rounds N] [--lit LIT] [--tests N] [--programs FOLDER]
+    benches/running.py [--rounds N] [--lit LIT] [--tests N] [--programs FOLDER] [--only WORD] [--processor]
 
 The programs are those that ./run builds, or with --programs those in a folder, under their names. LIT is LLVM's lit.py;
 without it, one is looked for. It runs the same tests in its own shell, with one worker, and its own FileCheck. The floor is
 a C program that starts the same commands by posix_spawn, one after the other, hands each the output of the one before, and
-reads both streams to their end; without a C compiler there is none. Wall time, the best of the rounds, in which the three run
-in alternation; memory is the greatest resident set of a process. A goal is the greatest ratio that is wanted.
+reads both streams to their end; without a C compiler there is none. The floor that does as much also keeps what it reads, as a report
+may have to show it, and asks for the kind of each name in the test's folder. Wall time, the best of the rounds, in which all run
+in alternation; with --processor it is that of a processor, of all commands too, for a machine that others use. Memory is the greatest
+resident set of a process. A goal is the greatest ratio that is wanted.
 """
 import argparse
 import glob
@@ -17,7 +19,7 @@ import subprocess
 import sys
 import tempfile
 
-from filecheck import MIB, best_of, built, other_programs, peak
+from filecheck import BY_PROCESSOR, MIB, best_of, built, other_programs, peak
 
 SUITE = """version = 1
 name = "demo"
@@ -35,9 +37,11 @@ config.excludes = ["inputs"]
 config.environment["PATH"] = "{path}"
 """
 
-# The floor: `floor THREADS TIMES WORD .. [| WORD ..] ..` runs a pipe so many times, in as many threads, each of which takes the next.
+# The floor: `floor [as-much FOLDER] THREADS TIMES WORD .. [| WORD ..] ..` runs a pipe so many times, in as many threads, each of which takes
+# the next. Where it does as much as lit, it asks for the kind of each name in the folder first, and keeps what it reads.
 FLOOR = r"""
 #define _GNU_SOURCE
+#include <dirent.h>
 #include <fcntl.h>
 #include <poll.h>
 #include <pthread.h>
@@ -47,18 +51,39 @@ FLOOR = r"""
 #include <stdlib.h>
 #include <string.h>
 #include <signal.h>
+#include <sys/stat.h>
 #include <sys/wait.h>
 #include <unistd.h>
 
 extern char **environ;
-enum { ROOM = 5 << 20 };
-static _Thread_local char *buffers[3];
-static int times, count;
+enum { ROOM = 5 << 20, PIECE = 1 << 16 };
+struct text {
+    char *at;
+    size_t size, room;
+};
+static _Thread_local struct text texts[3];
+static int times, count, keeps;
 static char **words;
 static atomic_int next;
 
-// Runs a command with an input; its output goes to `out`, of which the length is the answer.
-static size_t stage(char **words, const char *in, size_t size, char *out) {
+// Room for a text: memory of its own, where texts are kept.
+static void begin(struct text *text) {
+    text->size = 0;
+    if (text->room && !keeps) return;
+    text->room = keeps ? PIECE : ROOM;
+    if (!(text->at = malloc(text->room))) exit(2);
+}
+
+// Reads once.
+static ssize_t more(int from, struct text *to) {
+    if (keeps && to->room - to->size < PIECE && !(to->at = realloc(to->at, to->room *= 2))) exit(2);
+    ssize_t got = read(from, to->at + to->size, to->room - to->size);
+    if (got > 0) to->size += got;
+    return got;
+}
+
+// Runs a command with an input; its output goes to `out`.
+static void stage(char **words, const char *in, size_t size, struct text *out) {
     int to[2], from[2], errors[2], status;
     if (pipe2(to, O_CLOEXEC) || pipe2(from, O_CLOEXEC) || pipe2(errors, O_CLOEXEC)) exit(2);
     posix_spawn_file_actions_t actions;
@@ -71,7 +96,8 @@ static size_t stage(char **words, const char *in, size_t size, char *out) {
     posix_spawn_file_actions_destroy(&actions);
     close(to[0]), close(from[1]), close(errors[1]);
     fcntl(to[1], F_SETFL, O_NONBLOCK);
-    size_t fed = 0, had = 0, wrong = 0;
+    size_t fed = 0;
+    begin(out), begin(&texts[2]);
     struct pollfd polled[3] = {{to[1], POLLOUT, 0}, {from[0], POLLIN, 0}, {errors[0], POLLIN, 0}};
     if (size == 0) close(to[1]), polled[0].fd = -1;
     while (polled[1].fd >= 0 || polled[2].fd >= 0) {
@@ -83,36 +109,44 @@ static size_t stage(char **words, const char *in, size_t size, char *out) {
         }
         for (int stream = 1; stream < 3; stream++) {
             if (polled[stream].fd < 0 || !polled[stream].revents) continue;
-            size_t *so_far = stream == 1 ? &had : &wrong;
-            ssize_t got = read(polled[stream].fd, (stream == 1 ? out : buffers[2]) + *so_far, ROOM - *so_far);
-            if (got > 0) *so_far += got;
-            else close(polled[stream].fd), polled[stream].fd = -1;
+            if (more(polled[stream].fd, stream == 1 ? out : &texts[2]) <= 0) close(polled[stream].fd), polled[stream].fd = -1;
         }
     }
     if (polled[0].fd >= 0) close(to[1]);
     if (waitpid(child, &status, 0) != child || status != 0) exit(1);
-    return had;
 }
 
 static void *work(void *unused) {
-    for (int at = 0; at < 3; at++)
-        if (!(buffers[at] = malloc(ROOM))) exit(2);
     while (atomic_fetch_add(&next, 1) < times) {
-        size_t had = 0;
+        const char *had = NULL;
+        size_t size = 0;
         int which = 0;
         for (int at = 0; at < count;) {
             char *command[32] = {0};
             for (int word = 0; at < count && strcmp(words[at], "|") != 0 && word < 31; word++) command[word] = words[at++];
             at++;
-            had = stage(command, buffers[which], had, buffers[1 - which]);
+            stage(command, had, size, &texts[which]);
+            had = texts[which].at, size = texts[which].size;
             which = 1 - which;
         }
     }
     return unused;
 }
 
+// Asks for the kind of each name in a folder.
+static void list(const char *folder) {
+    DIR *opened = opendir(folder);
+    struct dirent *entry;
+    struct stat found;
+    if (!opened) exit(2);
+    while ((entry = readdir(opened)))
+        if (fstatat(dirfd(opened), entry->d_name, &found, AT_SYMLINK_NOFOLLOW)) exit(2);
+    closedir(opened);
+}
+
 int main(int given, char **all) {
     pthread_t others[64];
+    if (given > 3 && strcmp(all[1], "as-much") == 0) keeps = 1, list(all[2]), given -= 2, all += 2;
     int threads = atoi(all[1]);
     if (threads < 1 || threads > 64) exit(2);
     signal(SIGPIPE, SIG_IGN);
@@ -166,11 +200,11 @@ def floor_program(top):
 
 
 def table_row(case, goals, commands, rounds):
-    """Runs a case by ours, the floor and LLVM's, those that there are, and prints its row."""
+    """Runs a case by ours, the floor, the floor that does as much and LLVM's, those that there are, and prints its row."""
     there = [command for command in commands if command]
     times = dict(zip(map(id, there), best_of(there, os.devnull, 0, rounds)))
     memory = {id(command): peak(command, os.devnull) for command in there}
-    ours, floor, llvm = [(times.get(id(command)), memory.get(id(command))) if command else (None, None) for command in commands]
+    ours, floor, much, llvm = [(times.get(id(command)), memory.get(id(command))) if command else (None, None) for command in commands]
 
     def ratio(one, other):
         return f"{one / other:.2f}" if one and other else "?"
@@ -179,7 +213,8 @@ def table_row(case, goals, commands, rounds):
         return [f"{pair[0] * 1000:.1f} ms" if pair[0] else "?", f"{pair[1] / 1024:.1f} MiB" if pair[1] else "?"]
 
     cells = [case, *shown(ours), *shown(llvm), f"{ratio(ours[0], llvm[0])} (goal {goals[0]})",
-             ratio(ours[1], llvm[1]) + (f" (goal {goals[1]})" if goals[1] else ""), shown(floor)[0], f"{ratio(ours[0], floor[0])} (goal 1.3)"]
+             ratio(ours[1], llvm[1]) + (f" (goal {goals[1]})" if goals[1] else ""), shown(floor)[0], f"{ratio(ours[0], floor[0])} (goal 1.3)",
+             shown(much)[0], ratio(ours[0], much[0])]
     print("| " + " | ".join(cells) + " |", flush=True)
 
 
@@ -189,22 +224,29 @@ def main():
     wants.add_argument("--tests", type=int, default=1000, help="tests of the first case, and twice those of the second (1000)")
     wants.add_argument("--lit", default=None, help="LLVM's lit.py")
     wants.add_argument("--programs", help="the folder in which lit and filecheck stand")
+    wants.add_argument("--only", default="", help="the cases whose title has this")
+    wants.add_argument("--processor", action="store_true", help="the time of a processor in place of the wall's")
     given = wants.parse_args()
+    BY_PROCESSOR[0] = given.processor
     program, filecheck = [os.path.join(os.path.abspath(given.programs), name) if given.programs else built(name) for name in ("lit", "filecheck")]
     found = [os.path.abspath(given.lit)] if given.lit else sorted(glob.glob("/usr/lib/llvm-*/build/utils/lit/lit.py"))[-1:]
     others = other_programs()[:1]
     path = ":".join([os.path.dirname(os.path.realpath(one)) for one in others] + [os.environ["PATH"]])
-    print("| case | ours | memory | LLVM | memory | time, ours / LLVM | memory, ours / LLVM | floor | time, ours / floor |")
-    print("|---|---|---|---|---|---|---|---|---|")
+    print("| case | ours | memory | LLVM | memory | time, ours / LLVM | memory, ours / LLVM | floor | time, ours / floor | floor that does as much | time, ours / that |")
+    print("|---|---|---|---|---|---|---|---|---|---|---|")
     with tempfile.TemporaryDirectory() as top:
         trees(top, given.tests, filecheck, path)
         os.chdir(top)
         floor = floor_program(top)
 
         def case(title, goals, where, times, pipe):
+            if given.only not in title:
+                return
             ours = [program, "-q", os.path.join("ours", where)]
             llvm = [sys.executable, found[0], "-q", "-j1", os.path.join("llvm", where)] if found else None
-            table_row(title, goals, [ours, [floor, "1", str(times), *pipe] if floor else None, llvm], given.rounds)
+            least = [floor, "1", str(times), *pipe] if floor else None
+            much = [floor, "as-much", os.path.join("ours", where.split(os.sep)[0]), *least[1:]] if floor else None
+            table_row(title, goals, [ours, least, much, llvm], given.rounds)
 
         large = os.path.join("ours", "inputs", "large")
         case(f"{given.tests:,} tests `RUN: true`", ("0.35", "0.25"), "true", given.tests, ["true"])

@@ -1,10 +1,10 @@
 //! A program that is run to its end. By turns it is given a piece of its input and a piece of each of its streams is read, so that
 //! neither it nor its hand waits for the other without end.
-ghost use Rattle.std.specs.Prelude.{◌≡◌, ◌++◌, ◌≤◌, List, ℕ, IfOk, OnOk, length, true};
-ghost use Rattle.std.specs.Io.KnownBytes.{Consumes};
+ghost use Rattle.std.specs.Prelude.{◌≡◌, ◌≤◌, IfOk, length, true};
 ghost use Rattle.tt_real.specs.Reply.{fits_program};
 
 use crate::input::Feed;
+use crate::read_buffer::{PIECE, ReadBuffer};
 use crate::told::{Told, finish_fed, finish_of, refused_reply, reply_of, told_of};
 use libc::net::{POLLIN, POLLOUT, poll};
 use libc::types::pollfd;
@@ -14,9 +14,6 @@ use std::os::fd::{AsRawFd, RawFd};
 use std::process::{Child, ChildStderr, ChildStdout, Command, Processes, Stdio, SystemProcess};
 use tt_base::{Bytes, NoMemory};
 use tt_outside::{Finish, Reply, SharedBytes};
-
-/// How many bytes are read at once: as many as a pipe holds.
-const PIECE: usize = 1 << 16;
 
 /// After how many milliseconds a program is looked at again that reads and doesn't write any more: whether it has ended.
 const PATIENCE: i32 = 10;
@@ -33,7 +30,7 @@ struct Streams {
 #[derive(Drop)]
 struct Drain<R> {
     reader: Option<R>,
-    bytes: Vec<u8>,
+    bytes: ReadBuffer,
 }
 
 /// Runs a program with an input. Each of its streams may have at most `limit` bytes.
@@ -61,32 +58,11 @@ pub(crate) fn run<R: Processes<Started = SystemProcess>>(
     }
 }
 
-/// Reads once, and adds what was read. It tells whether more may come.
-fn add_piece<R: Read>(
-    reader: &mut R,
-    piece: &mut [u8],
-    bytes: &mut Vec<u8>,
-) -> Result<bool, ErrorKind>
-    ensures { OnOk result ((read : List ℕ) × (bytes.new.items ≡ bytes.old.items ++ read)
-        × Consumes (R.remaining reader.old) (R.remaining reader.new) read) }
-{
-    match reader.read(piece) {
-        Ok(count) => match bytes.extend_from_slice(&piece[..count]) {
-            Ok(()) => Ok(count > 0),
-            Err(_) => Err(ErrorKind::OutOfMemory),
-        },
-        Err(error) => match error.kind() {
-            ErrorKind::Interrupted => Ok(true),
-            kind => Err(kind),
-        },
-    }
-}
-
 impl<R: Read + AsRawFd + Drop> Drain<R> {
     fn new(alloc: Global, reader: R) -> Drain<R> {
         Drain {
             reader: Some(reader),
-            bytes: Vec::new(alloc),
+            bytes: ReadBuffer::new(alloc),
         }
     }
 
@@ -108,11 +84,11 @@ impl<R: Read + AsRawFd + Drop> Drain<R> {
     }
 
     /// Reads once.
-    fn read(&mut self, piece: &mut [u8]) -> Result<(), ErrorKind> {
+    fn read(&mut self) -> Result<(), ErrorKind> {
         let Some(reader) = &mut self.reader else {
             return Ok(());
         };
-        if !add_piece(reader, piece, &mut self.bytes)? {
+        if !self.bytes.read_from(reader)? {
             self.reader = None;
         }
         Ok(())
@@ -120,9 +96,7 @@ impl<R: Read + AsRawFd + Drop> Drain<R> {
 
     /// What was read, without the room behind it.
     fn end(self) -> Vec<u8> {
-        let mut bytes = self.bytes;
-        bytes.shrink_to_fit();
-        bytes
+        self.bytes.into_vec()
     }
 }
 
@@ -153,7 +127,6 @@ fn turn(
     feed: &mut Feed<'_>,
     out: &mut Drain<ChildStdout>,
     err: &mut Drain<ChildStderr>,
-    piece: &mut [u8],
     milliseconds: i32,
 ) -> Result<(), ErrorKind> {
     let [takes, has_out, has_err] = ready([feed.fd(), out.fd(), err.fd()], milliseconds)?;
@@ -161,10 +134,10 @@ fn turn(
         feed.write();
     }
     if has_out {
-        out.read(piece)?;
+        out.read()?;
     }
     if has_err {
-        err.read(piece)?;
+        err.read()?;
     }
     Ok(())
 }
@@ -177,22 +150,21 @@ fn exchange(
     err: &mut Drain<ChildStderr>,
     room: u64,
 ) -> Result<(), ErrorKind> {
-    let mut piece = [0u8; PIECE];
     for _ in 0..u64::MAX {
         if out.is_past(room) || err.is_past(room) {
             return Ok(());
         }
         match (feed.is_open(), out.is_open(), err.is_open()) {
             (false, false, false) => return Ok(()),
-            (false, true, false) => out.read(&mut piece)?,
-            (false, false, true) => err.read(&mut piece)?,
+            (false, true, false) => out.read()?,
+            (false, false, true) => err.read()?,
             (true, false, false) => {
                 if !matches!(child.try_wait(), Ok(None)) {
                     return Ok(());
                 }
-                turn(feed, out, err, &mut piece, PATIENCE)?;
+                turn(feed, out, err, PATIENCE)?;
             }
-            (_, _, _) => turn(feed, out, err, &mut piece, -1)?,
+            (_, _, _) => turn(feed, out, err, -1)?,
         }
     }
     Err(ErrorKind::TimedOut)

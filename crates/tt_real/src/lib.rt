@@ -9,6 +9,7 @@ mod crew;
 mod disk;
 mod files;
 mod input;
+mod read_buffer;
 mod reader;
 mod told;
 mod tree;
