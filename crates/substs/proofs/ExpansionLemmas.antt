@@ -1,14 +1,15 @@
 -- A line is what its parts become, joined: rules one after the other, and the parts of a line.
 -- A stage that is too long stays none; a part in front of the others is cut where `%%` stands first.
 -- The hard ones are `parts_cut`, by induction over the line, and `part_step`, one part more.
-use Rattle.std.proofs.Common.{◌≡◌, ℕ, suc, ◌+◌, ◌-◌, ◌<◌, ◌≤◌, ◌++◌, ◌&&◌, Bool, true, false, List, [], ◌∷◌, Option, Some, None, Result, Ok, Err, cond, codes, length, get_or, append_assoc, nat_eq, ◌^◌, drop-cons, add-one, length-drop, take_all, take, drop, refl, sym, ap, ◌∙◌, subst, arith}
+use Rattle.std.proofs.Common.{◌≡◌, inl, inr, ℕ, suc, ◌+◌, ◌-◌, ◌<◌, ◌≤◌, ◌++◌, false, List, [], ◌∷◌, Option, Some, None, Result, Ok, Err, cond, codes, length, get_or, append_assoc, nat_eq, ◌^◌, drop-cons, add-one, length-drop, take_all, take, drop, refl, sym, ap, ◌∙◌, subst, arith}
+use Rattle.std.proofs.lemmas.Bool.{and_right}
 use Rattle.std.proofs.lemmas.List.{drop_all, drop-drop, get_or-drop}
 use Rattle.std.specs.Option.{option_and_then, option_map}
 use Rattle.std.specs.Result.{IsErr, IsErrAnd}
 use Rattle.tt_base.specs.Occurrence.{begins_with, first_from, first_in}
 use Rattle.tt_outside.specs.declared.request.Pair.{Pair}
 use Rattle.substs.specs.Expansion.{Adds, AreNamed, Makes, after_all, joined, name_rules, parts, staged, within}
-use Rattle.substs.proofs.ReplacementLemmas.{too_long}
+use Rattle.substs.proofs.ReplacementLemmas.{first_next, too_long}
 use Rattle.substs.specs.Replacement.{Rule, name_rule, replaced}
 use Rattle.substs.specs.declared.fail.ExpandFail.{ExpandFail}
 use Rattle.substs.specs.declared.fail.ExpandFail.TheVariants.{TooLong, NoMemory}
@@ -26,41 +27,21 @@ stops rules TooLong stage is = ap (after_all rules) is ∙ none_stays rules
 stops rules NoMemory stage is = tt
 
 -- some rules and those behind them
-pub after_both : (front behind : List Rule) (text : Option (List ℕ))
+after_both : (front behind : List Rule) (text : Option (List ℕ))
     → after_all (front ++ behind) text ≡ after_all behind (after_all front text)
 unfolding after_all
 after_both [] behind text = refl
 after_both (rule ∷ front) behind text = after_both front behind (staged rule text)
 
-pub all_three : (front middle behind : List Rule) (text : Option (List ℕ))
+all_three : (front middle behind : List Rule) (text : Option (List ℕ))
     → after_all (front ++ middle ++ behind) text ≡ after_all behind (after_all middle (after_all front text))
 all_three front middle behind text =
     after_both (front ++ middle) behind text ∙ ap (after_all behind) (after_both front middle text)
 
--- what fails in the first of three, in the second, or gives the last
-module _ (front middle behind : List Rule) (text : List ℕ) where
-  pub fails_first : (failed : ExpandFail) → Makes (Err failed) (after_all front (Some text))
-      → Makes (Err failed) (after_all (front ++ middle ++ behind) (Some text))
-  fails_first failed is =
-      subst (Makes (Err failed)) (sym (all_three front middle behind (Some text)))
-      (stops behind failed (after_all middle (after_all front (Some text)))
-      (stops middle failed (after_all front (Some text)) is))
-
-  pub fails_second : (one : List ℕ) (failed : ExpandFail) → after_all front (Some text) ≡ Some one
-      → Makes (Err failed) (after_all middle (Some one))
-      → Makes (Err failed) (after_all (front ++ middle ++ behind) (Some text))
-  fails_second one failed first is =
-      subst (Makes (Err failed)) (sym (all_three front middle behind (Some text)
-      ∙ ap (λ o. after_all behind (after_all middle o)) first))
-      (stops behind failed (after_all middle (Some one)) is)
-
-  pub gives_last : (one two : List ℕ) (made : Result (List ℕ) ExpandFail) → after_all front (Some text) ≡ Some one
-      → after_all middle (Some one) ≡ Some two → Makes made (after_all behind (Some two))
-      → Makes made (after_all (front ++ middle ++ behind) (Some text))
-  gives_last one two made first second is =
-      subst (Makes made) (sym (all_three front middle behind (Some text)
-      ∙ ap (λ o. after_all behind (after_all middle o)) first
-      ∙ ap (after_all behind) second)) is
+pub in_three : (front middle behind : List Rule) (text : Option (List ℕ)) (made : Result (List ℕ) ExpandFail)
+    → Makes made (after_all behind (after_all middle (after_all front text)))
+    → Makes made (after_all (front ++ middle ++ behind) text)
+in_three front middle behind text made is = subst (Makes made) (sym (all_three front middle behind text)) is
 
 -- ---- one rule
 
@@ -108,72 +89,58 @@ behind_made rules made p = option_and_then within (option_map (λ b. made ++ b) 
 
 -- ---- the parts of a line
 
-and_false : (test : Bool) → (test && false) ≡ false
-and_false true = refl
-and_false false = refl
-
 -- one byte alone doesn't begin with two
 one_byte : (a : ℕ) → begins_with (a ∷ []) (codes "%%") ≡ false
-one_byte a = and_false (nat_eq 37 a)
+one_byte a = and_right (nat_eq 37 a) false refl
 
 -- a first part of so many bytes, and those behind the `%%` there
-abbrev pub cut_at : ℕ → List ℕ → List ℕ × List (List ℕ)
+abbrev cut_at : ℕ → List ℕ → List ℕ × List (List ℕ)
 cut_at n text = (take n text, (parts (drop (n + 2) text)).0 ∷ (parts (drop (n + 2) text)).1)
 
+-- where a line doesn't begin with `%%` its first byte belongs to the first part
+parts_next : (a b : ℕ) (rest : List ℕ) → begins_with (a ∷ b ∷ rest) (codes "%%") ≡ false
+    → parts (a ∷ b ∷ rest) ≡ (a ∷ (parts (b ∷ rest)).0, (parts (b ∷ rest)).1)
+unfolding parts
+parts_next a b rest none =
+    ap (λ t. cond t ([], (parts rest).0 ∷ (parts rest).1) (a ∷ (parts (b ∷ rest)).0, (parts (b ∷ rest)).1)) none
+
 -- the first part ends where `%%` stands first
-pub parts_cut : (text : List ℕ) (from at : ℕ) → Some at ≡ first_from (codes "%%") from text
+parts_cut : (text : List ℕ) (from at : ℕ) → Some at ≡ first_from (codes "%%") from text
     → (from ≤ at) × (parts text ≡ cut_at (at - from) text)
 unfolding first_from parts
 parts_cut [] from at is = cc
 parts_cut (a ∷ []) from at is = cc (is ∙ ap (λ t. cond t (Some from) None) (one_byte a))
-parts_cut (a ∷ b ∷ rest) from at is =
-    by_test (begins_with (a ∷ b ∷ rest) (codes "%%")) refl (λ later. parts_cut (b ∷ rest) (from + 1) at later)
-  where
-    by_test : (test : Bool) → begins_with (a ∷ b ∷ rest) (codes "%%") ≡ test
-        → (Some at ≡ first_from (codes "%%") (from + 1) (b ∷ rest) → (from + 1 ≤ at) × (parts (b ∷ rest)
-        ≡ cut_at (at - (from + 1)) (b ∷ rest)))
-        → (from ≤ at) × (parts (a ∷ b ∷ rest)
-        ≡ cut_at (at - from) (a ∷ b ∷ rest))
-    by_test true here behind =
-        let found : Some at ≡ Some from =
-        is ∙ ap (λ t. cond t (Some from) (first_from (codes "%%") (from + 1) (b ∷ rest))) here in
-        let same : at ≡ from = cc found in
-        let none : at - from ≡ 0 = omega (arith, same) in (
-          omega (arith, same),
-          ap (λ t. cond t ([], (parts rest).0 ∷ (parts rest).1) (a ∷ (parts (b ∷ rest)).0, (parts (b ∷ rest)).1)) here
-              ∙ sym (ap (λ n. cut_at n (a ∷ b ∷ rest)) none),
-        )
-    by_test false here behind =
-        let found = behind (is ∙ ap (λ t. cond t (Some from) (first_from (codes "%%") (from + 1) (b ∷ rest))) here) in
-        let one : at - from ≡ suc (at - (from + 1)) = omega (arith, found.0) in
-        let two : suc (at - (from + 1)) + 2 ≡ suc (at - (from + 1) + 2) = omega arith in (
-          omega (arith, found.0),
-          ap (λ t. cond t ([], (parts rest).0 ∷ (parts rest).1) (a ∷ (parts (b ∷ rest)).0, (parts (b ∷ rest)).1)) here
-              ∙ ap (λ p. (a ∷ p.0, p.1)) found.1
-              ∙ sym (ap (λ n. cut_at n (a ∷ b ∷ rest)) one
-              ∙ ap (λ n. (
-                a ∷ take (at - (from + 1)) (b ∷ rest),
-                (parts (drop n (a ∷ b ∷ rest))).0 ∷ (parts (drop n (a ∷ b ∷ rest))).1,
-              )) two),
-        )
+parts_cut (a ∷ b ∷ rest) from at is = elim (first_next (codes "%%") from a (b ∷ rest) (Some at) is) [
+  | inl here ↦
+      let same : at ≡ from = cc (here.1) in
+      let none : at - from ≡ 0 = omega (arith, same) in (
+        omega (arith, same),
+        ap (λ t. cond t ([], (parts rest).0 ∷ (parts rest).1) (a ∷ (parts (b ∷ rest)).0, (parts (b ∷ rest)).1)) here.0
+            ∙ sym (ap (λ n. cut_at n (a ∷ b ∷ rest)) none),
+      )
+  | inr later ↦
+      let found = parts_cut (b ∷ rest) (from + 1) at later.1 in
+      let one : at - from ≡ suc (at - (from + 1)) = omega (arith, found.0) in
+      let two : suc (at - (from + 1)) + 2 ≡ suc (at - (from + 1) + 2) = omega arith in (
+        omega (arith, found.0),
+        parts_next a b rest later.0 ∙ ap (λ p. (a ∷ p.0, p.1)) found.1
+            ∙ sym (ap (λ n. cut_at n (a ∷ b ∷ rest)) one
+            ∙ ap (λ n. (
+              a ∷ take (at - (from + 1)) (b ∷ rest),
+              (parts (drop n (a ∷ b ∷ rest))).0 ∷ (parts (drop n (a ∷ b ∷ rest))).1,
+            )) two),
+      )
+]
 
 -- where it stands nowhere the text is one part
-pub parts_none : (text : List ℕ) (from : ℕ) → None ≡ first_from (codes "%%") from text → parts text ≡ (text, [])
-unfolding first_from parts
+parts_none : (text : List ℕ) (from : ℕ) → None ≡ first_from (codes "%%") from text → parts text ≡ (text, [])
+unfolding parts
 parts_none [] from is = refl
 parts_none (a ∷ []) from is = refl
-parts_none (a ∷ b ∷ rest) from is =
-    by_test (begins_with (a ∷ b ∷ rest) (codes "%%")) refl (λ later. parts_none (b ∷ rest) (from + 1) later)
-  where
-    by_test : (test : Bool) → begins_with (a ∷ b ∷ rest) (codes "%%") ≡ test
-        → (None ≡ first_from (codes "%%") (from + 1) (b ∷ rest) → parts (b ∷ rest) ≡ (b ∷ rest, []))
-        → parts (a ∷ b ∷ rest) ≡ (a ∷ b ∷ rest, [])
-    by_test true here behind =
-        cc (is ∙ ap (λ t. cond t (Some from) (first_from (codes "%%") (from + 1) (b ∷ rest))) here)
-    by_test false here behind =
-        ap (λ t. cond t ([], (parts rest).0 ∷ (parts rest).1) (a ∷ (parts (b ∷ rest)).0, (parts (b ∷ rest)).1)) here
-        ∙ ap (λ p. (a ∷ p.0, p.1))
-        (behind (is ∙ ap (λ t. cond t (Some from) (first_from (codes "%%") (from + 1) (b ∷ rest))) here))
+parts_none (a ∷ b ∷ rest) from is = elim (first_next (codes "%%") from a (b ∷ rest) None is) [
+  | inl here ↦ cc (here.1)
+  | inr later ↦ parts_next a b rest later.0 ∙ ap (λ p. (a ∷ p.0, p.1)) (parts_none (b ∷ rest) (from + 1) later.1)
+]
 
 -- ---- a part and those behind it
 
@@ -190,65 +157,73 @@ front_too_long : (front : List ℕ) (later : Option (List ℕ)) → 2 ^ 20 < len
 front_too_long front None long = refl
 front_too_long front (Some b) long = too_long front b (front ++ b) long refl
 
-module _ (rules : List Rule) (made part next : List ℕ) (more : List (List ℕ)) (whole : Option (List ℕ))
-    (so_far : option_and_then within (option_map (λ b. made ++ b) (joined rules part (next ∷ more))) ≡ whole) where
+-- what is left of a line, as the search slices it
+left_of : (line : List ℕ) (from : ℕ) → from ≤ length line → take (length line - from) (drop from line) ≡ drop from line
+left_of line from inside = take_all (length line - from) (drop from line) (omega (arith, length-drop from line))
+
+-- a line in which `%%` stands next
+module _ (rules : List Rule) (made line : List ℕ) (from at : ℕ) (whole : Option (List ℕ))
+    (is : Some at ≡ first_in line (codes "%%") from (length line)) (inside : from ≤ length line)
+    (rest : behind_made rules made (parts (drop from line)) ≡ whole) where
+  abbrev pub part : List ℕ
+  part = take (at - from) (drop from line)
+
+  abbrev pub next : List ℕ × List (List ℕ)
+  next = parts (drop (at + 2) line)
+
+  -- the part, as it is expanded, with what stands on either side
+  abbrev pub around : Option (List ℕ) → Option (List ℕ)
+  around o = option_and_then within (option_map (λ b. made ++ b)
+      (option_and_then (λ front. option_map (λ behind. front ++ codes "%" ++ behind) (joined rules next.0 next.1)) o))
+
+  so_far : around (after_all rules (within part)) ≡ whole
+  so_far =
+      let cut = parts_cut (drop from line) from at (is ∙ ap (first_from (codes "%%") from) (left_of line from inside)) in
+      let there : from + (at - from + 2) ≡ at + 2 = omega (arith, cut.0) in
+      let dropped = drop-drop (at - from + 2) from line ∙ ap (λ n. drop n line) there in
+      ap (λ l. behind_made rules made (part, (parts l).0 ∷ (parts l).1)) (sym dropped)
+      ∙ ap (λ p. behind_made rules made p) (sym cut.1) ∙ rest
+
   pub part_fails : (failed : ExpandFail) → Makes (Err failed) (after_all rules (within part)) → Makes (Err failed) whole
-  part_fails TooLong is =
-      sym so_far ∙ ap (λ o. option_and_then within (option_map (λ b. made ++ b)
-      (option_and_then (λ front. option_map (λ behind. front ++ codes "%" ++ behind) (joined rules next more)) o))) is
-  part_fails NoMemory is = tt
+  part_fails TooLong none = sym so_far ∙ ap around none
+  part_fails NoMemory none = tt
 
-  pub part_step : (p : List ℕ) → after_all rules (within part) ≡ Some p
-      → option_and_then within (option_map (λ b. (made ++ (p ++ codes "%")) ++ b) (joined rules next more)) ≡ whole
-  part_step p is =
-      ap (option_and_then within) (sym (regrouped made p (joined rules next more)))
-      ∙ sym (ap (λ o. option_and_then within (option_map (λ b. made ++ b)
-      (option_and_then (λ front. option_map (λ behind. front ++ codes "%" ++ behind) (joined rules next more)) o))) is)
-      ∙ so_far
+  pub part_step : (p new : List ℕ) → Makes (Ok p) (after_all rules (within part)) → new ≡ made ++ (p ++ codes "%")
+      → behind_made rules new next ≡ whole
+  part_step p new is_p grown =
+      ap (λ m. behind_made rules m next) grown
+      ∙ ap (option_and_then within) (sym (regrouped made p (joined rules next.0 next.1)))
+      ∙ sym (ap around is_p.0) ∙ so_far
 
-  pub part_too_long : (p new : List ℕ) (failed : ExpandFail) → after_all rules (within part) ≡ Some p
+  pub part_too_long : (p new : List ℕ) (failed : ExpandFail) → Makes (Ok p) (after_all rules (within part))
       → Adds made (p ++ codes "%") new (Err failed) → Makes (Err failed) whole
-  part_too_long p new TooLong is long =
-      sym (part_step p is) ∙ front_too_long (made ++ (p ++ codes "%")) (joined rules next more) long
-  part_too_long p new NoMemory is long = tt
+  part_too_long p new TooLong is_p long =
+      sym (part_step p (made ++ (p ++ codes "%")) is_p refl)
+      ∙ front_too_long (made ++ (p ++ codes "%")) (joined rules next.0 next.1) long
+  part_too_long p new NoMemory is_p long = tt
 
--- what is left of a line, where `%%` stands next
-pub line_cut : (rules : List Rule) (made line : List ℕ) (from at : ℕ) (whole : Option (List ℕ))
-    → Some at ≡ first_in line (codes "%%") from (length line) → from ≤ length line
-    → behind_made rules made (parts (drop from line)) ≡ whole
-    → option_and_then within (option_map (λ b. made ++ b)
-    (joined rules (take (at - from) (drop from line))
-    ((parts (drop (at + 2) line)).0 ∷ (parts (drop (at + 2) line)).1))) ≡ whole
-line_cut rules made line from at whole is inside so_far =
-    let rest = take_all (length line - from) (drop from line) (omega (arith, length-drop from line)) in
-    let cut = parts_cut (drop from line) from at (is ∙ ap (first_from (codes "%%") from) rest) in
-    let there : from + (at - from + 2) ≡ at + 2 = omega (arith, cut.0) in
-    let behind : drop (at - from + 2) (drop from line) ≡ drop (at + 2) line =
-    drop-drop (at - from + 2) from line ∙ ap (λ n. drop n line) there in
-    ap (λ l. option_and_then within (option_map (λ b. made ++ b)
-    (joined rules (take (at - from) (drop from line)) ((parts l).0 ∷ (parts l).1)))) (sym behind)
-    ∙ ap (λ p. behind_made rules made p) (sym cut.1) ∙ so_far
+-- a line in which it stands nowhere
+module _ (rules : List Rule) (made line : List ℕ) (from : ℕ) (whole : Option (List ℕ))
+    (is : None ≡ first_in line (codes "%%") from (length line)) (inside : from ≤ length line)
+    (rest : behind_made rules made (parts (drop from line)) ≡ whole) where
+  abbrev pub last : List ℕ
+  last = take (length line - from) (drop from line)
 
--- and where it stands nowhere
-pub line_ends : (rules : List Rule) (made line : List ℕ) (from : ℕ) (whole : Option (List ℕ))
-    → None ≡ first_in line (codes "%%") from (length line) → from ≤ length line
-    → behind_made rules made (parts (drop from line)) ≡ whole
-    → option_and_then within (option_map (λ b. made ++ b)
-    (after_all rules (within (take (length line - from) (drop from line))))) ≡ whole
-line_ends rules made line from whole is inside so_far =
-    let rest = take_all (length line - from) (drop from line) (omega (arith, length-drop from line)) in
-    let all = parts_none (drop from line) from (is ∙ ap (first_from (codes "%%") from) rest) in
-    ap (λ l. option_and_then within (option_map (λ b. made ++ b) (after_all rules (within l)))) rest
-    ∙ ap (λ p. behind_made rules made p) (sym all) ∙ so_far
+  abbrev pub behind : Option (List ℕ) → Option (List ℕ)
+  behind o = option_and_then within (option_map (λ b. made ++ b) o)
 
-module _ (rules : List Rule) (made part : List ℕ) (whole : Option (List ℕ))
-    (so_far : option_and_then within (option_map (λ b. made ++ b) (after_all rules (within part))) ≡ whole) where
-  pub last_fails : (failed : ExpandFail) → Makes (Err failed) (after_all rules (within part)) → Makes (Err failed) whole
-  last_fails TooLong is = sym so_far ∙ ap (λ o. option_and_then within (option_map (λ b. made ++ b) o)) is
-  last_fails NoMemory is = tt
+  ends : behind (after_all rules (within last)) ≡ whole
+  ends =
+      let left = left_of line from inside in
+      ap (λ l. behind (after_all rules (within l))) left ∙ ap (λ p. behind_made rules made p)
+      (sym (parts_none (drop from line) from (is ∙ ap (first_from (codes "%%") from) left))) ∙ rest
 
-  pub last_is : (p : List ℕ) → after_all rules (within part) ≡ Some p → within (made ++ p) ≡ whole
-  last_is p is = sym (ap (λ o. option_and_then within (option_map (λ b. made ++ b) o)) is) ∙ so_far
+  pub last_fails : (failed : ExpandFail) → Makes (Err failed) (after_all rules (within last)) → Makes (Err failed) whole
+  last_fails TooLong none = sym ends ∙ ap behind none
+  last_fails NoMemory none = tt
+
+  pub last_is : (p : List ℕ) → Makes (Ok p) (after_all rules (within last)) → within (made ++ p) ≡ whole
+  last_is p is_p = sym (ap behind is_p.0) ∙ ends
 
 -- what is handed on fails as it did
 pub handed : (o : Result (List ℕ) ExpandFail) (failed : ExpandFail) (due : Option (List ℕ)) → IsErr o
