@@ -1,11 +1,11 @@
 #!/usr/bin/env python3
 """Times check files that filecheck makes, and annotated inputs, beside LLVM's FileCheck where that is installed.
 
-    benches/made.py [--mib N] [--rounds N] [--marks N] [PROGRAM]
+    benches/made.py [--mib N] [--rounds N] [--marks N] [--processor] [PROGRAM]
 
 PROGRAM is the program to time; without it, the one that ./run builds. In each round the commands of a row run in
-alternation. Time is wall time, the best of the rounds; memory is the greatest resident set. Both streams go into files. Reading and
-writing is what `cat` takes for the input and for the check file that is made of it.
+alternation. Time is wall time, or with --processor that of a processor, for a machine that others use; the best of the
+rounds counts. Memory is the greatest resident set. Both streams go into files. Reading and writing is what `cat` takes for the input and for the check file that is made of it.
 """
 import argparse
 import importlib.util
@@ -29,7 +29,7 @@ def run_once(folder, command, text, status):
         begun = time.perf_counter()
         process = subprocess.Popen(command, stdin=source, stdout=out, stderr=err)
         _, ended, usage = os.wait4(process.pid, 0)
-        took = time.perf_counter() - begun
+        took = usage.ru_utime + usage.ru_stime if filecheck.BY_PROCESSOR[0] else time.perf_counter() - begun
     process.returncode = os.waitstatus_to_exitcode(ended)
     if process.returncode != status:
         sys.exit(f"{command}: status {process.returncode} on {text}, not {status}")
@@ -103,8 +103,10 @@ def main():
     wants.add_argument("--mib", type=int, default=60, help="size of the large inputs (60)")
     wants.add_argument("--rounds", type=int, default=5, help="runs of a case, of which the best counts (5)")
     wants.add_argument("--marks", type=int, default=2000, help="how many marks stand far to the right (2000)")
+    wants.add_argument("--processor", action="store_true", help="the time of a processor in place of the wall's")
     wants.add_argument("program", nargs="?", help="the program to time")
     given = wants.parse_args()
+    filecheck.BY_PROCESSOR[0] = given.processor
     ours = os.path.abspath(given.program or filecheck.built("filecheck"))
     os.environ.pop("FILECHECK_OPTS", None)
     other = next(iter(filecheck.other_programs()), None)
