@@ -38,9 +38,9 @@ use Rattle.filecheck_tool.specs.Program.{ArePatterns, IsCompiledTo, IsDefinedWit
 use Rattle.filecheck_tool.specs.Start.{start_made, start_with}
 use Rattle.filecheck_tool.specs.Verdict.{filled, input_name, report_of, verdict_read}
 use Rattle.filecheck_tool.specs.declared.check_file.CheckFile.{CheckFile}
-use Rattle.filecheck_tool.specs.declared.plan.Plan.{Plan}
-use Rattle.filecheck_tool.specs.declared.plan.Plan.TheVariants as plans
-use Rattle.filecheck_tool.specs.declared.program.Program.{Program}
+use Rattle.filecheck_tool.specs.declared.plan.InputPlan.{InputPlan}
+use Rattle.filecheck_tool.specs.declared.plan.InputPlan.TheVariants as plans
+use Rattle.filecheck_tool.specs.declared.program.AcceptedFile.{AcceptedFile}
 use Rattle.filecheck_tool.specs.declared.start.Start.{Start}
 use Rattle.answer_laws.specs.Answers.{AnswerIsOne, RoomLeavesOne, UnaskedIsFree}
 
@@ -78,15 +78,15 @@ told_with file faults read =
     accepted (filled file.asked.allow_empty (input_name file.asked.input) bytes) >>= (λ input.
     Ok (report_of file.made file (length input) (canon file.asked.strict input) (faults (canon file.asked.strict input)))))
 
-abbrev faults_of : Program → List ℕ → List Fault
+abbrev faults_of : AcceptedFile → List ℕ → List Fault
 faults_of program input = (scan program.checks program.always program.file.asked.var_scope input program.vars).faults
 
 -- what is told by a program, or by the refusal in its place
-abbrev verdict_by : Result Program Stop → Reading → Result Report Stop
+abbrev verdict_by : Result AcceptedFile Stop → Reading → Result Report Stop
 verdict_by (Ok program) read = verdict_read program (input_given program.file.made read)
 verdict_by (Err stop) read = Err stop
 
-told_so : (program : Program) (read : Reading) → verdict_read program read ≡ told_with program.file (faults_of program) read
+told_so : (program : AcceptedFile) (read : Reading) → verdict_read program read ≡ told_with program.file (faults_of program) read
 told_so program read = refl
 
 module _ (file : CheckFile) (known : Formats) where
@@ -112,7 +112,7 @@ module _ (file : CheckFile) (known : Formats) where
 
   -- what definitions lead to behind them
   defined_one : (one other : Patterns) (later last : Formats) (fresh : Result (List Binding) Refusal)
-      (end more : Result Program Stop) (read : Reading)
+      (end more : Result AcceptedFile Stop) (read : Reading)
       → HasPatterns (opts_of file.asked) (length file.directives) known (bodies file) one later
       → HasPatterns (opts_of file.asked) (length file.directives) known (bodies file) other last
       → IsDefinedWith file one fresh end → IsDefinedWith file other fresh more
@@ -125,7 +125,7 @@ module _ (file : CheckFile) (known : Formats) where
 
   -- and what the patterns lead to, or their refusal
   compiled_one : (one other : Result Patterns Stop) (fresh : Result (List Binding) Refusal)
-      (end more : Result Program Stop) (read : Reading) → ArePatterns file known one → ArePatterns file known other
+      (end more : Result AcceptedFile Stop) (read : Reading) → ArePatterns file known one → ArePatterns file known other
       → LeadsTo one (λ p. IsDefinedWith file p fresh) end → LeadsTo other (λ p. IsDefinedWith file p fresh) more
       → verdict_by end read ≡ verdict_by more read
   compiled_one (Ok one) (Ok other) fresh end more read is again ends mores =
@@ -146,13 +146,13 @@ module _ (file : CheckFile) (known : Formats) where
   compiled_one (Ok one) (Err (NotReadable name)) fresh end more read is again ends mores = absurd again
   compiled_one (Err (Refused refusal)) (Err (NotReadable name)) fresh end more read is again ends mores = absurd again
 
-file_one : (file : CheckFile) (end more : Result Program Stop) (read : Reading) → IsCompiledTo file end
+file_one : (file : CheckFile) (end more : Result AcceptedFile Stop) (read : Reading) → IsCompiledTo file end
     → IsCompiledTo file more → verdict_by end read ≡ verdict_by more read
 file_one file end more read (one, is, ends) (other, again, mores) =
     compiled_one file (defined_by file.asked.defines).known one other (fresh_of (defined_by file.asked.defines).fresh)
     end more read is again ends mores
 
-found_one : (step : Result CheckFile Stop) (end more : Result Program Stop) (read : Reading)
+found_one : (step : Result CheckFile Stop) (end more : Result AcceptedFile Stop) (read : Reading)
     → LeadsTo step IsCompiledTo end → LeadsTo step IsCompiledTo more → verdict_by end read ≡ verdict_by more read
 found_one (Ok file) end more read ends mores = file_one file end more read ends mores
 found_one (Err stop) end more read ends mores = ap (λ p. verdict_by p read) (ends ∙ sym mores)
@@ -160,7 +160,7 @@ found_one (Err stop) end more read ends mores = ap (λ p. verdict_by p read) (en
 -- ---- answers
 
 -- two plans to check that words and a reading come to
-checked_one : (start : Start) (file read : Reading) (plan more : Result Plan Stop) → IsChecking start file plan
+checked_one : (start : Start) (file read : Reading) (plan more : Result InputPlan Stop) → IsChecking start file plan
     → IsChecking start file more → found_by plan read ≡ found_by more read
 checked_one start file read (Ok (plans.Check one)) (Ok (plans.Check other)) is again =
     found_one (check_file_read start file) (Ok one) (Ok other) read is again
@@ -187,30 +187,30 @@ answer_is_one (Err fault) file read one other (plan, (is, told)) (more, (again, 
 -- ---- what isn't asked for
 
 -- a program says whether its texts are made
-abbrev IsMade : Option ℕ → Result Program Stop → Type 0
+abbrev IsMade : Option ℕ → Result AcceptedFile Stop → Type 0
 IsMade made (Ok program) = program.file.made ≡ made
 IsMade made (Err stop) = Unit {0}
 
-made_defined : (file : CheckFile) (patterns : Patterns) (fresh : Result (List Binding) Refusal) (end : Result Program Stop)
+made_defined : (file : CheckFile) (patterns : Patterns) (fresh : Result (List Binding) Refusal) (end : Result AcceptedFile Stop)
     → IsDefinedWith file patterns fresh end → IsMade file.made end
 made_defined file patterns (Ok fresh) end is = subst (IsMade file.made) (sym is) refl
 made_defined file patterns (Err refusal) end is = subst (IsMade file.made) (sym is) tt
 
-made_led : (file : CheckFile) (patterns : Result Patterns Stop) (fresh : Result (List Binding) Refusal) (end : Result Program Stop)
+made_led : (file : CheckFile) (patterns : Result Patterns Stop) (fresh : Result (List Binding) Refusal) (end : Result AcceptedFile Stop)
     → LeadsTo patterns (λ p. IsDefinedWith file p fresh) end → IsMade file.made end
 made_led file (Ok patterns) fresh end is = made_defined file patterns fresh end is
 made_led file (Err stop) fresh end is = subst (IsMade file.made) (sym is) tt
 
-made_compiled : (file : CheckFile) (end : Result Program Stop) → IsCompiledTo file end → IsMade file.made end
+made_compiled : (file : CheckFile) (end : Result AcceptedFile Stop) → IsCompiledTo file end → IsMade file.made end
 made_compiled file end (patterns, are, leads) =
     made_led file patterns (fresh_of (defined_by file.asked.defines).fresh) end leads
 
-made_of_lines : (start : Start) (text : List ℕ) (lines : Result (List Directive) CheckFault) (end : Result Program Stop)
+made_of_lines : (start : Start) (text : List ℕ) (lines : Result (List Directive) CheckFault) (end : Result AcceptedFile Stop)
     → LeadsTo (accepted (check_file_of start text lines)) IsCompiledTo end → IsMade start.made end
 made_of_lines start text (Ok directives) end is = made_compiled (with_directives start text directives) end is
 made_of_lines start text (Err fault) end is = subst (IsMade start.made) (sym is) tt
 
-made_read : (start : Start) (bytes : List ℕ) (end : Result Program Stop) → IsProgram start (Whole bytes) end → IsMade start.made end
+made_read : (start : Start) (bytes : List ℕ) (end : Result AcceptedFile Stop) → IsProgram start (Whole bytes) end → IsMade start.made end
 made_read start bytes end =
     let asked = start.asked in
     let text = canon asked.strict bytes in
@@ -219,13 +219,13 @@ made_read start bytes end =
     end
 
 -- where the texts are made, what is found is the same whatever was read
-found_of_made : (count : ℕ) (program : Result Program Stop) (read another : Reading) → IsMade (Some count) program
+found_of_made : (count : ℕ) (program : Result AcceptedFile Stop) (read another : Reading) → IsMade (Some count) program
     → verdict_by program read ≡ verdict_by program another
 found_of_made count (Ok program) read another made =
     ap (verdict_read program) (ap (λ m. input_given m read) made ∙ sym (ap (λ m. input_given m another) made))
 found_of_made count (Err stop) read another made = refl
 
-planned_made : (count : ℕ) (plan : Result Plan Stop) (read another : Reading)
+planned_made : (count : ℕ) (plan : Result InputPlan Stop) (read another : Reading)
     → IsChecking (start_made count) (Whole (checks_text count)) plan → found_by plan read ≡ found_by plan another
 planned_made count (Ok (plans.Check program)) read another is =
     found_of_made count (Ok program) read another (made_read (start_made count) (checks_text count) (Ok program) is)

@@ -22,7 +22,7 @@ use Rattle.num_base.specs.declared.format.FormatKind.TheVariants.{Unsigned, Sign
 use Rattle.num_exprs.proofs.GrammarLemmas as expressions
 use Rattle.num_exprs.specs.Block.{Num, block_of, reading, expr_from, behind_format, equals_at, name_from, name_behind, format_at, format_from, digits_behind, digits_at, kind_behind, kind_at, comma_behind}
 use Rattle.num_exprs.specs.Place.{Found}
-use Rattle.num_exprs.specs.declared.block.Named.{Named}
+use Rattle.num_exprs.specs.declared.block.PlacedName.{PlacedName}
 use Rattle.std.proofs.lemmas.List.Folds.{list_any-append}
 use Rattle.num_exprs.specs.Name as names
 use Rattle.num_exprs.specs.Name.{begins_name, is_in_name, name_at}
@@ -479,7 +479,7 @@ name_whole (b ∷ name) rest h none = each (b == 36) refl h
 
 name_read : (at : ℕ) (text rest : List ℕ) (name : Option (List ℕ)) → NamePart text name rest
     → list_any (λ b. b == 58) rest ≡ false
-    → (found : Option Named × ℕ) × (name_from at text ≡ Ok found) × (name_of found.0 ≡ name) × (drop found.1 text ≡ rest)
+    → (found : Option PlacedName × ℕ) × (name_from at text ≡ Ok found) × (name_of found.0 ≡ name) × (drop found.1 text ≡ rest)
 unfolding begins_with
 name_read at text rest None part other =
     let none : list_any (λ b. b == 58) text ≡ false = ap (list_any (λ b. b == 58)) (sym part) ∙ other in
@@ -552,7 +552,7 @@ some_tokens (one (parens s)) rest h = cc
 some_tokens (one (call op a b)) rest h = cc
 some_tokens (more s op x) rest h = some_tokens s (operator op ∷ operand_tokens x rest) h
 
-expr_read : (format : Option Format) (defines : Option Named) (equals : Bool) (at : ℕ) (text : List ℕ)
+expr_read : (format : Option Format) (defines : Option PlacedName) (equals : Bool) (at : ℕ) (text : List ℕ)
     (expr : Option Term) → ExprPart text equals expr
     → block_of (expr_from format defines equals at text)
     ≡ Ok (record { format = format; defines = name_of defines; expr = expr })

@@ -24,7 +24,7 @@ use Rattle.num_exprs.specs.Name.{begins_name, is_in_name, name_at}
 use Rattle.num_exprs.specs.Place.{Found}
 use Rattle.num_exprs.specs.Productions.{expr_at}
 use Rattle.num_exprs.specs.Token.{blanks}
-use Rattle.num_exprs.specs.declared.block.Named.{Named}
+use Rattle.num_exprs.specs.declared.block.PlacedName.{PlacedName}
 use Rattle.num_exprs.specs.declared.fault.NumFault.{NumFault}
 use Rattle.num_exprs.specs.declared.fault.NumKind.TheVariants.{BadName, BadFormat, BadExpr}
 use Rattle.block_laws.proofs.FrontLemmas.{begins_is, front_is, row_front, blanks_front}
@@ -260,17 +260,17 @@ name_sound (b ∷ text) long h = each (b == 36) refl h
     each true is h = sign (eqb-true b 36 is) (begins_with begins_name text) refl h
     each false is h = none is (begins_name b) refl h
 
-abbrev pub name_of : Option Named → Option (List ℕ)
-name_of named = option_map (λ (named : Named). named.name) named
+abbrev pub name_of : Option PlacedName → Option (List ℕ)
+name_of named = option_map (λ (named : PlacedName). named.name) named
 
-name_part : (at : ℕ) (text : List ℕ) (found : Option Named × ℕ) → name_from at text ≡ Ok found
+name_part : (at : ℕ) (text : List ℕ) (found : Option PlacedName × ℕ) → name_from at text ≡ Ok found
     → NamePart text (name_of found.0) (drop found.1 text)
 name_part at text found = each (list_any (λ b. b == 58) text) refl
   where
     begin : ℕ
     begin = blanks text
 
-    Goal : Option Named × ℕ → Type 0
+    Goal : Option PlacedName × ℕ → Type 0
     Goal found = NamePart text (name_of found.0) (drop found.1 text)
 
     colon : (long : ℕ) → is_name (take long (drop begin text)) ≡ true → (v : Bool)
@@ -299,7 +299,7 @@ name_part at text found = each (list_any (λ b. b == 58) text) refl
         )
 
     word : (r : Result ℕ ℕ) → name_at (drop begin text) ≡ r
-        → ◌≡◌ {A = Result (Option Named × ℕ) NumFault} (elim r [
+        → ◌≡◌ {A = Result (Option PlacedName × ℕ) NumFault} (elim r [
           | Ok long ↦ colon_behind at begin long text
           | Err behind ↦ fault BadName (at + begin + behind)
         ]) (Ok found) → Goal found
@@ -326,11 +326,11 @@ equals_part text = each (plain.begins_with (drop (blanks text) text) (codes "=="
         rw some (subst (Blanks text)
         (front_is (codes "==") _ is ∙ ap (λ r. 61 ∷ 61 ∷ r) (drop-drop 2 (blanks text) text)) (blanks_front text))
 
-abbrev IsRead : Option Format → Option Named → Bool → List ℕ → Num → Type 0
+abbrev IsRead : Option Format → Option PlacedName → Bool → List ℕ → Num → Type 0
 IsRead format defines equals text num =
     (num.format ≡ format) × (num.defines ≡ name_of defines) × ExprPart text equals num.expr
 
-expr_part : (format : Option Format) (defines : Option Named) (equals : Bool) (at : ℕ) (text : List ℕ) (num : Num)
+expr_part : (format : Option Format) (defines : Option PlacedName) (equals : Bool) (at : ℕ) (text : List ℕ) (num : Num)
     → block_of (expr_from format defines equals at text) ≡ Ok num → IsRead format defines equals text num
 expr_part format defines equals at text num = each (blanks text == length text) refl
   where
@@ -368,7 +368,7 @@ unfolding reading
 sound text num = format (format_at text) refl
   where
     name : (f : Option Format × ℕ) → FormatPart text f.0 (drop f.1 text)
-        → (r : Result (Option Named × ℕ) NumFault) → name_from f.1 (drop f.1 text) ≡ r
+        → (r : Result (Option PlacedName × ℕ) NumFault) → name_from f.1 (drop f.1 text) ≡ r
         → block_of (elim r [
           | Ok found ↦ behind_name f.0 found.0 (f.1 + found.1) (drop found.1 (drop f.1 text))
           | Err fault ↦ refused f.0 None fault

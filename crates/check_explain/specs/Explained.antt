@@ -8,14 +8,14 @@ use Rattle.filecheck_words.specs.declared.job.Job.{Job}
 use Rattle.tt_run.specs.declared.answer.Answer.{Answer}
 use Rattle.tt_run.specs.declared.reading.Reading.{Reading}
 use Rattle.check_explain.specs.declared.explained.Explained.{Explained}
-use Rattle.check_explain.specs.declared.explained.Part.{Part}
+use Rattle.check_explain.specs.declared.explained.ExplainedPart.{ExplainedPart}
 
 -- what filecheck tells in a part
-abbrev pub told_in : Part → List ℕ
+abbrev pub told_in : ExplainedPart → List ℕ
 told_in part = part.told
 
 -- what a part has in all, its notes behind
-abbrev pub all_in : Part → List ℕ
+abbrev pub all_in : ExplainedPart → List ℕ
 all_in part = part.told ++ part.notes
 
 -- the answer without its notes

@@ -15,7 +15,7 @@ use tt_run::{Answer, Reading};
 
 /// A part of what `filecheck` tells on the error stream.
 #[derive(Drop, Debug)]
-pub struct Part {
+pub struct ExplainedPart {
     /// What `filecheck` tells.
     pub told: Bytes,
     /// What explains it.
@@ -27,7 +27,7 @@ pub struct Part {
 pub struct Explained {
     pub out: Bytes,
     /// What is told on the error stream, in order.
-    pub parts: Items<Part>,
+    pub parts: Items<ExplainedPart>,
     pub status: u8,
 }
 
@@ -109,7 +109,7 @@ fn woven(alloc: Global, answer: Answer, notes: Vec<Noted>) -> Result<Explained, 
 }
 
 /// A text in parts, each with its notes; what is left has none.
-fn parts_of(alloc: Global, text: &[u8], notes: Vec<Noted>) -> Result<Items<Part>, NoMemory>
+fn parts_of(alloc: Global, text: &[u8], notes: Vec<Noted>) -> Result<Items<ExplainedPart>, NoMemory>
     ensures { IfOk result (λ parts. flat_map told_in parts ≡ text.now) }
 {
     let mut parts = Items::new(alloc);
@@ -123,10 +123,10 @@ fn parts_of(alloc: Global, text: &[u8], notes: Vec<Noted>) -> Result<Items<Part>
     Ok(parts)
 }
 
-fn part_of(alloc: Global, told: &[u8], notes: Bytes) -> Result<Part, NoMemory>
+fn part_of(alloc: Global, told: &[u8], notes: Bytes) -> Result<ExplainedPart, NoMemory>
     ensures { IfOk result (λ part. part.told ≡ told.now) }
 {
-    Ok(Part {
+    Ok(ExplainedPart {
         told: Bytes::from_slice(alloc, told)?,
         notes,
     })
@@ -149,7 +149,7 @@ fn lines_end(text: &[u8], lines: usize) -> usize
 }
 
 /// Parts with their notes, joined.
-fn joined(alloc: Global, parts: &[Part]) -> Result<Bytes, NoMemory>
+fn joined(alloc: Global, parts: &[ExplainedPart]) -> Result<Bytes, NoMemory>
     ensures { IfOk result (λ text. text ≡ flat_map all_in parts.now) }
 {
     let mut text = Bytes::new(alloc);

@@ -9,5 +9,5 @@ mod noted;
 mod program;
 mod run;
 
-pub use explained::{Explained, Part, explain_on};
+pub use explained::{Explained, ExplainedPart, explain_on};
 pub use run::explain_run;

@@ -11,7 +11,7 @@ use check_hints::{faults_in, near_line, run_before, uses_in, wanted_by};
 use check_lines::canon_owned;
 use check_scan::Subject;
 use filecheck_messages::{behind, spot_at};
-use filecheck_tool::Program;
+use filecheck_tool::AcceptedFile;
 use filecheck_words::Input;
 use std::alloc::Global;
 use std::mem::drop;
@@ -76,7 +76,7 @@ fn found_in(
     Ok(Some(found?))
 }
 
-fn found_by(alloc: Global, program: &mut Program, bytes: &[u8]) -> Result<Found, NoMemory>
+fn found_by(alloc: Global, program: &mut AcceptedFile, bytes: &[u8]) -> Result<Found, NoMemory>
     requires sound { IsSound program.old }
     requires read { length bytes.now ≤ 2 ^ 30 }
     ensures { IfOk result (λ found. length found.input ≤ 2 ^ 30) }
@@ -93,7 +93,7 @@ fn found_by(alloc: Global, program: &mut Program, bytes: &[u8]) -> Result<Found,
 /// What the directives of a program find amiss in an input.
 fn program_faults(
     alloc: Global,
-    program: &mut Program,
+    program: &mut AcceptedFile,
     input: &[u8],
 ) -> Result<Items<Fault>, NoMemory>
     requires { IsSound program.old }
@@ -177,7 +177,7 @@ fn check_at(checks: &[Check], number: usize) -> Option<usize> {
 /// Adds what is told of a fault; nothing where its directive is of no line.
 fn add_notes(
     alloc: Global,
-    program: &mut Program,
+    program: &mut AcceptedFile,
     input: &[u8],
     fault: &Fault,
     notes: &mut Bytes,
@@ -207,7 +207,7 @@ fn add_notes(
 /// Adds the value of each name that a directive uses, or that it has none.
 fn add_values(
     alloc: Global,
-    program: &Program,
+    program: &AcceptedFile,
     number: usize,
     notes: &mut Bytes,
 ) -> Result<(), NoMemory>
@@ -234,7 +234,7 @@ fn add_values(
 /// Adds the line of a part of the input that may have been meant, if there is one.
 fn add_near(
     alloc: Global,
-    program: &Program,
+    program: &AcceptedFile,
     at: usize,
     input: &[u8],
     part: Span,

@@ -3,7 +3,7 @@ ghost use Rattle.std.specs.Prelude.{◌^◌, IfOk, IfSome};
 ghost use Rattle.filecheck_tool.specs.Program.{IsSound};
 ghost use Rattle.tt_run.specs.Run.{IsShort};
 
-use filecheck_tool::{Plan, Program, plan_on};
+use filecheck_tool::{AcceptedFile, InputPlan, plan_on};
 use std::alloc::Global;
 use std::mem::drop;
 use tt_base::NoMemory;
@@ -15,12 +15,12 @@ pub(crate) fn program_of(
     alloc: Global,
     words: &[String],
     file: Reading,
-) -> Result<Option<Program>, NoMemory>
+) -> Result<Option<AcceptedFile>, NoMemory>
     requires { IsShort (2 ^ 30) file }
     ensures { IfOk result (λ program. IfSome program IsSound) }
 {
     match plan_on(alloc, words, file)? {
-        Ok(Plan::Check(program)) => Ok(Some(program)),
+        Ok(InputPlan::Check(program)) => Ok(Some(program)),
         other => {
             // A call, since a drop in place is proved variant by variant.
             drop(other);

@@ -6,9 +6,9 @@ use borrow.Author.Count.{below_more}
 use Rattle.std.proofs.lemmas.List.{drop_all}
 use Rattle.std.specs.Option.{option_map, option_or}
 use Rattle.check_lines.specs.declared.decision.Decision.{Decision}
-use Rattle.check_lines.specs.declared.decision.Mark.{Mark}
+use Rattle.check_lines.specs.declared.decision.LineMark.{LineMark}
 use Rattle.check_lines.specs.Decision.{Decides, IsDecision, MarkLies, NoneDecidesBefore, decide_from, decided_at, is_behind_word, is_word, mark_at}
-use Rattle.check_lines.specs.declared.decision.Mark.TheVariants.{Comment, Check}
+use Rattle.check_lines.specs.declared.decision.LineMark.TheVariants.{Comment, Check}
 use Rattle.check_lines.specs.declared.suffix.Spelling.TheVariants.{Good, Bad}
 
 module _ (checks comments : List (List ℕ)) where
@@ -48,7 +48,7 @@ module _ (checks comments : List (List ℕ)) where
   -- ---- the least offset that decides
 
   -- what is decided at an offset stands there
-  decided_parts : (behind : Bool) (at : ℕ) (mark : Option Mark) (found : Decision)
+  decided_parts : (behind : Bool) (at : ℕ) (mark : Option LineMark) (found : Decision)
       → cond behind None (option_map (λ m. record { at = at; mark = m }) mark) ≡ Some found
       → (behind ≡ false) × (mark ≡ Some found.mark) × (found.at ≡ at)
   decided_parts true at mark found is = cc
@@ -66,16 +66,16 @@ module _ (checks comments : List (List ℕ)) where
           subst (NoneDecidesBefore checks comments line) (sym parts.2) none_before,
         )
 
-    none_here : decided_at checks comments behind at (drop at line) ≡ None → (mark : Mark) → Decides checks comments line at mark → ⊥
+    none_here : decided_at checks comments behind at (drop at line) ≡ None → (mark : LineMark) → Decides checks comments line at mark → ⊥
     none_here none mark decides =
         let found : decided_at checks comments behind at (drop at line) ≡ Some (record { at = at; mark = mark }) =
         ap (λ b. decided_at checks comments b at (drop at line)) (is_behind ∙ decides.apart)
-        ∙ ap (option_map (λ (m : Mark). record { at = at; mark = m })) decides.stands in
+        ∙ ap (option_map (λ (m : LineMark). record { at = at; mark = m })) decides.stands in
         cc
 
     pub none_so_far : decided_at checks comments behind at (drop at line) ≡ None → NoneDecidesBefore checks comments line (at + 1)
     none_so_far none =
-        λ k mark below. below_more (λ k. (mark : Mark) → Decides checks comments line k mark → ⊥) at (λ k low mark. none_before k mark low)
+        λ k mark below. below_more (λ k. (mark : LineMark) → Decides checks comments line k mark → ⊥) at (λ k low mark. none_before k mark low)
         (none_here none) k below mark
 
   -- a byte is behind the one before it
@@ -83,7 +83,7 @@ module _ (checks comments : List (List ℕ)) where
   behind_next line at = sym (ap (is_behind_word line) (add-one at))
 
 -- what a mark needs of the rest of a line it has in the line
-pub mark_lies_from : (count : ℕ) (line rest : List ℕ) (at : ℕ) (mark : Mark) → rest ≡ drop at line → at < length line
+pub mark_lies_from : (count : ℕ) (line rest : List ℕ) (at : ℕ) (mark : LineMark) → rest ≡ drop at line → at < length line
     → MarkLies count rest 0 mark → MarkLies count line at mark
 mark_lies_from count line rest at Comment is within lies = within
 mark_lies_from count line rest at (Check prefix (Good spelled)) is within lies =

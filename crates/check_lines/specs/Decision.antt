@@ -9,8 +9,8 @@ use Rattle.check_lines.specs.Class.{is_digit, is_letter}
 use Rattle.prefix_tree.specs.Prefix.{meant}
 use Rattle.check_lines.specs.Suffix.{suffix}
 use Rattle.check_lines.specs.declared.decision.Decision.{Decision}
-use Rattle.check_lines.specs.declared.decision.Mark.{Mark}
-use Rattle.check_lines.specs.declared.decision.Mark.TheVariants.{Comment, Check}
+use Rattle.check_lines.specs.declared.decision.LineMark.{LineMark}
+use Rattle.check_lines.specs.declared.decision.LineMark.TheVariants.{Comment, Check}
 use Rattle.check_lines.specs.declared.decision.Prefixes.{Prefixes}
 use Rattle.prefix_tree.specs.declared.standing.Standing.{Standing}
 use Rattle.check_lines.specs.declared.suffix.Spelling.{Spelling}
@@ -23,16 +23,16 @@ is_word byte = is_letter byte || is_digit byte || byte == 45 || byte == 95
 -- ---- the mark at the front of a text
 
 -- a comment prefix counts with its colon
-abbrev pub comment_mark : List ℕ → Option Mark
+abbrev pub comment_mark : List ℕ → Option LineMark
 comment_mark rest = if begins_with rest (codes ":") then Some Comment else None
 
 -- a check prefix counts with what is spelled behind it
-abbrev pub check_mark : Standing → Option Spelling → Option Mark
+abbrev pub check_mark : Standing → Option Spelling → Option LineMark
 check_mark prefix None = None
 check_mark prefix (Some spelling) = Some (Check prefix spelling)
 
 -- of a check prefix and a comment prefix that stand the longer one counts
-abbrev pub mark_of : Option Standing → Option Standing → List ℕ → Option Mark
+abbrev pub mark_of : Option Standing → Option Standing → List ℕ → Option LineMark
 mark_of None None text = None
 mark_of None (Some comment) text = comment_mark (drop comment.length text)
 mark_of (Some check) None text = check_mark check (suffix (drop check.length text))
@@ -41,7 +41,7 @@ mark_of (Some check) (Some comment) text =
     else check_mark check (suffix (drop check.length text))
 
 -- the mark that stands at the front of a text, if one does, by the check prefixes and the comment prefixes
-abbrev pub mark_at : List (List ℕ) → List (List ℕ) → List ℕ → Option Mark
+abbrev pub mark_at : List (List ℕ) → List (List ℕ) → List ℕ → Option LineMark
 mark_at checks comments text = mark_of (meant checks text) (meant comments text) text
 
 -- ---- as a reader of a check file takes it
@@ -53,14 +53,14 @@ is_behind_word line (suc before) = is_word (slice_index line before)
 
 module _ (checks comments : List (List ℕ)) where
   -- a mark stands at an offset of the line, and no word is before it
-  pub record Decides (line : List ℕ) (at : ℕ) (mark : Mark) : Type 0 where
+  pub record Decides (line : List ℕ) (at : ℕ) (mark : LineMark) : Type 0 where
     pub within : at < length line
     pub apart : is_behind_word line at ≡ false
     pub stands : mark_at checks comments (drop at line) ≡ Some mark
 
   -- no mark before an offset decides
   abbrev pub NoneDecidesBefore : List ℕ → ℕ → Type 0
-  NoneDecidesBefore line end = (at : ℕ) (mark : Mark) → at < end → ¬ Decides line at mark
+  NoneDecidesBefore line end = (at : ℕ) (mark : LineMark) → at < end → ¬ Decides line at mark
 
   -- what decides a line stands at the least offset at which a mark does
   abbrev pub IsDecision : List ℕ → Option Decision → Type 0
@@ -96,7 +96,7 @@ abbrev pub decided_by : Prefixes → Bool → ℕ → List ℕ → Option Decisi
 decided_by prefixes behind_word at text =
     decided_at prefixes.checks.prefixes.now prefixes.comments.prefixes.now behind_word at text
 
-abbrev pub mark_by : Prefixes → List ℕ → Option Mark
+abbrev pub mark_by : Prefixes → List ℕ → Option LineMark
 mark_by prefixes text = mark_at prefixes.checks.prefixes.now prefixes.comments.prefixes.now text
 
 -- how many check prefixes there are
@@ -105,7 +105,7 @@ check_count prefixes = length prefixes.checks.prefixes.now
 
 -- a mark lies in a text behind an offset: its prefix and its suffix have no more bytes than are left, and its prefix is one of
 -- so many
-abbrev pub MarkLies : ℕ → List ℕ → ℕ → Mark → Type 0
+abbrev pub MarkLies : ℕ → List ℕ → ℕ → LineMark → Type 0
 MarkLies count text at Comment = at < length text
 MarkLies count text at (Check prefix (Good spelled)) =
     (at < length text) × (at + prefix.length + spelled.count ≤ length text) × (prefix.index < count)

@@ -10,8 +10,8 @@ use Rattle.check_lines.specs.Decision.{check_count, decide}
 use Rattle.check_lines.specs.Kind.{demand_of}
 use Rattle.check_lines.specs.declared.class.Class.TheVariants.{Blank}
 use Rattle.check_lines.specs.declared.decision.Decision.{Decision}
-use Rattle.check_lines.specs.declared.decision.Mark.{Mark}
-use Rattle.check_lines.specs.declared.decision.Mark.TheVariants.{Comment, Check}
+use Rattle.check_lines.specs.declared.decision.LineMark.{LineMark}
+use Rattle.check_lines.specs.declared.decision.LineMark.TheVariants.{Comment, Check}
 use Rattle.check_lines.specs.declared.directive.Directive.{Directive}
 use Rattle.pattern_parse.specs.Demand.{asks_line, takes_none}
 use Rattle.check_lines.specs.declared.fault.CheckFault.{CheckFault}
@@ -82,7 +82,7 @@ checked keep earlier number start line head behind suffix index =
     (directive number start head from count suffix index)
 
 -- what a decided line holds
-abbrev pub marked : Bool → Bool → ℕ → ℕ → List ℕ → ℕ → Mark → Result (Option Directive) CheckFault
+abbrev pub marked : Bool → Bool → ℕ → ℕ → List ℕ → ℕ → LineMark → Result (Option Directive) CheckFault
 marked keep earlier number start line head Comment = Ok None
 marked keep earlier number start line head (Check prefix (Good spelled)) =
     checked keep earlier number start line head (head + prefix.length + spelled.count) spelled prefix.index

@@ -16,7 +16,7 @@ pub struct Prefixes<'a> {
 
 /// What stands at an offset and decides its line.
 #[derive(Clone, Copy, Debug, PartialEq, Eq)]
-pub enum Mark {
+pub enum LineMark {
     /// `COM:` or `RUN:`: the rest of the line is hidden.
     Comment,
     /// `CHECK-NEXT:`: a check prefix, and what is spelled behind it.
@@ -27,7 +27,7 @@ pub enum Mark {
 #[derive(Clone, Copy, Debug, PartialEq, Eq)]
 pub struct Decision {
     pub at: usize,
-    pub mark: Mark,
+    pub mark: LineMark,
 }
 
 /// What decides a line, if anything does.
@@ -67,7 +67,7 @@ fn decided_at(
 }
 
 /// The mark at the front of a text.
-fn mark_at(prefixes: &Prefixes<'_>, text: &[u8]) -> Option<Mark>
+fn mark_at(prefixes: &Prefixes<'_>, text: &[u8]) -> Option<LineMark>
     requires { length text.now ≤ 2 ^ 30 }
     ensures value { result ≡ mark_by prefixes.now text.now }
     ensures lies { IfSome result (MarkLies (check_count prefixes.now) text.now 0) }
@@ -90,22 +90,22 @@ fn mark_at(prefixes: &Prefixes<'_>, text: &[u8]) -> Option<Mark>
     }
 }
 
-fn comment_mark(rest: &[u8]) -> Option<Mark>
+fn comment_mark(rest: &[u8]) -> Option<LineMark>
     ensures value { result ≡ comment_mark rest.now }
     ensures lies { IfSome result (λ mark. 0 < length rest.now) }
 {
     if rest.starts_with(b":") {
-        Some(Mark::Comment)
+        Some(LineMark::Comment)
     } else {
         None
     }
 }
 
-fn check_mark(prefix: Standing, spelling: Option<Spelling>) -> Option<Mark>
+fn check_mark(prefix: Standing, spelling: Option<Spelling>) -> Option<LineMark>
     ensures { result ≡ check_mark prefix spelling }
 {
     match spelling {
-        Some(spelling) => Some(Mark::Check(prefix, spelling)),
+        Some(spelling) => Some(LineMark::Check(prefix, spelling)),
         None => None,
     }
 }

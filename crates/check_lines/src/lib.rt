@@ -16,7 +16,7 @@ mod suffix;
 
 pub use canonical::{canon, canon_owned};
 pub use checks::{FileRules, read_checks};
-pub use decision::{Decision, Mark, Prefixes, decide};
+pub use decision::{Decision, LineMark, Prefixes, decide};
 pub use directive::Directive;
 pub use fault::{CheckFail, CheckFault, CheckKind, LineFault};
 pub use kind::{Kind, KindRow, row_of};

@@ -4,7 +4,7 @@ ghost use Rattle.check_lines.specs.Line.{FaultLies, LiesAmong, LiesAsBoth, LiesO
 ghost use Rattle.check_lines.specs.declared.fault.CheckKind.TheVariants.{Line};
 
 use crate::class::{Class, back_length, front_length};
-use crate::decision::{Mark, Prefixes, decide};
+use crate::decision::{LineMark, Prefixes, decide};
 use crate::directive::Directive;
 use crate::fault::{CheckFault, CheckKind, LineFault};
 use crate::kind::row_of;
@@ -55,8 +55,8 @@ pub fn read_line(
     match decide(&rules.prefixes, line) {
         None => Ok(None),
         Some(found) => match found.mark {
-            Mark::Comment => Ok(None),
-            Mark::Check(prefix, spelling) => match spelling {
+            LineMark::Comment => Ok(None),
+            LineMark::Check(prefix, spelling) => match spelling {
                 Spelling::Bad(fault) => Err(fault_at(place, found.at, fault)),
                 Spelling::Good(suffix) => {
                     let head = Head {

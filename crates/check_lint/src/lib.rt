@@ -10,7 +10,7 @@ mod prefixes;
 mod run;
 mod word;
 
-pub use lint::{Remark, remarks};
+pub use lint::{LintRemark, remarks};
 pub use near::is_near;
 pub use prefixes::prefixes_in;
 pub use run::{LINT, lint_run};

@@ -8,7 +8,7 @@ use tt_base::{Bytes, NoMemory, line_of};
 
 /// A line that looks like a directive.
 #[derive(Drop, Debug)]
-pub struct Remark {
+pub struct LintRemark {
     /// The offset of the word that is amiss.
     pub at: usize,
     /// The directive that may have been meant, with its colon.
@@ -16,7 +16,7 @@ pub struct Remark {
 }
 
 /// The lines of a check file that look like directives by these prefixes and are none, in order.
-pub fn remarks(alloc: Global, text: &[u8], prefixes: &[Bytes]) -> Result<Vec<Remark>, NoMemory>
+pub fn remarks(alloc: Global, text: &[u8], prefixes: &[Bytes]) -> Result<Vec<LintRemark>, NoMemory>
     requires { length text.now ≤ 2 ^ 30 }
     ensures placed { IfOk result (λ remarks. All (λ remark. remark.at ≤ length text.now) remarks.items) }
 {
@@ -35,7 +35,7 @@ pub fn remarks(alloc: Global, text: &[u8], prefixes: &[Bytes]) -> Result<Vec<Rem
 /// Adds what is told of a line.
 fn add_line(
     alloc: Global,
-    remarks: &mut Vec<Remark>,
+    remarks: &mut Vec<LintRemark>,
     text: &[u8],
     start: usize,
     end: usize,
@@ -48,7 +48,7 @@ fn add_line(
     let Some((at, meant)) = amiss(&text[start..end], prefixes) else {
         return Ok(());
     };
-    let remark = Remark {
+    let remark = LintRemark {
         at: start + at,
         meant: meant.spelled(alloc)?,
     };

@@ -1,15 +1,15 @@
 //! The run of `filecheck_lint`.
 ghost use Rattle.std.specs.Prelude.{◌≡◌, ◌≤◌, ◌^◌, IfOk, length};
 
-use crate::lint::{Remark, remarks};
+use crate::lint::{LintRemark, remarks};
 use crate::prefixes::prefixes_in;
 use std::alloc::Global;
 use tt_base::{Bytes, NoMemory, line_of, place_of};
 use tt_outside::{Files, Sink};
-use tt_run::{Answer, Frame, Reading, read_named};
+use tt_run::{Answer, Reading, ToolFrame, read_named};
 
 /// The name of `filecheck_lint`.
-pub const LINT: Frame = Frame {
+pub const LINT: ToolFrame = ToolFrame {
     name: b"filecheck_lint",
 };
 
@@ -124,7 +124,7 @@ fn append_remark(
     alloc: Global,
     name: &[u8],
     text: &[u8],
-    remark: &Remark,
+    remark: &LintRemark,
     out: &mut Bytes,
 ) -> Result<(), NoMemory>
     requires { length text.now ≤ 2 ^ 30 }

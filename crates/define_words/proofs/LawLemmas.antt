@@ -6,7 +6,7 @@ use Rattle.std.specs.Prelude.{IsOk, is_some}
 use Rattle.std.specs.FinMap.{FinMap, empty, get, get-empty, insert}
 use Rattle.num_base.specs.Names.{name_cmp}
 use Rattle.num_base.specs.declared.format.Format.{Format}
-use Rattle.num_exprs.specs.declared.block.Named.{Named}
+use Rattle.num_exprs.specs.declared.block.PlacedName.{PlacedName}
 use Rattle.pattern_parse.specs.Block.{differs, uses_read}
 use Rattle.pattern_parse.specs.declared.fault.PatKind.TheVariants.{FormatConflict, SameLineNumber}
 use Rattle.pattern_parse.specs.declared.fault.PatFault.{PatFault}
@@ -19,7 +19,7 @@ use Rattle.define_words.proofs.DefinedLemmas.{binds, binds_nothing}
 
 -- ---- formats
 
-same_formats : (known : List ℕ → Option Format) (at : ℕ) (uses : List Named) (used : FinMap name_cmp ℤ)
+same_formats : (known : List ℕ → Option Format) (at : ℕ) (uses : List PlacedName) (used : FinMap name_cmp ℤ)
     (seen : Option Format) → seen_of (uses_read known empty false at used seen uses) ≡ shared known seen uses
 same_formats known at [] used seen = refl
 same_formats known at (named ∷ uses) used seen =

@@ -4,7 +4,7 @@ use Rattle.std.specs.Prelude.{◌≡◌, ℕ, ℤ, false, List, [], ◌∷◌, �
 use Rattle.std.specs.FinMap.{FinMap, empty}
 use Rattle.num_base.specs.Names.{name_cmp}
 use Rattle.num_base.specs.declared.format.Format.{Format}
-use Rattle.num_exprs.specs.declared.block.Named.{Named}
+use Rattle.num_exprs.specs.declared.block.PlacedName.{PlacedName}
 use Rattle.pattern_parse.specs.Block.{uses_read}
 use Rattle.pattern_parse.specs.declared.fault.PatFault.{PatFault}
 use Rattle.define_words.specs.Defined.{defined_by}
@@ -18,7 +18,7 @@ seen_of (Err fault) = None
 -- Law: the one format of numbers is that of a block, without one of its own, that uses them.
 abbrev pub FormatIsOfBlocks : Type 0
 FormatIsOfBlocks =
-    (known : List ℕ → Option Format) (at : ℕ) (used : FinMap name_cmp ℤ) (uses : List Named)
+    (known : List ℕ → Option Format) (at : ℕ) (used : FinMap name_cmp ℤ) (uses : List PlacedName)
     → seen_of (uses_read known empty false at used None uses) ≡ shared known None uses
 
 -- Law: the value that is refused is the first: those before it define something, and with it they don't.

@@ -12,7 +12,7 @@ use Rattle.num_base.specs.Term.{Term}
 use Rattle.num_base.specs.declared.format.Format.{Format}
 use Rattle.num_exprs.specs.Block.{Reading, reading}
 use Rattle.num_exprs.specs.Name.{name_at}
-use Rattle.num_exprs.specs.declared.block.Named.{Named}
+use Rattle.num_exprs.specs.declared.block.PlacedName.{PlacedName}
 use Rattle.num_exprs.specs.declared.fault.NumFault.{NumFault}
 use Rattle.define_words.specs.Format.{word_format}
 
@@ -55,7 +55,7 @@ in_format name term None = bad
 in_format name term (Some format) = number name format term
 
 -- what is said where a name, an expression and a format were found
-abbrev pub said_by : Option Named → Result (Option Term) NumFault → Option Format → Word
+abbrev pub said_by : Option PlacedName → Result (Option Term) NumFault → Option Format → Word
 said_by (Some named) (Ok (Some term)) format = in_format named.name term format
 said_by (Some named) (Ok None) format = bad
 said_by (Some named) (Err fault) format = bad

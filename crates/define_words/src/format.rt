@@ -5,7 +5,7 @@ ghost use Rattle.define_words.specs.Format.{shared, word_format};
 ghost use Rattle.pattern_parse.specs.Block as blocks;
 
 use num_base::{Format, FormatKind};
-use num_exprs::Named;
+use num_exprs::PlacedName;
 use pattern_parse::Formats;
 
 /// Whether a format differs from one that was seen before it.
@@ -19,7 +19,7 @@ fn differs(seen: Option<Format>, format: Format) -> bool
 }
 
 /// The one format of numbers, if any of them has one. There is none where two differ.
-fn shared(known: &Formats, uses: &[Named]) -> Option<Option<Format>>
+fn shared(known: &Formats, uses: &[PlacedName]) -> Option<Option<Format>>
     ensures { result ≡ shared (map.get known.now) None uses.now }
 {
     let mut seen: Option<Format> = None;
@@ -52,7 +52,7 @@ fn format_of(seen: Option<Format>) -> Format
 pub(crate) fn word_format(
     known: &Formats,
     written: Option<Format>,
-    uses: &[Named],
+    uses: &[PlacedName],
 ) -> Option<Format>
     ensures { result ≡ word_format (map.get known.now) written uses.now }
 {

@@ -5,8 +5,8 @@ use Rattle.std.proofs.Common.{◌≡◌, ℕ, ◌+◌, ◌<◌, ◌≤◌, ◌�
 use Rattle.std.proofs.Math.Seq.{get_or-append_seam}
 use Rattle.std.proofs.lemmas.List.{get_or_append_left}
 use Rattle.std.proofs.lemmas.Bool.{cases_lt}
-use Rattle.ere_table.specs.declared.node.Node as code
-use Rattle.ere_table.specs.declared.node.Node.TheVariants as kind
+use Rattle.ere_table.specs.declared.node.EreNode as code
+use Rattle.ere_table.specs.declared.node.EreNode.TheVariants as kind
 use Rattle.ere_auto.specs.Closure.{node_in, origin_in, HasBy, Rises}
 use Rattle.ere_auto.specs.declared.thread.Thread.{Thread}
 
@@ -77,7 +77,7 @@ any_default (x ∷ xs) zero d e h = refl
 any_default (x ∷ xs) (suc i) d e h = any_default xs i d e (omega (arith, h))
 
 -- the node that was read is that of the table
-pub node_read : (nodes : List code.Node) (q : ℕ) (one : code.Node) → one ≡ slice_index_or nodes q one → q < length nodes
+pub node_read : (nodes : List code.EreNode) (q : ℕ) (one : code.EreNode) → one ≡ slice_index_or nodes q one → q < length nodes
     → one ≡ slice_index_or nodes q kind.Stop
 node_read nodes q one h l = h ∙ any_default nodes q one kind.Stop l
 
@@ -92,7 +92,7 @@ thread_origin K x t h l =
     ap (λ (k : Thread). k.origin) (h ∙ any_default K x t (record { node = 0; origin = 0 }) l)
 
 -- and its node is that of the table
-pub thread_at : (nodes : List code.Node) (K : List Thread) (x : ℕ) (t : Thread) (one : code.Node)
+pub thread_at : (nodes : List code.EreNode) (K : List Thread) (x : ℕ) (t : Thread) (one : code.EreNode)
     → t ≡ slice_index_or K x t → x < length K → one ≡ slice_index_or nodes t.node one → node_in K x < length nodes
     → one ≡ slice_index_or nodes (node_in K x) kind.Stop
 thread_at nodes K x t one h l g m =

@@ -10,11 +10,11 @@ use Rattle.ere_auto.specs.Span.{IsFirstLongest, IsSpan}
 use Rattle.ere_auto.specs.Step.{StandsAt, IsStep}
 use Rattle.ere_auto.specs.RowTable.{RowTable, AreSteps}
 use Rattle.ere_auto.specs.declared.thread.Thread.{Thread}
-use Rattle.ere_table.specs.declared.node.Node as code
+use Rattle.ere_table.specs.declared.node.EreNode as code
 
 -- what an automaton holds
 pub record State : Type 0 where
-  pub nodes : List code.Node  -- its table
+  pub nodes : List code.EreNode  -- its table
   pub entry : ℕ
   pub begin : ℕ  -- no start before this place counts
   pub at : ℕ  -- how many bytes were shown

@@ -15,7 +15,7 @@ use crate::step::{Around, Note, step};
 use crate::steps::Steps;
 use crate::thread::{Thread, add_threads};
 use crate::threads::Threads;
-use ere_table::Table;
+use ere_table::NodeTable;
 use ere_tree::{Cap, Ere};
 use std::alloc::{AllocError, Global};
 use std::sync::ledger::Ledger;
@@ -24,7 +24,7 @@ use tt_base::NoMemory;
 /// The automaton of an expression without references. It is shown the bytes of a slice, and then knows the span.
 #[derive(Drop)]
 pub struct Auto {
-    table: Table,
+    table: NodeTable,
     rows: Rows,
     seeds: Vec<Thread>,
     reached: Threads,
@@ -103,7 +103,7 @@ impl Auto {
         ensures fresh { IfOk result (λ made. HasSeen (state_of made) (view ere.now) []) }
         ensures begin { IfOk result (λ made. made.begin ≡ 0) }
     {
-        let table = Table::build(alloc, ere)?;
+        let table = NodeTable::build(alloc, ere)?;
         let nodes = table.nodes.len();
         let rows = Rows::new(alloc, nodes)?;
         let seeds = Vec::with_capacity(alloc, nodes + 1)?;

@@ -5,11 +5,11 @@ ghost use Rattle.ere_auto.specs.Closure.{node_in, Closed};
 
 use crate::thread::Thread;
 use crate::threads::Threads;
-use ere_table::Table;
+use ere_table::NodeTable;
 
 /// All that the seeds reach without a byte. The first seed that reaches a node keeps it: so each seed is followed to
 /// the end before the next is looked at.
-pub fn close(table: &Table, seeds: &[Thread], starts: bool, ends: bool, reached: &mut Threads)
+pub fn close(table: &NodeTable, seeds: &[Thread], starts: bool, ends: bool, reached: &mut Threads)
     requires marks { length reached.old.marks ≡ vec_len table.now.nodes }
     requires within { (x : ℕ) → x < length seeds.now → node_in seeds.now x < vec_len table.now.nodes }
     ensures closed { Closed starts ends (node_at table.now.nodes.items) seeds.now reached.new.held.items }

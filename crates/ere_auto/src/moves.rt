@@ -7,7 +7,7 @@ ghost use Rattle.ere_auto.specs.Moved.{Moved, Differs, Agrees, met_behind};
 
 use crate::thread::Thread;
 use crate::threads::Threads;
-use ere_table::Table;
+use ere_table::NodeTable;
 
 /// What became of the nodes that were reached.
 #[derive(Clone, Copy, Debug, PartialEq, Eq)]
@@ -37,7 +37,7 @@ fn met_at(met: Option<usize>, node: usize, origin: usize) -> Option<usize>
 
 /// Where the reached nodes lead by the next byte. Once one has come to the stop, those of later starts don't count.
 pub fn go_on(
-    table: &Table,
+    table: &NodeTable,
     seeds: &[Thread],
     reached: &[Thread],
     next: Option<u8>,

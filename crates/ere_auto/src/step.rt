@@ -10,7 +10,7 @@ use crate::moves::go_on;
 use crate::slot::free_slot;
 use crate::thread::Thread;
 use crate::threads::Threads;
-use ere_table::Table;
+use ere_table::NodeTable;
 
 /// What a step did besides: the slot of the start that began there, and the slot of the start that matched there.
 #[derive(Clone, Copy, Debug, PartialEq, Eq)]
@@ -72,7 +72,7 @@ fn seed(
 
 /// One step from the threads, which get the start that begins here: `moved` gets those behind the next byte.
 pub fn step(
-    table: &Table,
+    table: &NodeTable,
     threads: &mut Vec<Thread>,
     slots: &mut Marks,
     reached: &mut Threads,

@@ -3,19 +3,21 @@ ghost use Rattle.std.specs.Prelude.{◌≡◌, ℕ, ◌≤◌, IfSome, MatchOpti
 ghost use Rattle.ere_table.specs.Node.{node_of, furthest};
 ghost use Rattle.ere_auto.specs.Closure.{Takes};
 
-use ere_table::Node;
+use ere_table::EreNode;
 
 /// The node behind a byte.
-pub fn taken(node: Node, byte: u8) -> Option<usize>
+pub fn taken(node: EreNode, byte: u8) -> Option<usize>
     ensures takes { MatchOption result ((q : ℕ) → Takes (node_of node) byte q → ⊥) (Takes (node_of node) byte) }
     ensures one { IfSome result (λ to. (q : ℕ) → Takes (node_of node) byte q → q ≡ to) }
     ensures near { IfSome result (λ to. to ≤ furthest node) }
 {
     match node {
-        Node::Byte { byte: own, next } => { if own == byte { Some(next) } else { None } }
-        Node::Set { set, next } => { if set.has(byte) { Some(next) } else { None } }
-        Node::Stop | Node::Fork { .. } | Node::AtStart { .. } | Node::AtEnd { .. } | Node::Fail => {
-            None
-        }
+        EreNode::Byte { byte: own, next } => { if own == byte { Some(next) } else { None } }
+        EreNode::Set { set, next } => { if set.has(byte) { Some(next) } else { None } }
+        EreNode::Stop
+        | EreNode::Fork { .. }
+        | EreNode::AtStart { .. }
+        | EreNode::AtEnd { .. }
+        | EreNode::Fail => { None }
     }
 }

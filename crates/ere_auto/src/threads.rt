@@ -8,7 +8,7 @@ ghost use Rattle.ere_auto.specs.Threads.{Adds, Grown, Took};
 use crate::marks::Marks;
 use crate::taking::taken;
 use crate::thread::Thread;
-use ere_table::Node;
+use ere_table::EreNode;
 use std::alloc::{AllocError, Global};
 
 /// Threads in order, of which no two stand on one node. Room for one on each node is taken when it is made.
@@ -55,33 +55,33 @@ impl Threads {
     }
 
     /// Adds the nodes to which a node goes on without a byte.
-    pub fn follow(&mut self, node: Node, starts: bool, ends: bool, origin: usize)
+    pub fn follow(&mut self, node: EreNode, starts: bool, ends: bool, origin: usize)
         requires { furthest node < length self.old.marks }
         ensures grown { Grown self.old.held.items self.new.held.items origin (Skips starts ends (node_of node)) }
         ensures all { (q : ℕ) → Skips starts ends (node_of node) q → HasNode self.new.held.items q }
         ensures nodes { length self.new.marks ≡ length self.old.marks }
     {
         match node {
-            Node::Fork { one, other } => {
+            EreNode::Fork { one, other } => {
                 self.add(one, origin);
                 self.add(other, origin);
             }
-            Node::AtStart { next } => {
+            EreNode::AtStart { next } => {
                 if starts {
                     self.add(next, origin);
                 }
             }
-            Node::AtEnd { next } => {
+            EreNode::AtEnd { next } => {
                 if ends {
                     self.add(next, origin);
                 }
             }
-            Node::Stop | Node::Byte { .. } | Node::Set { .. } | Node::Fail => {}
+            EreNode::Stop | EreNode::Byte { .. } | EreNode::Set { .. } | EreNode::Fail => {}
         }
     }
 
     /// Adds the node to which a node goes on by the next byte.
-    pub fn take(&mut self, node: Node, next: Option<u8>, origin: usize)
+    pub fn take(&mut self, node: EreNode, next: Option<u8>, origin: usize)
         requires { furthest node < length self.old.marks }
         ensures took { Took (node_of node) next self.old.held.items self.new.held.items origin }
         ensures nodes { length self.new.marks ≡ length self.old.marks }

@@ -4,7 +4,7 @@ use Rattle.std.specs.FinMap.{insert, empty}
 use Rattle.ere_tree.specs.Captures.{Captures}
 use Rattle.ere_tree.specs.Derivation.{Way, Ways, leaf, parts, members, chosen, inside, done, next}
 use Rattle.ere_slow.specs.declared.settings.Setting.{Setting}
-use Rattle.ere_slow.specs.declared.settings.Settings.{Settings}
+use Rattle.ere_slow.specs.declared.settings.GroupSettings.{GroupSettings}
 use Rattle.ere_slow.specs.declared.way.OwnedWay.{OwnedWay}
 use Rattle.ere_slow.specs.declared.way.OwnedWay.TheOpen.{OwnedWay-F, OwnedStep-F, OwnedWays-F}
 use Rattle.ere_slow.specs.declared.way.OwnedWay.TheFolds.{fold-OwnedWay, fold-OwnedStep, fold-OwnedWays}
@@ -17,7 +17,7 @@ after_settings c [] = c
 after_settings c (one ∷ later) = after_settings (insert c one.number (one.from, one.to)) later
 
 -- the captures that settings stand for
-abbrev pub captures_of : Settings → Captures
+abbrev pub captures_of : GroupSettings → Captures
 captures_of settings = after_settings empty settings.held.items
 
 -- ends and ways as a row of ways

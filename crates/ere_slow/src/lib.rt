@@ -9,6 +9,6 @@ mod slow;
 mod way;
 
 pub use limit::{Limit, MAX_STEPS};
-pub use settings::{Setting, Settings};
+pub use settings::{GroupSettings, Setting};
 pub use slow::{Derivation, derivations, slow_hit, slow_hit_from};
 pub use way::{OwnedStep, OwnedWay, OwnedWays};

@@ -15,15 +15,15 @@ pub struct Setting {
 
 /// Captures, as the settings of groups in the order in which they came: the last of a group counts.
 #[derive(Drop, Debug)]
-pub struct Settings {
+pub struct GroupSettings {
     held: Vec<Setting>,
 }
 
-impl Settings {
-    pub(crate) fn none(alloc: Global) -> Settings
+impl GroupSettings {
+    pub(crate) fn none(alloc: Global) -> GroupSettings
         ensures { captures_of result ≡ empty }
     {
-        Settings {
+        GroupSettings {
             held: Vec::new(alloc),
         }
     }
@@ -33,11 +33,11 @@ impl Settings {
         self.held.len().saturating_add(3)
     }
 
-    pub(crate) fn copy(&self, alloc: Global) -> Result<Settings, AllocError>
+    pub(crate) fn copy(&self, alloc: Global) -> Result<GroupSettings, AllocError>
         ensures { IfOk result (λ s. captures_of s ≡ captures_of self.now) }
     {
         let held = Vec::from_slice(alloc, self.held.as_slice())?;
-        Ok(Settings { held })
+        Ok(GroupSettings { held })
     }
 
     #[tactic(auto, using(crate::proofs::WayLemmas::after_settings_push))]

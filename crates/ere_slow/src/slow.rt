@@ -13,7 +13,7 @@ ghost use Rattle.ere_slow.specs.WayView.{captures_of};
 
 use crate::begin::may_begin;
 use crate::limit::Limit;
-use crate::settings::Settings;
+use crate::settings::GroupSettings;
 use crate::way::{OwnedStep, OwnedWay, OwnedWays};
 use ere_tree::{ByteSet, Cap, Caps, Ere, EreList, Hit};
 use std::alloc::{AllocError, Global};
@@ -24,7 +24,7 @@ use std::cmp::Ordering;
 pub struct Derivation {
     pub way: OwnedWay,
     pub to: usize,
-    pub captures: Settings,
+    pub captures: GroupSettings,
 }
 
 /// Where derivations begin: a place of a text, and the captures before it.
@@ -32,7 +32,7 @@ pub struct Derivation {
 struct Origin<'a> {
     text: &'a [u8],
     from: usize,
-    captures: &'a Settings,
+    captures: &'a GroupSettings,
 }
 
 /// The derivations of parts or members one behind the other, where the last ends, and the captures behind it.
@@ -40,7 +40,7 @@ struct Origin<'a> {
 struct Row {
     ways: OwnedWays,
     to: usize,
-    captures: Settings,
+    captures: GroupSettings,
 }
 
 /// The bytes from `from` to `to`, as far as the text goes.
@@ -440,7 +440,7 @@ pub fn derivations(
         AreAllDerivations text.now (view ere.now) from empty all.items) }
     ensures order { IfOk result (Lists (all_ways text.now (view ere.now) from empty)) }
 {
-    let unset = Settings::none(alloc);
+    let unset = GroupSettings::none(alloc);
     let origin = Origin {
         text,
         from,
@@ -478,7 +478,7 @@ fn most_preferred(found: Vec<Derivation>) -> Option<Derivation>
 }
 
 /// What the group holds, with offsets of a text in which the slice begins at `start`.
-fn cap(captures: &Settings, number: u32, start: usize) -> Option<Cap>
+fn cap(captures: &GroupSettings, number: u32, start: usize) -> Option<Cap>
     requires { FitBehind start (captures_of captures.now) }
     ensures { result ≡ cap_of start (captures_of captures.now) number }
 {
@@ -494,7 +494,7 @@ fn cap(captures: &Settings, number: u32, start: usize) -> Option<Cap>
 /// What each of so many groups holds, group 1 first.
 fn all_caps(
     alloc: Global,
-    captures: &Settings,
+    captures: &GroupSettings,
     groups: u32,
     start: usize,
 ) -> Result<Caps, AllocError>

@@ -14,8 +14,8 @@ use Rattle.ere_table.specs.Node.{Node, stop, byte, fork, node_of, node_at}
 use Rattle.ere_table.specs.Stands.{PlainStands, LoopStands, CopiesStand, Stands, AllStand, OneStands}
 use Rattle.ere_table.specs.Table.{Grows}
 use Rattle.ere_table.proofs.StandsLemmas.{grows_on, grows_stays, plain_stays, all_stay, one_stays, loop_stays, copies_stay, stands_stay}
-use Rattle.ere_table.specs.declared.node.Node as code
-use Rattle.ere_table.specs.declared.node.Node.TheVariants as kind
+use Rattle.ere_table.specs.declared.node.EreNode as code
+use Rattle.ere_table.specs.declared.node.EreNode.TheVariants as kind
 use Rattle.ere_tree.specs.declared.ere.Ere.{Ere}
 use Rattle.ere_tree.specs.View.{view}
 use Rattle.ere_tree.specs.Shape.{has_refs, any_has_refs}
@@ -25,14 +25,14 @@ drop_one : {X : Type 0} (l : List X) (i j : ℕ) (d : X) → i < length l → j 
 drop_one l i j d h e =
     let one : suc i ≡ j = omega (arith, e) in drop-cons l i d h ∙ ap (λ k. slice_index_or l i d ∷ drop k l) one
 
-pub plain_more : (xs ys : List code.Node) (bytes : List ℕ) (i j e f n : ℕ) → Grows xs ys → j ≡ i + 1 → j ≤ length bytes
+pub plain_more : (xs ys : List code.EreNode) (bytes : List ℕ) (i j e f n : ℕ) → Grows xs ys → j ≡ i + 1 → j ≤ length bytes
     → node_at ys f ≡ byte (slice_index bytes i ∷ []) e → PlainStands (node_at xs) (drop j bytes) e n
     → PlainStands (node_at ys) (drop i bytes) f n
 plain_more xs ys bytes i j e f n g a b h rest =
     subst (λ l. PlainStands (node_at ys) l f n) (sym (drop_one bytes i j 0 (omega (arith, a, b)) a))
     (e, h, plain_stays (node_at xs) (node_at ys) (grows_stays xs ys g) (drop j bytes) e n rest)
 
-pub all_more : (xs ys : List code.Node) (parts : List Ere) (one : Ere) (i j e f n : ℕ) → Grows xs ys → j ≡ i + 1
+pub all_more : (xs ys : List code.EreNode) (parts : List Ere) (one : Ere) (i j e f n : ℕ) → Grows xs ys → j ≡ i + 1
     → j ≤ length parts → one ≡ slice_index_or parts i one → Stands (node_at ys) (view one) f e
     → AllStand (node_at xs) (trees_of (map view (drop j parts))) e n
     → AllStand (node_at ys) (trees_of (map view (drop i parts))) f n
@@ -41,7 +41,7 @@ all_more xs ys parts one i j e f n g a b is h rest =
     (sym (drop_one parts i j one (omega (arith, a, b)) a ∙ ap (λ x. x ∷ drop j parts) (sym is)))
     (e, h, all_stay (node_at xs) (node_at ys) (grows_stays xs ys g) (trees_of (map view (drop j parts))) e n rest)
 
-pub one_more : (xs ys zs : List code.Node) (choices : List Ere) (one : Ere) (i j a b f n : ℕ) → Grows xs ys
+pub one_more : (xs ys zs : List code.EreNode) (choices : List Ere) (one : Ere) (i j a b f n : ℕ) → Grows xs ys
     → Grows ys zs → j ≡ i + 1 → j ≤ length choices → one ≡ slice_index_or choices i one
     → Stands (node_at ys) (view one) a n → node_at zs f ≡ fork a b
     → OneStands (node_at xs) (trees_of (map view (drop j choices))) b n
@@ -73,7 +73,7 @@ no_deeper xs one i is l = subst (λ x. the_size x ≤ most the_size xs) (sym is)
 -- REPEATS
 
 -- the loop itself, once its fork is written over the stop that was kept for it
-pub loop_first : (xs ys zs : List code.Node) (t : Tree) (a h n : ℕ) → Grows xs ys → Grows ys zs
+pub loop_first : (xs ys zs : List code.EreNode) (t : Tree) (a h n : ℕ) → Grows xs ys → Grows ys zs
     → node_at ys h ≡ stop → length xs ≤ h → h < length ys → Stands (node_at zs) t a h
     → LoopStands (node_at (set zs h (kind.Fork a n))) (Stands (node_at (set zs h (kind.Fork a n))) t) 0 h n
 loop_first xs ys zs t a h n g k e l m s =
@@ -88,7 +88,7 @@ loop_first xs ys zs t a h n g k e l m s =
       }) t a h s,
     )
 
-pub loop_grows : (xs ys zs : List code.Node) (x : code.Node) (h : ℕ) → Grows xs ys → Grows ys zs → length xs ≤ h
+pub loop_grows : (xs ys zs : List code.EreNode) (x : code.EreNode) (h : ℕ) → Grows xs ys → Grows ys zs → length xs ≤ h
     → Grows xs (set zs h x)
 loop_grows xs ys zs x h g k l = record {
   longer = omega (arith, g.longer, k.longer, length-set zs h x);
@@ -97,7 +97,7 @@ loop_grows xs ys zs x h g k l = record {
       ap node_of (get_or-set_other zs h q x kind.Stop other) ∙ k.same q (omega (arith, m, g.longer)) ∙ g.same q m;
 }
 
-pub loop_more : (xs ys : List code.Node) (t : Tree) (k m e f n : ℕ) → Grows xs ys → m ≡ k + 1
+pub loop_more : (xs ys : List code.EreNode) (t : Tree) (k m e f n : ℕ) → Grows xs ys → m ≡ k + 1
     → Stands (node_at ys) t f e → LoopStands (node_at xs) (Stands (node_at xs) t) k e n
     → LoopStands (node_at ys) (Stands (node_at ys) t) m f n
 loop_more xs ys t k m e f n g a h rest =
@@ -111,7 +111,7 @@ loop_more xs ys t k m e f n g a h rest =
     )
 
 -- a copy that has to be there
-pub copy_more : (xs ys : List code.Node) (t : Tree) (k l m o e f n : ℕ) → Grows xs ys → l ≡ k + 1 → o ≡ m + 1
+pub copy_more : (xs ys : List code.EreNode) (t : Tree) (k l m o e f n : ℕ) → Grows xs ys → l ≡ k + 1 → o ≡ m + 1
     → Stands (node_at ys) t f e → CopiesStand (node_at xs) (Stands (node_at xs) t) k m e n
     → CopiesStand (node_at ys) (Stands (node_at ys) t) l o f n
 copy_more xs ys t k l m o e f n g a b h rest =
@@ -127,7 +127,7 @@ copy_more xs ys t k l m o e f n g a b h rest =
     ))
 
 -- a copy that may be there
-pub choice_more : (xs ys zs : List code.Node) (t : Tree) (k m o e a f n : ℕ) → Grows xs ys → Grows ys zs → k ≡ 0
+pub choice_more : (xs ys zs : List code.EreNode) (t : Tree) (k m o e a f n : ℕ) → Grows xs ys → Grows ys zs → k ≡ 0
     → o ≡ m + 1 → Stands (node_at ys) t a e → node_at zs f ≡ fork a n
     → CopiesStand (node_at xs) (Stands (node_at xs) t) k m e n
     → CopiesStand (node_at zs) (Stands (node_at zs) t) k o f n

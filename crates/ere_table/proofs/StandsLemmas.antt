@@ -8,8 +8,8 @@ use Rattle.ere_tree.specs.Tree.{Tree, Trees, empty, plain, set, line_start, line
 use Rattle.ere_table.specs.Node.{Node, stop, byte, fork, at_start, at_end, fail, node_of, node_at}
 use Rattle.ere_table.specs.Stands.{PlainStands, LoopStands, CopiesStand, RepeatStands, Stands, AllStand, OneStands}
 use Rattle.ere_table.specs.Table.{Grows}
-use Rattle.ere_table.specs.declared.node.Node as code
-use Rattle.ere_table.specs.declared.node.Node.TheVariants as kind
+use Rattle.ere_table.specs.declared.node.EreNode as code
+use Rattle.ere_table.specs.declared.node.EreNode.TheVariants as kind
 
 abbrev pub is_stop : Node → Bool
 is_stop stop = true
@@ -84,7 +84,7 @@ mutual
 
 -- LISTS THAT GROW
 
-pub grows_stays : (xs ys : List code.Node) → Grows xs ys → Stays (node_at xs) (node_at ys)
+pub grows_stays : (xs ys : List code.EreNode) → Grows xs ys → Stays (node_at xs) (node_at ys)
 grows_stays xs ys g = record {
   at = λ q. elim (cases_lt q (length xs)) [
     | inl inside ↦ inl (g.same q inside)
@@ -92,7 +92,7 @@ grows_stays xs ys g = record {
   ];
 }
 
-pub grows_on : (xs ys zs : List code.Node) → Grows xs ys → Grows ys zs → Grows xs zs
+pub grows_on : (xs ys zs : List code.EreNode) → Grows xs ys → Grows ys zs → Grows xs zs
 grows_on xs ys zs g h = record {
   longer = omega (arith, g.longer, h.longer);
   same = λ q l. h.same q (omega (arith, l, g.longer)) ∙ g.same q l;

@@ -8,14 +8,14 @@ use Rattle.ere_table.specs.Path.{Edge, Path, LeadsAs}
 use Rattle.ere_table.specs.Stands.{Stands}
 use Rattle.ere_table.proofs.PathLemmas.{complete}
 use Rattle.ere_table.proofs.SoundLemmas.{sound}
-use Rattle.ere_table.specs.declared.node.Node as code
+use Rattle.ere_table.specs.declared.node.EreNode as code
 
 -- a path from the stop has no edge
 ends_there : (s : List ℕ) (T : ℕ → Node) (f : ℕ) → T f ≡ stop → (k m j : ℕ) → Path s T k f m f j → m ≡ j
 ends_there s T f z zero m j h = sym h.1
 ends_there s T f z (suc k) m j h = absurd (subst (λ x. Edge s x m h.0 h.1) z h.2)
 
-pub leads_as : (nodes : List code.Node) (entry : ℕ) (t : Tree) → node_at nodes 0 ≡ stop
+pub leads_as : (nodes : List code.EreNode) (entry : ℕ) (t : Tree) → node_at nodes 0 ≡ stop
     → Stands (node_at nodes) t entry 0 → LeadsAs nodes entry t
 leads_as nodes entry t z h = record {
   sound = λ s i j b p.

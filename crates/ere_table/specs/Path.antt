@@ -5,7 +5,7 @@ use Rattle.std.specs.List.{Contains}
 use Rattle.ere_table.specs.Node.{Node, stop, byte, fork, at_start, at_end, fail, node_at}
 use Rattle.ere_tree.specs.Tree.{Tree}
 use Rattle.ere_tree.specs.Derivation.{Spans, is_line_start, is_line_end}
-use Rattle.ere_table.specs.declared.node.Node as code
+use Rattle.ere_table.specs.declared.node.EreNode as code
 
 -- one edge: from a node at a place to a node at a place
 abbrev pub Edge : List ℕ → Node → ℕ → ℕ → ℕ → Type 0
@@ -26,6 +26,6 @@ abbrev pub Leads : List ℕ → (ℕ → Node) → ℕ → ℕ → ℕ → ℕ �
 Leads s T q i p j = (l : ℕ) × Path s T l q i p j
 
 -- The law of a table: it leads from its entry at i to node 0 at j exactly where the tree derives [i, j).
-pub record LeadsAs (nodes : List code.Node) (entry : ℕ) (t : Tree) : Type 0 where
+pub record LeadsAs (nodes : List code.EreNode) (entry : ℕ) (t : Tree) : Type 0 where
   pub sound : (s : List ℕ) (i j : ℕ) → i ≤ length s → Leads s (node_at nodes) entry i 0 j → Spans s t i j
   pub complete : (s : List ℕ) (i j : ℕ) → Spans s t i j → Leads s (node_at nodes) entry i 0 j

@@ -6,5 +6,5 @@ mod node;
 mod put;
 mod table;
 
-pub use node::Node;
-pub use table::Table;
+pub use node::EreNode;
+pub use table::NodeTable;

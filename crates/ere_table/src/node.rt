@@ -3,7 +3,7 @@ use ere_tree::ByteSet;
 
 /// A node: what it takes, and the nodes behind it by their places in the table.
 #[derive(Clone, Copy, Debug, PartialEq, Eq)]
-pub enum Node {
+pub enum EreNode {
     /// The expression has matched.
     Stop,
     /// This byte, and on.

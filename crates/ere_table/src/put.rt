@@ -7,14 +7,14 @@ ghost use Rattle.ere_table.specs.Node.{node_at, node_of, furthest};
 ghost use Rattle.ere_table.specs.Stands.{PlainStands, LoopStands, CopiesStand, Stands, AllStand, OneStands};
 ghost use Rattle.ere_table.specs.Table.{Grows};
 
-use crate::node::Node;
-use crate::table::Table;
+use crate::node::EreNode;
+use crate::table::NodeTable;
 use ere_tree::Ere;
 use std::alloc::AllocError;
 
-impl Table {
+impl NodeTable {
     /// Adds a node, and enters there.
-    fn push(&mut self, node: Node) -> Result<(), AllocError>
+    fn push(&mut self, node: EreNode) -> Result<(), AllocError>
         requires { furthest node < vec_len self.old.nodes }
         ensures node { OnOk result (node_at self.new.nodes.items self.new.entry ≡ node_of node) }
         ensures grows { OnOk result (Grows self.old.nodes.items self.new.nodes.items) }
@@ -36,7 +36,7 @@ impl Table {
         let mut left = bytes.len();
         while left > 0 {
             left -= 1;
-            self.push(Node::Byte {
+            self.push(EreNode::Byte {
                 byte: bytes[left],
                 next: self.entry,
             })?;
@@ -56,9 +56,9 @@ impl Table {
         match ere {
             Ere::Empty => Ok(()),
             Ere::Plain(run) => self.put_bytes(run.as_slice()),
-            Ere::Set(set) => self.push(Node::Set { set: *set, next }),
-            Ere::LineStart => self.push(Node::AtStart { next }),
-            Ere::LineEnd => self.push(Node::AtEnd { next }),
+            Ere::Set(set) => self.push(EreNode::Set { set: *set, next }),
+            Ere::LineStart => self.push(EreNode::AtStart { next }),
+            Ere::LineEnd => self.push(EreNode::AtEnd { next }),
             Ere::Cat(parts) => self.put_all(parts.as_slice()),
             Ere::Alt(choices) => self.put_one(choices.as_slice()),
             Ere::Repeat { inner, least, most } => match most {
@@ -95,14 +95,14 @@ impl Table {
         ensures grows { OnOk result (Grows self.old.nodes.items self.new.nodes.items) }
     {
         let next = self.entry;
-        self.push(Node::Fail)?;
+        self.push(EreNode::Fail)?;
         let mut left = choices.len();
         while left > 0 {
             left -= 1;
             let other = self.entry;
             self.entry = next;
             self.put(&choices[left])?;
-            self.push(Node::Fork {
+            self.push(EreNode::Fork {
                 one: self.entry,
                 other,
             })?;
@@ -119,10 +119,10 @@ impl Table {
         ensures grows { OnOk result (Grows self.old.nodes.items self.new.nodes.items) }
     {
         let next = self.entry;
-        self.push(Node::Stop)?;
+        self.push(EreNode::Stop)?;
         let head = self.entry;
         self.put(inner)?;
-        self.nodes[head] = Node::Fork {
+        self.nodes[head] = EreNode::Fork {
             one: self.entry,
             other: next,
         };
@@ -143,11 +143,11 @@ impl Table {
     {
         let next = self.entry;
         if most < least {
-            self.push(Node::Fail)?;
+            self.push(EreNode::Fail)?;
         }
         for _ in least..most {
             self.put(inner)?;
-            self.push(Node::Fork {
+            self.push(EreNode::Fork {
                 one: self.entry,
                 other: next,
             })?;

@@ -1,5 +1,5 @@
 //! Tables of small expressions.
-use ere_table::Table;
+use ere_table::NodeTable;
 use ere_tree::parse;
 use std::alloc::Global;
 
@@ -9,7 +9,7 @@ fn nodes_of(alloc: Global, expression: &str) -> Option<usize> {
     if ere.has_refs() {
         return None;
     }
-    let table = Table::build(alloc, &ere).ok()?;
+    let table = NodeTable::build(alloc, &ere).ok()?;
     Some(table.nodes.len())
 }
 

@@ -8,8 +8,8 @@ use Rattle.check_lines.specs.Decision.{decide, decide_from}
 use Rattle.check_lines.specs.Kind.{demand_of, is_earlier}
 use Rattle.check_lines.specs.Line.{decided, directive, marked, read_line}
 use Rattle.check_lines.specs.declared.decision.Decision.{Decision}
-use Rattle.check_lines.specs.declared.decision.Mark.{Mark}
-use Rattle.check_lines.specs.declared.decision.Mark.TheVariants.{Check, Comment}
+use Rattle.check_lines.specs.declared.decision.LineMark.{LineMark}
+use Rattle.check_lines.specs.declared.decision.LineMark.TheVariants.{Check, Comment}
 use Rattle.check_lines.specs.declared.directive.Directive.{Directive}
 use Rattle.check_lines.specs.declared.kind.Kind.TheVariants.{Empty, Next, Not, Plain}
 use Rattle.check_lines.specs.declared.suffix.Spelled.{Spelled}
@@ -101,7 +101,7 @@ free_by : (earlier : Bool) (number from : ℕ) (line : List ℕ) (found : Option
 free_by earlier number from line None free = refl
 free_by earlier number from line (Some found) free = mark_by found.mark free
   where
-    mark_by : (mark : Mark) → is_comment mark ≡ true → marked false earlier number from line found.at mark ≡ Ok None
+    mark_by : (mark : LineMark) → is_comment mark ≡ true → marked false earlier number from line found.at mark ≡ Ok None
     mark_by Comment free = refl
     mark_by (Check prefix spelling) free = absurd (true≢false (sym free))
 

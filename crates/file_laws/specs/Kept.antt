@@ -6,13 +6,13 @@ use Rattle.std.specs.List.{slice_split}
 use Rattle.tt_base.specs.Place.{is_newline}
 use Rattle.check_lines.specs.Decision.{decide}
 use Rattle.check_lines.specs.declared.decision.Decision.{Decision}
-use Rattle.check_lines.specs.declared.decision.Mark.{Mark}
-use Rattle.check_lines.specs.declared.decision.Mark.TheVariants.{Comment, Check}
+use Rattle.check_lines.specs.declared.decision.LineMark.{LineMark}
+use Rattle.check_lines.specs.declared.decision.LineMark.TheVariants.{Comment, Check}
 use Rattle.lead_laws.specs.Canon.{form_of}
 use Rattle.lead_laws.specs.Marks as default
 
 -- whether a mark is that of a comment
-abbrev pub is_comment : Mark → Bool
+abbrev pub is_comment : LineMark → Bool
 is_comment Comment = true
 is_comment (Check prefix spelling) = false
 

@@ -15,7 +15,7 @@ mod telling;
 pub use answer::answer_to;
 pub use dumped::Dumped;
 pub use finding::{Finding, Note, Remark};
-pub use part::Part;
+pub use part::TextPart;
 pub use refusal::{Refusal, StepFail, Stop, refuse, settled};
 pub use report::{Made, Report};
 pub use spot::{Spot, as_col, behind, spot_at, spot_in, spot_of};

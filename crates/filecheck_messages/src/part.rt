@@ -8,13 +8,13 @@ use tt_outside::SharedBytes;
 
 /// A part of a text that several hold.
 #[derive(Drop, Debug)]
-pub struct Part {
+pub struct TextPart {
     text: SharedBytes,
     from: usize,
     to: usize,
 }
 
-impl Model for Part {
+impl Model for TextPart {
     ghost use Rattle.std.specs.Prelude.{◌≤◌, ◌-◌, List, ℕ, drop, length, take};
 
     ghost Value = { List ℕ };
@@ -24,22 +24,22 @@ impl Model for Part {
     ghost invariant = { λ part. (part.from ≤ part.to) × (part.to ≤ length part.text) };
 }
 
-impl Part {
+impl TextPart {
     /// A part of a text, from an offset to another one.
-    pub fn new(text: SharedBytes, from: usize, to: usize) -> Part
+    pub fn new(text: SharedBytes, from: usize, to: usize) -> TextPart
         requires ordered { from ≤ to }
         requires within { to ≤ length text }
         ensures { result ≡ take (to - from) (drop from text) }
     {
-        Part { text, from, to }
+        TextPart { text, from, to }
     }
 
     /// A copy of bytes.
-    pub fn copied(alloc: Global, bytes: &[u8]) -> Result<Part, NoMemory>
+    pub fn copied(alloc: Global, bytes: &[u8]) -> Result<TextPart, NoMemory>
         ensures { IfOk result (λ part. part ≡ bytes.now) }
     {
         let text = SharedBytes::from_slice(alloc, bytes)?;
-        Ok(Part {
+        Ok(TextPart {
             text,
             from: 0,
             to: bytes.len(),

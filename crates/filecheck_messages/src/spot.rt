@@ -3,7 +3,7 @@ ghost use Rattle.std.specs.Prelude.{◌≡◌, ◌≤◌, ◌+◌, ◌^◌, IfOk
 ghost use Rattle.tt_base.specs.Place.{place_at};
 ghost use Rattle.filecheck_messages.specs.Spot.{behind, spot_at};
 
-use crate::part::Part;
+use crate::part::TextPart;
 use std::alloc::Global;
 use tt_base::{Bytes, NoMemory, Place, line_of, place_of};
 use tt_outside::SharedBytes;
@@ -14,7 +14,7 @@ pub struct Spot {
     /// How the text is named.
     pub name: Bytes,
     pub place: Place,
-    pub line: Part,
+    pub line: TextPart,
 }
 
 /// The spot of an offset. It counts the lines before it.
@@ -43,7 +43,7 @@ pub fn spot_of(
     Ok(Spot {
         name: Bytes::from_slice(alloc, name)?,
         place,
-        line: Part::copied(alloc, &text[line.from..line.to])?,
+        line: TextPart::copied(alloc, &text[line.from..line.to])?,
     })
 }
 
@@ -58,7 +58,7 @@ pub fn spot_in(alloc: Global, name: &[u8], text: &SharedBytes, at: usize) -> Res
     Ok(Spot {
         name: Bytes::from_slice(alloc, name)?,
         place,
-        line: Part::new(text.share()?, line.from, line.to),
+        line: TextPart::new(text.share()?, line.from, line.to),
     })
 }
 

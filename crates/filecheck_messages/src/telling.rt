@@ -12,7 +12,7 @@ use std::marker::Model;
 use tt_base::{Bytes, NoMemory};
 use tt_outside::{Failed, Sink};
 use tt_pieces::{Gathered, Pen, Pieces, put_pieces};
-use tt_run::{Answer, Frame};
+use tt_run::{Answer, ToolFrame};
 
 /// What stands behind the pieces of a text.
 #[derive(Drop)]
@@ -137,7 +137,7 @@ fn gathered(alloc: Global, pen: &mut Pen, text: &mut Text<'_>) -> Result<Bytes, 
 
 impl<'a> Telling<'a> {
     /// Writes the answer of a tool, and answers its status, or 3 where a stream fails. It takes no memory.
-    pub fn write<O: Sink, E: Sink>(self, frame: Frame, out: &mut O, err: &mut E) -> u8
+    pub fn write<O: Sink, E: Sink>(self, frame: ToolFrame, out: &mut O, err: &mut E) -> u8
         requires { self.status ≤ 3 }
         ensures written { Written (cannot_write frame.name.now) self.entry result
             (stream_of O.Sink out.old out.new) (stream_of E.Sink err.old err.new) }

@@ -18,8 +18,8 @@ use Rattle.filecheck_words.specs.declared.job.Job.{Job}
 use Rattle.filecheck_words.specs.declared.job.Job.TheVariants as jobs
 use Rattle.filecheck_words.specs.declared.making.Making.{Making}
 use Rattle.filecheck_tool.specs.Making.{checks_made, made_behind, made_read}
-use Rattle.filecheck_tool.specs.declared.plan.Plan.{Plan}
-use Rattle.filecheck_tool.specs.declared.plan.Plan.TheVariants.{Check, Make}
+use Rattle.filecheck_tool.specs.declared.plan.InputPlan.{InputPlan}
+use Rattle.filecheck_tool.specs.declared.plan.InputPlan.TheVariants.{Check, Make}
 use Rattle.make_checks.specs.Made.{refreshed}
 use Rattle.generator.specs.Generated.{checks_text, input_text}
 use Rattle.filecheck_messages.specs.Answer.{answer_to}
@@ -32,7 +32,7 @@ use Rattle.filecheck_tool.specs.Run.{FileAsked, InputAsked, OutcomeFrom, PlanFro
 use Rattle.filecheck_tool.specs.Start.{start_made, start_with}
 use Rattle.filecheck_tool.specs.Verdict.{filled, input_name, verdict, verdict_read}
 use Rattle.filecheck_tool.specs.declared.check_file.CheckFile.{CheckFile}
-use Rattle.filecheck_tool.specs.declared.program.Program.{Program}
+use Rattle.filecheck_tool.specs.declared.program.AcceptedFile.{AcceptedFile}
 use Rattle.filecheck_messages.specs.declared.refusal.Refusal.{Refusal}
 use Rattle.filecheck_messages.specs.declared.refusal.Stop.{Stop}
 use Rattle.filecheck_messages.specs.declared.refusal.Stop.TheVariants.{Refused, NotReadable}
@@ -62,7 +62,7 @@ no_fault_step (Ok x) is = is
 no_fault_step (Err refusal) is = is
 
 -- patterns and definitions are none
-patterns_calm : (file : CheckFile) (patterns : Result Patterns Stop) (end : Result Program Stop)
+patterns_calm : (file : CheckFile) (patterns : Result Patterns Stop) (end : Result AcceptedFile Stop)
     → ArePatterns file (defined_by file.asked.defines).known patterns
     → LeadsTo patterns (λ p. IsDefinedWith file p (fresh_of (defined_by file.asked.defines).fresh)) end
     → IsFault end → ⊥
@@ -72,7 +72,7 @@ patterns_calm file (Ok p) end are leads is =
 patterns_calm file (Err (Refused refusal)) end are same is = subst IsFault same is
 patterns_calm file (Err (NotReadable name)) end are same is = are
 
-compiled_calm : (file : CheckFile) (end : Result Program Stop) → IsCompiledTo file end → IsFault end → ⊥
+compiled_calm : (file : CheckFile) (end : Result AcceptedFile Stop) → IsCompiledTo file end → IsFault end → ⊥
 compiled_calm file end (patterns, are, leads) is = patterns_calm file patterns end are leads is
 
 -- ---- counts of files that are read twice
@@ -101,7 +101,7 @@ asked_later : (files : Files) (limit : ℕ) (name : Option (List ℕ)) (file : R
 asked_later files limit (Some name) file is = file_later files limit name file is
 asked_later files limit None file is = inl is.0
 
-plan_later : (files : Files) (limit : ℕ) (job : Result Job WordsFault) (plan : Result Plan Stop)
+plan_later : (files : Files) (limit : ℕ) (job : Result Job WordsFault) (plan : Result InputPlan Stop)
     → PlanFrom files limit job plan → IsLater files.before files.now
 plan_later files limit (Err fault) plan from = inl from.0.0
 plan_later files limit (Ok job) plan (file, read, is) = asked_later files limit (checks_asked job) file read
@@ -112,7 +112,7 @@ input_later files input limit None read is = inl is.0.0
 input_later files input limit (Some Standard) read is = inl is.0.0
 input_later files input limit (Some (Named name)) read is = file_later files limit name read is.1
 
-outcome_later : (files : Files) (input : Source) (limit : ℕ) (plan : Result Plan Stop) (outcome : Result Report Stop)
+outcome_later : (files : Files) (input : Source) (limit : ℕ) (plan : Result InputPlan Stop) (outcome : Result Report Stop)
     → OutcomeFrom files input limit plan outcome → IsLater files.before files.now
 outcome_later files input limit (Err stop) outcome from = inl from.0.0
 outcome_later files input limit (Ok plan) outcome (read, is, same) = input_later files input limit (input_asked plan) read is
@@ -127,14 +127,14 @@ abbrev InputFailed : Source → Type 0
 InputFailed input = Rose input.before input.now × (input.steady → ⊥)
 
 -- a check file that was read whole stops nothing at a fault
-whole_checks_calm : (start : Start) (bytes : List ℕ) (program : Result Program Stop) → IsProgram start (Whole bytes) program
+whole_checks_calm : (start : Start) (bytes : List ℕ) (program : Result AcceptedFile Stop) → IsProgram start (Whole bytes) program
     → IsFault program → ⊥
 whole_checks_calm start bytes program leads =
     leads_calm (check_file_in start (canon start.asked.strict bytes)) IsCompiledTo program
     (λ file compiled. compiled_calm file program compiled) leads
 
 -- where a plan stops at a fault, the files counted it
-fault_of_checks : (files : Files) (limit : ℕ) (asked : Asked) (file : Reading) (program : Result Program Stop)
+fault_of_checks : (files : Files) (limit : ℕ) (asked : Asked) (file : Reading) (program : Result AcceptedFile Stop)
     → FileRead files limit asked.name file → IsProgram (start_with asked) file program → IsFault program → FilesFailed files
 fault_of_checks files limit asked (Whole bytes) program read leads is =
     absurd (whole_checks_calm (start_with asked) bytes program leads is)
@@ -150,7 +150,7 @@ fault_of_old files limit making (Some name) Missing read is = absurd is
 fault_of_old files limit making (Some name) TooLarge read is = absurd is
 fault_of_old files limit making (Some name) Failed read is = read
 
-fault_of_files : (files : Files) (limit : ℕ) (job : Result Job WordsFault) (plan : Result Plan Stop)
+fault_of_files : (files : Files) (limit : ℕ) (job : Result Job WordsFault) (plan : Result InputPlan Stop)
     → PlanFrom files limit job plan → IsFault plan → FilesFailed files
 fault_of_files files limit job (Ok plan) from is = absurd is
 fault_of_files files limit (Err fault) (Err stop) from is = absurd (subst IsFault from.1 is)
@@ -161,7 +161,7 @@ fault_of_files files limit (Ok (jobs.Generate count)) (Err stop) (file, read, le
 fault_of_files files limit (Ok (jobs.Make making)) (Err stop) (file, read, same) is =
     fault_of_old files limit making making.old file read (subst IsFault same is)
 
-whole_is_none : (program : Program) (bytes : List ℕ) → IsFault (verdict_read program (Whole bytes)) → ⊥
+whole_is_none : (program : AcceptedFile) (bytes : List ℕ) → IsFault (verdict_read program (Whole bytes)) → ⊥
 whole_is_none program bytes =
     no_fault_then (filled program.file.asked.allow_empty (input_name program.file.asked.input) bytes)
     (λ input. Ok (verdict program (length input) (canon program.file.asked.strict input))) (λ input is. is)
@@ -181,7 +181,7 @@ failed_input files input limit told place TooLarge whole missing large is fault 
 failed_input files input limit told Standard Failed whole missing large is fault = inr is.1
 failed_input files input limit told (Named name) Failed whole missing large is fault = inl is.1
 
-failed_checked : (files : Files) (input : Source) (limit : ℕ) (program : Program) (made : Option ℕ) (place : Input) (read : Reading)
+failed_checked : (files : Files) (input : Source) (limit : ℕ) (program : AcceptedFile) (made : Option ℕ) (place : Input) (read : Reading)
     → InputAsked files input limit (unless_made made place) read → IsFault (verdict_read program (input_given made read))
     → FilesFailed files ⊎ InputFailed input
 failed_checked files input limit program (Some count) place read is fault =
@@ -189,7 +189,7 @@ failed_checked files input limit program (Some count) place read is fault =
 failed_checked files input limit program None place read is fault =
     failed_input files input limit (verdict_read program) place read (whole_is_none program) (λ is. is) (λ is. is) is fault
 
-failed_plan : (files : Files) (input : Source) (limit : ℕ) (plan : Plan) (read : Reading)
+failed_plan : (files : Files) (input : Source) (limit : ℕ) (plan : InputPlan) (read : Reading)
     → InputAsked files input limit (input_asked plan) read → IsFault (found_in plan read) → FilesFailed files ⊎ InputFailed input
 failed_plan files input limit (Check program) read is fault =
     failed_checked files input limit program program.file.made program.file.asked.input read is fault
@@ -197,7 +197,7 @@ failed_plan files input limit (Make making old) read is fault =
     failed_input files input limit (made_read making old) making.input read (made_is_none making old) (λ is. is) (λ is. is) is fault
 
 -- where the outcome is a fault, the files or the input counted it, or the plan was one
-fault_of_input : (files : Files) (input : Source) (limit : ℕ) (plan : Result Plan Stop) (outcome : Result Report Stop)
+fault_of_input : (files : Files) (input : Source) (limit : ℕ) (plan : Result InputPlan Stop) (outcome : Result Report Stop)
     → OutcomeFrom files input limit plan outcome → IsFault outcome
     → IsFault plan ⊎ FilesFailed files ⊎ InputFailed input
 fault_of_input files input limit (Err (Refused refusal)) outcome from is = absurd (subst IsFault from.2 is)
@@ -220,7 +220,7 @@ answers_fault (Ok (Made made)) is = absurd (counts_are_none (made.faults == 0) i
 answers_fault (Err (Refused refusal)) is = cc
 answers_fault (Err (NotReadable name)) is = tt
 
-module _ (first_files last_files : Files) (limit : ℕ) (job : Result Job WordsFault) (plan : Result Plan Stop) (input : Source)
+module _ (first_files last_files : Files) (limit : ℕ) (job : Result Job WordsFault) (plan : Result InputPlan Stop) (input : Source)
     (most : ℕ) (outcome : Result Report Stop) (joint : first_files.now ≡ last_files.before)
     (from : PlanFrom first_files limit job plan) (read : OutcomeFrom last_files input most plan outcome) where
   -- a fault of either reading is counted in the end

@@ -12,7 +12,7 @@ use Rattle.pattern_parse.specs.declared.pattern.Frame.{Frame}
 use Rattle.filecheck_tool.specs.Program.{ArePatterns, IsCompiledWith, IsDefinedWith, bad_body, frame_by, fresh_of}
 use Rattle.filecheck_messages.specs.Refusal.{Ends}
 use Rattle.filecheck_tool.specs.declared.check_file.CheckFile.{CheckFile}
-use Rattle.filecheck_tool.specs.declared.program.Program.{Program}
+use Rattle.filecheck_tool.specs.declared.program.AcceptedFile.{AcceptedFile}
 use Rattle.filecheck_messages.specs.declared.refusal.Refusal.{Refusal}
 use Rattle.filecheck_messages.specs.declared.refusal.StepFail.{StepFail}
 use Rattle.filecheck_messages.specs.declared.refusal.StepFail.TheVariants.{Stopped, NoMemory}
@@ -40,11 +40,11 @@ module _ (file : CheckFile) (known new : Formats) (frame : Frame) (text : List �
 
 module _ (file : CheckFile) (values : Defined) where
   pub patterns_stop : (fail : StepFail) → Ends {X = Patterns} (Err fail) (ArePatterns file values.known)
-      → Ends {X = Program} (Err fail) (IsCompiledWith file values)
+      → Ends {X = AcceptedFile} (Err fail) (IsCompiledWith file values)
   patterns_stop (Stopped stop) are = (Err stop, are, refl)
   patterns_stop NoMemory are = tt
 
-  pub patterns_lead : (patterns : Patterns) (step : Result Program StepFail) → ArePatterns file values.known (Ok patterns)
+  pub patterns_lead : (patterns : Patterns) (step : Result AcceptedFile StepFail) → ArePatterns file values.known (Ok patterns)
       → Ends step (IsDefinedWith file patterns (fresh_of values.fresh)) → Ends step (IsCompiledWith file values)
   patterns_lead patterns (Ok program) are leads = (Ok patterns, are, leads)
   patterns_lead patterns (Err (Stopped stop)) are leads = (Ok patterns, are, leads)

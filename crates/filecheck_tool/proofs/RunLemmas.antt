@@ -12,23 +12,23 @@ use Rattle.filecheck_messages.specs.declared.refusal.Stop.{Stop}
 use Rattle.filecheck_messages.specs.declared.report.Report.{Report}
 use Rattle.filecheck_tool.specs.Answer.{IsOutcome, IsAnswer, IsPlan, found_by}
 use Rattle.filecheck_tool.specs.Run.{AnswerOf, ChecksRead, InputRead, OutcomeFrom, OutcomeOf, PlanFrom}
-use Rattle.filecheck_tool.specs.declared.plan.Plan.{Plan}
+use Rattle.filecheck_tool.specs.declared.plan.InputPlan.{InputPlan}
 
 -- the check file that was read, or any where none was
-checks_of : (files : Files) (limit : ℕ) (job : Result Job WordsFault) (plan : Result Plan Stop)
+checks_of : (files : Files) (limit : ℕ) (job : Result Job WordsFault) (plan : Result InputPlan Stop)
     → PlanFrom files limit job plan
     → (file : Reading) × ChecksRead files limit job file × IsPlan job file plan
 checks_of files limit (Ok job) plan from = from
 checks_of files limit (Err fault) plan from = (Missing, from.0, from.1)
 
 -- words that are refused come to a refusal
-pub refused_plan : (files : Files) (limit : ℕ) (job : Result Job WordsFault) (plan : Result Plan Stop)
+pub refused_plan : (files : Files) (limit : ℕ) (job : Result Job WordsFault) (plan : Result InputPlan Stop)
     → PlanFrom files limit job plan → IsErr job → IsErr plan
 refused_plan files limit (Ok job) plan from is = cc
 refused_plan files limit (Err fault) plan from is = subst IsErr (sym from.1) refl
 
 -- and the input
-input_of : (files : Files) (input : Source) (limit : ℕ) (plan : Result Plan Stop) (outcome : Result Report Stop)
+input_of : (files : Files) (input : Source) (limit : ℕ) (plan : Result InputPlan Stop) (outcome : Result Report Stop)
     → OutcomeFrom files input limit plan outcome
     → (read : Reading) × InputRead files input limit plan read × (outcome ≡ found_by plan read)
 input_of files input limit (Ok plan) outcome from = from

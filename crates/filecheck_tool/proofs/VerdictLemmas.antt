@@ -7,18 +7,18 @@ use Rattle.filecheck_messages.specs.declared.refusal.StepFail.{StepFail}
 use Rattle.filecheck_words.specs.declared.making.Making.{Making}
 use Rattle.filecheck_tool.specs.Making.{made_behind, made_read}
 use Rattle.filecheck_tool.specs.Verdict.{filled, input_name, verdict, verdict_read}
-use Rattle.filecheck_tool.specs.declared.program.Program.{Program}
+use Rattle.filecheck_tool.specs.declared.program.AcceptedFile.{AcceptedFile}
 use Rattle.filecheck_messages.specs.declared.refusal.Stop.{Stop}
 use Rattle.filecheck_messages.specs.declared.report.Report.{Report}
 use Rattle.tt_run.specs.declared.reading.Reading.{Reading}
 
-abbrev then_verdict : Program → List ℕ → Result Report Stop
+abbrev then_verdict : AcceptedFile → List ℕ → Result Report Stop
 then_verdict program input = Ok (verdict program (length input) (canon program.file.asked.strict input))
 
-abbrev then_filled : Program → List ℕ → List ℕ → Result Report Stop
+abbrev then_filled : AcceptedFile → List ℕ → List ℕ → Result Report Stop
 then_filled program name bytes = accepted (filled program.file.asked.allow_empty name bytes) >>= then_verdict program
 
-pub read_is : (program : Program) (read : Reading) (name bytes input text : List ℕ) (count : ℕ) (report : Report)
+pub read_is : (program : AcceptedFile) (read : Reading) (name bytes input text : List ℕ) (count : ℕ) (report : Report)
     → name ≡ input_name program.file.asked.input → whole name read ≡ Ok bytes
     → accepted (filled program.file.asked.allow_empty name bytes) ≡ Ok input
     → count ≡ length input → text ≡ canon program.file.asked.strict input → report ≡ verdict program count text

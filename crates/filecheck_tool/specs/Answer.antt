@@ -21,8 +21,8 @@ use Rattle.filecheck_tool.specs.Program.{IsProgram, IsSound}
 use Rattle.filecheck_tool.specs.Start.{start_made, start_with}
 use Rattle.filecheck_tool.specs.Verdict.{verdict_read}
 use Rattle.filecheck_tool.specs.declared.file_names.Names.{Names}
-use Rattle.filecheck_tool.specs.declared.plan.Plan.{Plan}
-use Rattle.filecheck_tool.specs.declared.plan.Plan.TheVariants.{Check, Make}
+use Rattle.filecheck_tool.specs.declared.plan.InputPlan.{InputPlan}
+use Rattle.filecheck_tool.specs.declared.plan.InputPlan.TheVariants.{Check, Make}
 use Rattle.filecheck_tool.specs.declared.start.Start.{Start}
 use Rattle.generator.specs.Generated.{checks_text, input_text}
 use Rattle.tt_run.specs.declared.answer.Answer.{Answer}
@@ -42,7 +42,7 @@ abbrev pub unless_made : Option ℕ → Input → Option Input
 unless_made None input = Some input
 unless_made (Some count) input = None
 
-abbrev pub input_asked : Plan → Option Input
+abbrev pub input_asked : InputPlan → Option Input
 input_asked (Check program) = unless_made program.file.made program.file.asked.input
 input_asked (Make making old) = Some making.input
 
@@ -61,7 +61,7 @@ names_of (Err fault) = None
 -- ---- what is to be done with the input
 
 -- what begins so, and reading a check file that gave this, come to this plan: to check by a program
-abbrev pub IsChecking : Start → Reading → Result Plan Stop → Type 0
+abbrev pub IsChecking : Start → Reading → Result InputPlan Stop → Type 0
 IsChecking start file (Ok (Check program)) = IsProgram start file (Ok program)
 IsChecking start file (Ok (Make making old)) = ⊥
 IsChecking start file (Err stop) = IsProgram start file (Err stop)
@@ -71,22 +71,22 @@ abbrev pub old_read : Option (List ℕ) → Reading → Result (List ℕ) Stop
 old_read None file = Ok []
 old_read (Some name) file = whole name file
 
-abbrev pub make_plan : Making → Reading → Result Plan Stop
+abbrev pub make_plan : Making → Reading → Result InputPlan Stop
 make_plan making file = old_read making.old file >>= (λ old. Ok (Make making old))
 
 -- a job, and what reading the check file gave, come to this plan
-abbrev pub IsPlanOf : Job → Reading → Result Plan Stop → Type 0
+abbrev pub IsPlanOf : Job → Reading → Result InputPlan Stop → Type 0
 IsPlanOf (jobs.Check asked) file plan = IsChecking (start_with asked) file plan
 IsPlanOf (jobs.Generate count) file plan = IsChecking (start_made count) (Whole (checks_text count)) plan
 IsPlanOf (jobs.Make making) file plan = plan ≡ make_plan making file
 
 -- words, and what reading the check file gave, come to this plan or this refusal
-abbrev pub IsPlan : Result Job WordsFault → Reading → Result Plan Stop → Type 0
+abbrev pub IsPlan : Result Job WordsFault → Reading → Result InputPlan Stop → Type 0
 IsPlan (Ok job) file plan = IsPlanOf job file plan
 IsPlan (Err fault) file plan = plan ≡ Err (Refused (Words fault))
 
 -- a plan can be carried out
-abbrev pub IsSoundPlan : Plan → Type 0
+abbrev pub IsSoundPlan : InputPlan → Type 0
 IsSoundPlan (Check program) = IsSound program
 IsSoundPlan (Make making old) = HasTextNames making × (length old ≤ 2 ^ 30)
 
@@ -98,22 +98,22 @@ input_given None read = read
 input_given (Some count) read = Whole (input_text count)
 
 -- what is told of what reading the input gave
-abbrev pub found_in : Plan → Reading → Result Report Stop
+abbrev pub found_in : InputPlan → Reading → Result Report Stop
 found_in (Check program) read = verdict_read program (input_given program.file.made read)
 found_in (Make making old) read = made_read making old read
 
-abbrev pub found_by : Result Plan Stop → Reading → Result Report Stop
+abbrev pub found_by : Result InputPlan Stop → Reading → Result Report Stop
 found_by (Ok plan) read = found_in plan read
 found_by (Err stop) read = Err stop
 
 -- words and both readings come to this report or this refusal
 abbrev pub IsOutcome : Result Job WordsFault → Reading → Reading → Result Report Stop → Type 0
-IsOutcome job file read outcome = (plan : Result Plan Stop) × IsPlan job file plan × (outcome ≡ found_by plan read)
+IsOutcome job file read outcome = (plan : Result InputPlan Stop) × IsPlan job file plan × (outcome ≡ found_by plan read)
 
 -- they come to this answer, by way of a plan or a refusal
-abbrev pub IsAnswerBy : Result Plan Stop → Result Job WordsFault → Reading → Reading → Answer → Type 0
+abbrev pub IsAnswerBy : Result InputPlan Stop → Result Job WordsFault → Reading → Reading → Answer → Type 0
 IsAnswerBy plan job file read answer = IsPlan job file plan × (answer ≡ answer_to (found_by plan read))
 
 -- words and both readings come to this answer
 abbrev pub IsAnswer : Result Job WordsFault → Reading → Reading → Answer → Type 0
-IsAnswer job file read answer = (plan : Result Plan Stop) × IsAnswerBy plan job file read answer
+IsAnswer job file read answer = (plan : Result InputPlan Stop) × IsAnswerBy plan job file read answer

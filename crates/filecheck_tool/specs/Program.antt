@@ -22,7 +22,7 @@ use Rattle.filecheck_messages.specs.Spot.{behind}
 use Rattle.filecheck_tool.specs.Start.{IsStart}
 use Rattle.filecheck_tool.specs.declared.check_file.CheckFile.{CheckFile}
 use Rattle.filecheck_tool.specs.declared.program.Parts.{Parts}
-use Rattle.filecheck_tool.specs.declared.program.Program.{Program}
+use Rattle.filecheck_tool.specs.declared.program.AcceptedFile.{AcceptedFile}
 use Rattle.filecheck_messages.specs.declared.refusal.Refusal.{Refusal}
 use Rattle.filecheck_messages.specs.declared.refusal.Refusal.TheVariants.{BadBody, BadDefine}
 use Rattle.filecheck_messages.specs.declared.refusal.StepFail.{StepFail}
@@ -66,7 +66,7 @@ fresh_of (Err value) = Err (BadDefine value)
 
 -- ---- the program
 
-abbrev pub program_of : CheckFile → Patterns → List Binding → Program
+abbrev pub program_of : CheckFile → Patterns → List Binding → AcceptedFile
 program_of file patterns fresh = record {
   file = file;
   checks = patterns.checks;
@@ -75,22 +75,22 @@ program_of file patterns fresh = record {
 }
 
 -- with these patterns, what -D defines comes to this program
-abbrev pub IsDefinedWith : CheckFile → Patterns → Result (List Binding) Refusal → Result Program Stop → Type 0
+abbrev pub IsDefinedWith : CheckFile → Patterns → Result (List Binding) Refusal → Result AcceptedFile Stop → Type 0
 IsDefinedWith file patterns fresh =
     LeadsTo (accepted fresh) (λ fresh end. end ≡ Ok (program_of file patterns fresh))
 
 -- the patterns of a check file, and then what -D defines, come to this program
-abbrev pub IsCompiledWith : CheckFile → Defined → Result Program Stop → Type 0
+abbrev pub IsCompiledWith : CheckFile → Defined → Result AcceptedFile Stop → Type 0
 IsCompiledWith file values end =
     (patterns : Result Patterns Stop) × ArePatterns file values.known patterns
     × LeadsTo patterns (λ p. IsDefinedWith file p (fresh_of values.fresh)) end
 
 -- a check file comes to this program, with the values of -D
-abbrev pub IsCompiledTo : CheckFile → Result Program Stop → Type 0
+abbrev pub IsCompiledTo : CheckFile → Result AcceptedFile Stop → Type 0
 IsCompiledTo file = IsCompiledWith file (defined_by file.asked.defines)
 
 -- what reading a check file gave comes to this program
-abbrev pub IsProgram : Start → Reading → Result Program Stop → Type 0
+abbrev pub IsProgram : Start → Reading → Result AcceptedFile Stop → Type 0
 IsProgram start file = LeadsTo (check_file_read start file) IsCompiledTo
 
 -- what a program has beside its check file, where checking begins
@@ -99,7 +99,7 @@ started patterns fresh =
     record { checks = patterns.checks; always = patterns.always; vars = start patterns.names fresh }
 
 -- the program of a check file with what it has beside it, as far as there is any
-abbrev pub joined : CheckFile → Result Parts StepFail → Result Program StepFail
+abbrev pub joined : CheckFile → Result Parts StepFail → Result AcceptedFile StepFail
 joined file (Ok parts) =
     Ok (record { file = file; checks = parts.checks; always = parts.always; vars = parts.vars })
 joined file (Err fail) = Err fail
@@ -128,7 +128,7 @@ abbrev pub MakesReady : {E : Type 0} → Patterns → Result Parts E → Type 0
 MakesReady patterns parts = (file : CheckFile) → AreOf file (patterns.checks ++ patterns.always) → IfOk parts (HasReady file)
 
 -- and so of a program
-pub record IsSound (program : Program) : Type 0 where
+pub record IsSound (program : AcceptedFile) : Type 0 where
   pub file : IsSoundFile program.file
   pub ready : All (IsReady program.vars) program.checks
   pub always_ready : All (IsReady program.vars) program.always

@@ -15,7 +15,7 @@ use Rattle.tt_run.specs.Run.{Answers, Files, FileRead, FilesRest, IsKept, Source
 use Rattle.tt_run.specs.declared.answer.Answer.{Answer}
 use Rattle.tt_run.specs.declared.reading.Reading.{Reading}
 use Rattle.filecheck_tool.specs.Answer.{IsAnswerBy, IsPlanOf, checks_asked, found_in, input_asked}
-use Rattle.filecheck_tool.specs.declared.plan.Plan.{Plan}
+use Rattle.filecheck_tool.specs.declared.plan.InputPlan.{InputPlan}
 use Rattle.filecheck_messages.specs.declared.refusal.Refusal.TheVariants.{Words}
 use Rattle.filecheck_messages.specs.declared.refusal.Stop.{Stop}
 use Rattle.filecheck_messages.specs.declared.refusal.Stop.TheVariants.{Refused}
@@ -48,12 +48,12 @@ InputAsked files input limit (Some (Named name)) read = SourceRests input × Fil
 InputAsked files input limit None read = FilesRest files × SourceRests input
 
 -- the input was read where the check file came to a plan
-abbrev pub InputRead : Files → Source → ℕ → Result Plan Stop → Reading → Type 0
+abbrev pub InputRead : Files → Source → ℕ → Result InputPlan Stop → Reading → Type 0
 InputRead files input limit (Ok plan) read = InputAsked files input limit (input_asked plan) read
 InputRead files input limit (Err stop) read = FilesRest files × SourceRests input
 
 -- the check file was read within its limit, and then the input within its own
-abbrev pub AreRead : {F : Type 0} → OfFiles F → F → F → Source → Result Job WordsFault → Result Plan Stop
+abbrev pub AreRead : {F : Type 0} → OfFiles F → F → F → Source → Result Job WordsFault → Result InputPlan Stop
     → Reading → Reading → Type 0
 AreRead {F} of old new input job plan file read =
     (middle : F) × ChecksRead (files_of of old middle) (2 ^ 24) job file × IsKept of old middle
@@ -64,7 +64,7 @@ AreRead {F} of old new input job plan file read =
 -- words, and what was read of the check file and the input, come to this answer
 abbrev pub AnswerOf : {F : Type 0} → OfFiles F → F → F → Source → Result Job WordsFault → Answer → Type 0
 AnswerOf of old new input job answer =
-    (plan : Result Plan Stop) × (file : Reading) × (read : Reading)
+    (plan : Result InputPlan Stop) × (file : Reading) × (read : Reading)
     × AreRead of old new input job plan file read × IsAnswerBy plan job file read answer
 
 -- that answer is told, and gives the status; but for want of memory
@@ -75,12 +75,12 @@ Checks words of old new input result out err =
 -- ---- its steps
 
 -- from what the words ask for to what is to be done with the input
-abbrev pub PlanFrom : Files → ℕ → Result Job WordsFault → Result Plan Stop → Type 0
+abbrev pub PlanFrom : Files → ℕ → Result Job WordsFault → Result InputPlan Stop → Type 0
 PlanFrom files limit (Ok job) plan = (file : Reading) × FileAsked files limit (checks_asked job) file × IsPlanOf job file plan
 PlanFrom files limit (Err fault) plan = FilesRest files × (plan ≡ Err (Refused (Words fault)))
 
 -- from there to what is told
-abbrev pub OutcomeFrom : Files → Source → ℕ → Result Plan Stop → Result Report Stop → Type 0
+abbrev pub OutcomeFrom : Files → Source → ℕ → Result InputPlan Stop → Result Report Stop → Type 0
 OutcomeFrom files input limit (Ok plan) outcome =
     (read : Reading) × InputAsked files input limit (input_asked plan) read × (outcome ≡ found_in plan read)
 OutcomeFrom files input limit (Err stop) outcome = FilesRest files × SourceRests input × (outcome ≡ Err stop)
@@ -89,17 +89,17 @@ OutcomeFrom files input limit (Err stop) outcome = FilesRest files × SourceRest
 abbrev pub ReadsChecks : {F : Type 0} → OfFiles F → F → F → Job → Reading → Type 0
 ReadsChecks of old new job = FileAsked (files_of of old new) (2 ^ 24) (checks_asked job)
 
-abbrev pub PlanOf : {F : Type 0} → OfFiles F → F → F → Result Job WordsFault → Result Plan Stop → Type 0
+abbrev pub PlanOf : {F : Type 0} → OfFiles F → F → F → Result Job WordsFault → Result InputPlan Stop → Type 0
 PlanOf of old new job = PlanFrom (files_of of old new) (2 ^ 24) job
 
-abbrev pub Reads : {F I : Type 0} → OfFiles F → F → F → OfSource I → I → I → Plan → Reading → Type 0
+abbrev pub Reads : {F I : Type 0} → OfFiles F → F → F → OfSource I → I → I → InputPlan → Reading → Type 0
 Reads of old new source before now plan = InputAsked (files_of of old new) (source_of source before now) (2 ^ 26) (input_asked plan)
 
-abbrev pub Reports : {F I : Type 0} → OfFiles F → F → F → OfSource I → I → I → Result Plan Stop → Result Report Stop → Type 0
+abbrev pub Reports : {F I : Type 0} → OfFiles F → F → F → OfSource I → I → I → Result InputPlan Stop → Result Report Stop → Type 0
 Reports of old new source before now plan = OutcomeFrom (files_of of old new) (source_of source before now) (2 ^ 26) plan
 
 -- from words to what is told
 abbrev pub OutcomeOf : {F : Type 0} → OfFiles F → F → F → Source → Result Job WordsFault → Result Report Stop → Type 0
 OutcomeOf {F} of old new input job outcome =
-    (middle : F) × (plan : Result Plan Stop) × PlanFrom (files_of of old middle) (2 ^ 24) job plan × IsKept of old middle
+    (middle : F) × (plan : Result InputPlan Stop) × PlanFrom (files_of of old middle) (2 ^ 24) job plan × IsKept of old middle
     × OutcomeFrom (files_of of middle new) input (2 ^ 26) plan outcome

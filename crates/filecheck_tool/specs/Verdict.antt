@@ -24,7 +24,7 @@ use Rattle.filecheck_messages.specs.declared.finding.Finding.{Finding}
 use Rattle.filecheck_messages.specs.declared.finding.Note.{Note}
 use Rattle.filecheck_messages.specs.declared.finding.Remark.{Remark}
 use Rattle.filecheck_messages.specs.declared.finding.Remark.TheVariants.{ScanningFrom, MatchWasHere, PreviousEnded, FoundHere}
-use Rattle.filecheck_tool.specs.declared.program.Program.{Program}
+use Rattle.filecheck_tool.specs.declared.program.AcceptedFile.{AcceptedFile}
 use Rattle.filecheck_messages.specs.declared.refusal.Refusal.{Refusal}
 use Rattle.filecheck_messages.specs.declared.refusal.Refusal.TheVariants.{IsEmpty}
 use Rattle.filecheck_messages.specs.declared.refusal.Stop.{Stop}
@@ -106,13 +106,13 @@ report_of (Some checks) file count input faults = Made (made_of checks count fau
 report_of None file count input faults = Found (findings_of file input faults) (dump_due file input faults)
 
 -- what is told of an input of so many bytes, by its canonical text
-abbrev pub verdict : Program → ℕ → List ℕ → Report
+abbrev pub verdict : AcceptedFile → ℕ → List ℕ → Report
 verdict program count input =
     report_of program.file.made program.file count input
     (scan program.checks program.always program.file.asked.var_scope input program.vars).faults
 
 -- what is told of what reading the input gave
-abbrev pub verdict_read : Program → Reading → Result Report Stop
+abbrev pub verdict_read : AcceptedFile → Reading → Result Report Stop
 verdict_read program read = do
   bytes ← whole (input_name program.file.asked.input) read
   input ← accepted (filled program.file.asked.allow_empty (input_name program.file.asked.input) bytes)

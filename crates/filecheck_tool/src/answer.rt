@@ -4,15 +4,15 @@ ghost use Rattle.opt_words.specs.Step.{texts};
 ghost use Rattle.filecheck_messages.specs.Answer.{answer_to};
 ghost use Rattle.filecheck_tool.specs.Answer.{IsAnswer, IsOutcome, IsSoundPlan, file_of, found_by, found_in, input_given, names_of};
 ghost use Rattle.filecheck_tool.specs.Program.{IsSound, IsSoundFile};
-ghost use Rattle.filecheck_tool.specs.declared.plan.Plan.TheVariants.{Check};
+ghost use Rattle.filecheck_tool.specs.declared.plan.InputPlan.TheVariants.{Check};
 ghost use Rattle.filecheck_words.specs.Job.{asked_by};
 ghost use Rattle.tt_run.specs.Run.{IsShort};
 
 use crate::check_file::CheckFile;
 use crate::file_names::Names;
 use crate::making::made_read;
-use crate::plan::{Plan, plan_on};
-use crate::program::Program;
+use crate::plan::{InputPlan, plan_on};
+use crate::program::AcceptedFile;
 use crate::verdict::verdict_read;
 use filecheck_messages::{Report, Stop, answer_to, settled};
 use filecheck_words::{Input, Job, WordsFail, asked_by};
@@ -65,7 +65,7 @@ pub fn outcome_on(
 /// What is told of what reading the input gave, where there is a plan.
 fn found_by(
     alloc: Global,
-    plan: Result<Plan, Stop>,
+    plan: Result<InputPlan, Stop>,
     read: Reading,
 ) -> Result<Result<Report, Stop>, NoMemory>
     requires sound { IfOk plan IsSoundPlan }
@@ -81,7 +81,7 @@ fn found_by(
 /// What is told of what reading the input gave.
 pub(crate) fn found_in(
     alloc: Global,
-    plan: Plan,
+    plan: InputPlan,
     read: Reading,
 ) -> Result<Result<Report, Stop>, NoMemory>
     requires sound { IsSoundPlan plan }
@@ -89,13 +89,17 @@ pub(crate) fn found_in(
     ensures { IfOk result (λ outcome. outcome ≡ found_in plan read) }
 {
     match plan {
-        Plan::Check(program) => checked(alloc, program, read),
-        Plan::Make(making, old) => settled(made_read(alloc, making, old, read)),
+        InputPlan::Check(program) => checked(alloc, program, read),
+        InputPlan::Make(making, old) => settled(made_read(alloc, making, old, read)),
     }
 }
 
 /// The same, where it is checked.
-fn checked(alloc: Global, program: Program, read: Reading) -> Result<Result<Report, Stop>, NoMemory>
+fn checked(
+    alloc: Global,
+    program: AcceptedFile,
+    read: Reading,
+) -> Result<Result<Report, Stop>, NoMemory>
     requires sound { IsSound program }
     requires short { IsShort (2 ^ 30) read }
     ensures { IfOk result (λ outcome. outcome ≡ found_in (Check program) read) }

@@ -10,7 +10,9 @@ use crate::start::Start;
 use check_lines::{
     CheckFail, CheckFault, CheckKind, Directive, FileRules, Kind, canon_owned, read_checks, row_of,
 };
-use filecheck_messages::{Part, Refusal, Spot, StepFail, Stop, as_col, refuse, spot_at, spot_of};
+use filecheck_messages::{
+    Refusal, Spot, StepFail, Stop, TextPart, as_col, refuse, spot_at, spot_of,
+};
 use filecheck_words::Asked;
 use std::alloc::Global;
 use std::mem::drop;
@@ -199,7 +201,7 @@ fn implicit_spot(alloc: Global, body: &[u8], index: usize) -> Result<Spot, NoMem
             line: as_col(index).saturating_add(1),
             col: 1,
         },
-        line: Part::copied(alloc, body)?,
+        line: TextPart::copied(alloc, body)?,
     })
 }
 

@@ -11,7 +11,7 @@ ghost use Rattle.tt_run.specs.Run.{IsShort};
 ghost use Rattle.tt_run.specs.declared.reading.Reading.TheVariants.{Whole};
 
 use crate::check_file::whole;
-use crate::program::{Program, program_read};
+use crate::program::{AcceptedFile, program_read};
 use crate::start::{Start, start_made};
 use filecheck_messages::{Refusal, StepFail, Stop, settled};
 use filecheck_words::{Job, Making, WordsFail, asked_by};
@@ -23,9 +23,9 @@ use tt_run::Reading;
 
 /// What is to be done with the input.
 #[derive(Drop, Debug)]
-pub enum Plan {
+pub enum InputPlan {
     /// It is checked by a program.
-    Check(Program),
+    Check(AcceptedFile),
     /// A check file is made of it, behind what is kept of this one.
     Make(Making, Bytes),
 }
@@ -35,7 +35,7 @@ pub fn plan_on(
     alloc: Global,
     words: &[String],
     file: Reading,
-) -> Result<Result<Plan, Stop>, NoMemory>
+) -> Result<Result<InputPlan, Stop>, NoMemory>
     requires { IsShort (2 ^ 30) file }
     ensures value { IfOk result (IsPlan (asked_by (texts words.now)) file) }
     ensures sound { IfOk result (λ plan. IfOk plan IsSoundPlan) }
@@ -52,7 +52,7 @@ pub(crate) fn plan_of(
     alloc: Global,
     job: Job,
     file: Reading,
-) -> Result<Result<Plan, Stop>, NoMemory>
+) -> Result<Result<InputPlan, Stop>, NoMemory>
     requires job { IsSoundJob job }
     requires short { IsShort (2 ^ 30) file }
     ensures value { IfOk result (IsPlanOf job file) }
@@ -66,21 +66,21 @@ pub(crate) fn plan_of(
 }
 
 /// To check by a check file, where this is what reading it gave.
-fn checking(alloc: Global, start: Start, file: Reading) -> Result<Result<Plan, Stop>, NoMemory>
+fn checking(alloc: Global, start: Start, file: Reading) -> Result<Result<InputPlan, Stop>, NoMemory>
     requires start { IsStart start }
     requires short { IsShort (2 ^ 30) file }
     ensures value { IfOk result (IsChecking start file) }
     ensures sound { IfOk result (λ plan. IfOk plan IsSoundPlan) }
 {
     match program_read(alloc, start, file) {
-        Ok(program) => Ok(Ok(Plan::Check(program))),
+        Ok(program) => Ok(Ok(InputPlan::Check(program))),
         Err(StepFail::Stopped(stop)) => Ok(Err(stop)),
         Err(StepFail::NoMemory) => Err(NoMemory),
     }
 }
 
 /// To check by a check file of so many directives, which is made.
-fn generated(alloc: Global, count: u64) -> Result<Result<Plan, Stop>, NoMemory>
+fn generated(alloc: Global, count: u64) -> Result<Result<InputPlan, Stop>, NoMemory>
     requires least { 1 ≤ count }
     requires most { count ≤ 20000 }
     ensures value { IfOk result (IsChecking (start_made count) (Whole (checks_text count))) }
@@ -92,14 +92,14 @@ fn generated(alloc: Global, count: u64) -> Result<Result<Plan, Stop>, NoMemory>
 }
 
 /// To make a check file, where reading the old one gave this.
-fn make_plan(alloc: Global, making: Making, file: Reading) -> Result<Plan, StepFail>
+fn make_plan(alloc: Global, making: Making, file: Reading) -> Result<InputPlan, StepFail>
     requires making { HasTextNames making }
     requires short { IsShort (2 ^ 30) file }
     ensures value { Gives (λ plan. plan) result (make_plan making file) }
     ensures sound { IfOk result IsSoundPlan }
 {
     match old_read(alloc, &making.old, file) {
-        Ok(old) => Ok(Plan::Make(making, old)),
+        Ok(old) => Ok(InputPlan::Make(making, old)),
         Err(fail) => {
             // A call, since a drop in place is proved field by field.
             drop(making);

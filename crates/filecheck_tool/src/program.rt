@@ -10,7 +10,7 @@ ghost use Rattle.tt_run.specs.Run.{IsShort};
 use crate::check_file::{CheckFile, check_file_read};
 use crate::start::Start;
 use check_group::Check;
-use check_program::{CompileFail, CompileOpts, Program as Patterns, compile};
+use check_program::{AcceptedFile as Patterns, CompileFail, CompileOpts, compile};
 use define_words::{Defined, defined_by, start_vars};
 use filecheck_messages::{Refusal, StepFail, behind, refuse};
 use pattern_parse::{Formats, Frame, PatFault};
@@ -22,7 +22,7 @@ use tt_run::Reading;
 
 /// A check file that was accepted.
 #[derive(Drop, Debug)]
-pub struct Program {
+pub struct AcceptedFile {
     pub file: CheckFile,
     /// Its directives with their patterns.
     pub checks: Items<Check>,
@@ -41,7 +41,7 @@ struct Parts {
 }
 
 /// The program of the check file that reading gave.
-pub fn program_read(alloc: Global, start: Start, file: Reading) -> Result<Program, StepFail>
+pub fn program_read(alloc: Global, start: Start, file: Reading) -> Result<AcceptedFile, StepFail>
     requires short { IsShort (2 ^ 30) file }
     requires sound { IsStart start }
     ensures value { Ends result (IsProgram start file) }
@@ -52,13 +52,13 @@ pub fn program_read(alloc: Global, start: Start, file: Reading) -> Result<Progra
 }
 
 /// The program of a check file.
-fn compiled(alloc: Global, file: CheckFile) -> Result<Program, StepFail>
+fn compiled(alloc: Global, file: CheckFile) -> Result<AcceptedFile, StepFail>
     requires sound { IsSoundFile file }
     ensures value { Ends result (IsCompiledTo file) }
     ensures sound { IfOk result IsSound }
 {
     match parts_of(alloc, &file) {
-        Ok(parts) => Ok(Program {
+        Ok(parts) => Ok(AcceptedFile {
             file,
             checks: parts.checks,
             always: parts.always,

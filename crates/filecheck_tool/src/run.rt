@@ -13,7 +13,7 @@ ghost use Rattle.filecheck_words.specs.Checking.{IsNamed};
 ghost use Rattle.filecheck_words.specs.Job.{IsSound as IsSoundJob};
 
 use crate::answer::found_in;
-use crate::plan::{Plan, plan_of};
+use crate::plan::{InputPlan, plan_of};
 use filecheck_messages::{Refusal, Report, Stop, answer_to};
 use filecheck_words::{Input, Job, WordsFail, asked_by};
 use std::alloc::Global;
@@ -21,10 +21,10 @@ use std::mem::drop;
 use std::str::from_utf8;
 use tt_base::NoMemory;
 use tt_outside::{Files, Sink, Source};
-use tt_run::{Frame, Reading, read_named, read_source};
+use tt_run::{Reading, ToolFrame, read_named, read_source};
 
 /// The name of FileCheck.
-pub const FILECHECK: Frame = Frame { name: b"filecheck" };
+pub const FILECHECK: ToolFrame = ToolFrame { name: b"filecheck" };
 
 /// The greatest length of a check file, in bytes.
 pub const CHECK_LIMIT: u64 = 16_777_216;
@@ -105,7 +105,7 @@ fn plan_from<F: Files>(
     alloc: Global,
     words: &[String],
     from: &mut F,
-) -> Result<Result<Plan, Stop>, NoMemory>
+) -> Result<Result<InputPlan, Stop>, NoMemory>
     ensures value { IfOk result (PlanOf F.Files from.old from.new (job_of words.now)) }
     ensures sound { IfOk result (λ plan. IfOk plan IsSoundPlan) }
     ensures unread { IsErr (job_of words.now) → from.new ≡ from.old }
@@ -120,7 +120,11 @@ fn plan_from<F: Files>(
 }
 
 /// What a job asks to be done with the input.
-fn plan_by<F: Files>(alloc: Global, job: Job, from: &mut F) -> Result<Result<Plan, Stop>, NoMemory>
+fn plan_by<F: Files>(
+    alloc: Global,
+    job: Job,
+    from: &mut F,
+) -> Result<Result<InputPlan, Stop>, NoMemory>
     requires { IsSoundJob job }
     ensures value { IfOk result (PlanOf F.Files from.old from.new (Ok job)) }
     ensures sound { IfOk result (λ plan. IfOk plan IsSoundPlan) }
@@ -136,7 +140,7 @@ fn plan_by<F: Files>(alloc: Global, job: Job, from: &mut F) -> Result<Result<Pla
 /// What is found amiss in the input, or what is made of it.
 fn outcome_from<F: Files, I: Source>(
     alloc: Global,
-    plan: Result<Plan, Stop>,
+    plan: Result<InputPlan, Stop>,
     from: &mut F,
     input: &mut I,
 ) -> Result<Result<Report, Stop>, NoMemory>
@@ -178,7 +182,7 @@ fn read_checks<F: Files>(alloc: Global, job: &Job, from: &mut F) -> Result<Readi
 /// What reading the input gave. One that isn't asked for counts as missing.
 fn read_input<F: Files, I: Source>(
     alloc: Global,
-    plan: &Plan,
+    plan: &InputPlan,
     from: &mut F,
     input: &mut I,
 ) -> Result<Reading, NoMemory>
@@ -189,11 +193,11 @@ fn read_input<F: Files, I: Source>(
     ensures files_stay { IsKept F.Files from.old from.new }
 {
     match plan {
-        Plan::Check(program) => match program.file.made {
+        InputPlan::Check(program) => match program.file.made {
             Some(_) => Ok(Reading::Missing),
             None => read_place(alloc, &program.file.asked.input, from, input),
         },
-        Plan::Make(making, _) => read_place(alloc, &making.input, from, input),
+        InputPlan::Make(making, _) => read_place(alloc, &making.input, from, input),
     }
 }
 

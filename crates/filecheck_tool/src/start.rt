@@ -2,7 +2,7 @@
 ghost use Rattle.std.specs.Prelude.{◌≡◌, ◌≤◌, IfOk};
 ghost use Rattle.filecheck_tool.specs.Start.{IsStart, made_asked, start_made};
 
-use filecheck_words::{Asked, Dump, Input, Prefixes, When, check_names, comment_names};
+use filecheck_words::{Asked, ChosenPrefixes, Dump, Input, When, check_names, comment_names};
 use std::alloc::Global;
 use tt_base::{Bytes, Items, NoMemory};
 
@@ -56,10 +56,10 @@ fn made_asked(alloc: Global) -> Result<Asked, NoMemory>
 }
 
 /// The prefixes that are used where no words name any.
-fn made_prefixes(alloc: Global) -> Result<Prefixes, NoMemory>
+fn made_prefixes(alloc: Global) -> Result<ChosenPrefixes, NoMemory>
     ensures { IfOk result (λ prefixes. prefixes ≡ made_asked.prefixes) }
 {
     let checks = check_names(alloc)?;
     let comments = comment_names(alloc)?;
-    Ok(Prefixes { checks, comments })
+    Ok(ChosenPrefixes { checks, comments })
 }

@@ -11,7 +11,7 @@ ghost use Rattle.tt_run.specs.Run.{IsShort};
 
 use crate::check_file::{CheckFile, whole};
 use crate::dumping::{marks_due, shown_by};
-use crate::program::Program;
+use crate::program::AcceptedFile;
 use check_group::{Check, Fault, FaultKind};
 use check_lines::{Kind, canon_owned, row_of};
 use check_scan::{Subject, scan};
@@ -41,7 +41,7 @@ pub(crate) fn input_name(input: &Input) -> &[u8]
 }
 
 /// What is told of what reading the input gave.
-pub fn verdict_read(alloc: Global, program: Program, read: Reading) -> Result<Report, StepFail>
+pub fn verdict_read(alloc: Global, program: AcceptedFile, read: Reading) -> Result<Report, StepFail>
     requires sound { IsSound program }
     requires short { IsShort (2 ^ 30) read }
     ensures { Gives (λ report. report) result (verdict_read program read) }
@@ -54,7 +54,7 @@ pub fn verdict_read(alloc: Global, program: Program, read: Reading) -> Result<Re
 }
 
 /// The same; what the input binds stays in the program.
-fn verdict_of(alloc: Global, program: &mut Program, read: Reading) -> Result<Report, StepFail>
+fn verdict_of(alloc: Global, program: &mut AcceptedFile, read: Reading) -> Result<Report, StepFail>
     requires sound { IsSound program.old }
     requires short { IsShort (2 ^ 30) read }
     ensures { Gives (λ report. report) result (verdict_read program.old read) }
@@ -88,7 +88,7 @@ pub(crate) fn filled(
 /// What is told of an input of so many bytes, by its canonical text.
 fn verdict(
     alloc: Global,
-    program: &mut Program,
+    program: &mut AcceptedFile,
     count: u64,
     input: Bytes,
 ) -> Result<Report, NoMemory>

@@ -16,7 +16,7 @@ use Rattle.filecheck_words.specs.declared.checking.Input.{Input}
 use Rattle.filecheck_words.specs.declared.checking.Input.TheVariants.{Standard, Named}
 use Rattle.filecheck_words.specs.declared.fault.WordsFault.{WordsFault}
 use Rattle.filecheck_words.specs.declared.fault.WordsFault.TheVariants.{NotOneFile, NotText}
-use Rattle.filecheck_words.specs.declared.prefixes.Prefixes.{Prefixes}
+use Rattle.filecheck_words.specs.declared.prefixes.ChosenPrefixes.{ChosenPrefixes}
 
 -- ---- files
 
@@ -56,7 +56,7 @@ is_given row all = nat_lt 0 (times row all)
 abbrev pub may_lack : List Given → Bool
 may_lack all = is_given 13 all && not (is_given 0 all) && not (is_given 1 all)
 
-abbrev pub asked_of : List (List ℕ) → List Given → List ℕ → Input → Prefixes → List (List ℕ) → Asked
+abbrev pub asked_of : List (List ℕ) → List Given → List ℕ → Input → ChosenPrefixes → List (List ℕ) → Asked
 asked_of words all name input prefixes implicit = record {
   name = name;
   input = input;

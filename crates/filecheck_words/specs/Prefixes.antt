@@ -11,7 +11,7 @@ use Rattle.check_lines.specs.Decision.{is_word}
 use Rattle.opt_words.specs.Step.{value_of}
 use Rattle.opt_words.specs.declared.step.Given.{Given}
 use Rattle.filecheck_words.specs.Fault.{unless}
-use Rattle.filecheck_words.specs.declared.prefixes.Prefixes.{Prefixes}
+use Rattle.filecheck_words.specs.declared.prefixes.ChosenPrefixes.{ChosenPrefixes}
 use Rattle.filecheck_words.specs.declared.fault.WordsFault.{WordsFault}
 use Rattle.filecheck_words.specs.declared.fault.WordsFault.TheVariants.{BadPrefix, PrefixTwice}
 
@@ -75,10 +75,10 @@ first_fault before [] = None
 first_fault before (prefix ∷ later) = option_or (prefix_fault before prefix) (first_fault (before ++ prefix ∷ []) later)
 
 -- the prefixes that hold, by those that the words spell for directives, for comments, and for both in the order of the words
-abbrev pub held_by : List (List ℕ) → List (List ℕ) → List (List ℕ) → Result Prefixes WordsFault
+abbrev pub held_by : List (List ℕ) → List (List ℕ) → List (List ℕ) → Result ChosenPrefixes WordsFault
 held_by checks comments order =
     unless (first_fault (names_beside (is_some checks) (is_some comments)) order)
     (Ok (record { checks = or_else checks check_names; comments = or_else comments comment_names }))
 
-abbrev pub held_prefixes : List (List ℕ) → List Given → Result Prefixes WordsFault
+abbrev pub held_prefixes : List (List ℕ) → List Given → Result ChosenPrefixes WordsFault
 held_prefixes words all = held_by (spelled 0 2 words all) (spelled 2 3 words all) (spelled 0 3 words all)

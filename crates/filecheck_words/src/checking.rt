@@ -11,7 +11,7 @@ use crate::dumping::{Dump, dump_asked};
 use crate::fault::{WordsFail, WordsFault, refuse};
 use crate::given::GivenWords;
 use crate::implicit::patterns_of;
-use crate::prefixes::{Prefixes, held_prefixes};
+use crate::prefixes::{ChosenPrefixes, held_prefixes};
 use crate::values::values;
 use opt_words::Given;
 use std::alloc::Global;
@@ -32,7 +32,7 @@ pub struct Asked {
     /// The name of the check file, as it was given.
     pub name: Bytes,
     pub input: Input,
-    pub prefixes: Prefixes,
+    pub prefixes: ChosenPrefixes,
     /// Whether each blank counts.
     pub strict: bool,
     /// Whether the input may be empty.

@@ -19,4 +19,4 @@ pub use fault::{WordsFail, WordsFault};
 pub use job::{Job, asked_by};
 pub use laws::law_of_implicit_patterns;
 pub use making::Making;
-pub use prefixes::{Prefixes, check_names, comment_names};
+pub use prefixes::{ChosenPrefixes, check_names, comment_names};

@@ -15,7 +15,7 @@ use tt_base::{Bytes, Items, NoMemory};
 
 /// The prefixes that a check file is read by.
 #[derive(Drop, Debug)]
-pub struct Prefixes {
+pub struct ChosenPrefixes {
     /// Those of directives.
     pub checks: Items<Bytes>,
     /// Those of comments.
@@ -23,7 +23,11 @@ pub struct Prefixes {
 }
 
 /// The prefixes that hold where the words give all this.
-pub fn held_prefixes(alloc: Global, words: &[String], all: &[Given]) -> Result<Prefixes, WordsFail>
+pub fn held_prefixes(
+    alloc: Global,
+    words: &[String],
+    all: &[Given],
+) -> Result<ChosenPrefixes, WordsFail>
     requires { All (Stands (texts words.now)) all.now }
     ensures { Gives (λ prefixes. prefixes) result (held_prefixes (texts words.now) all.now) }
 {
@@ -38,13 +42,13 @@ fn held_by(
     checks: Items<Bytes>,
     comments: Items<Bytes>,
     order: &[Bytes],
-) -> Result<Prefixes, WordsFail>
+) -> Result<ChosenPrefixes, WordsFail>
     ensures { Gives (λ prefixes. prefixes) result (held_by checks comments order.now) }
 {
     let names = names_beside(alloc, is_some(&checks), is_some(&comments))?;
     match first_fault(alloc, names.as_slice(), order)? {
         Some(fault) => refuse(fault),
-        None => Ok(Prefixes {
+        None => Ok(ChosenPrefixes {
             checks: or_else(checks, check_names(alloc)?),
             comments: or_else(comments, comment_names(alloc)?),
         }),

@@ -8,7 +8,7 @@ use Rattle.std.proofs.lemmas.List.{append-nil}
 use Rattle.not_count.specs.Asked.{asked}
 use Rattle.not_count.specs.Count.{OutcomeFrom, compared_status, status_of, text_of}
 use Rattle.not_count.specs.Lines.{IsCounted, lines_of}
-use Rattle.not_count.specs.declared.asked.Refusal.{Refusal}
+use Rattle.not_count.specs.declared.asked.CountRefusal.{CountRefusal}
 use Rattle.not_count.specs.declared.count.Outcome.{Outcome}
 use Rattle.not_count.specs.declared.count.Outcome.TheVariants.{Compared}
 use Rattle.not_count.specs.declared.lines.Counted.{Counted}
@@ -46,7 +46,7 @@ module _ (untouched steady : Type 0) (input rest : List ℕ) (before now : ℕ) 
       sym (ap (λ b. if b then Lines (lines_of input) else TooLong) long)
   counted_known Failed calm (rose, not) = absurd (not calm)
 
-  pub outcome_known : (wanted : Result ℕ Refusal) (outcome : Outcome) → steady
+  pub outcome_known : (wanted : Result ℕ CountRefusal) (outcome : Outcome) → steady
       → OutcomeFrom (known untouched steady input rest before now) (2 ^ 40) wanted outcome → outcome ≡ compared wanted input
   outcome_known (Ok wanted) outcome calm (found, from, told) = told ∙ ap (Compared wanted) (counted_known found calm from)
   outcome_known (Err refusal) outcome calm (rests, told) = told
@@ -54,7 +54,7 @@ module _ (untouched steady : Type 0) (input rest : List ℕ) (before now : ℕ) 
 -- ---- the sink
 
 -- an outcome over bytes in memory is no fault
-calm_status : (wanted : Result ℕ Refusal) (input : List ℕ) → status_of (compared wanted input) ≢ 3
+calm_status : (wanted : Result ℕ CountRefusal) (input : List ℕ) → status_of (compared wanted input) ≢ 3
 calm_status (Err refusal) input is = omega (arith, is)
 calm_status (Ok wanted) input is = each (nat_le (length input) (2 ^ 40)) is
   where

@@ -7,7 +7,7 @@ use Rattle.std.specs.List.{All, list_any}
 use Rattle.std.specs.Prelude.{String, string_bytes}
 use Rattle.std.specs.declared.alloc.Global.{Global}
 use Rattle.opt_words.specs.Step.{texts}
-use Rattle.not_count.specs.declared.command.Command.{Command}
+use Rattle.not_count.specs.declared.command.NotCommand.{NotCommand}
 use Rattle.tt_outside.specs.declared.request.Pair.{Pair}
 use Rattle.tt_outside.specs.declared.request.Reply.{Reply}
 use Rattle.tt_outside.specs.declared.request.Request.{Request}
@@ -56,9 +56,9 @@ module _ (words : List (List ℕ)) (dir : List ℕ) (env : List Pair) (input : L
     pub within_kept : kept.peeling.core < length kept.words
     within_kept = subst (λ (size : ℕ). kept.peeling.core < size) size_is of.peeling.within
 
-    pub programs_kept : All (λ (command : Command). command.first < length kept.words) kept.peeling.levels
+    pub programs_kept : All (λ (command : NotCommand). command.first < length kept.words) kept.peeling.levels
     programs_kept =
-        subst (λ (size : ℕ). All (λ (command : Command). command.first < size) kept.peeling.levels) size_is of.peeling.programs
+        subst (λ (size : ℕ). All (λ (command : NotCommand). command.first < size) kept.peeling.levels) size_is of.peeling.programs
 
     asked_is : asked_inside request ≡ core_asks peeled.core dir env input limit
     asked_is = ap (λ b. asked_where b request) of.inside

@@ -3,7 +3,7 @@
 use Rattle.std.specs.Prelude.{ℕ, zero, suc, ◌+◌, ◌^◌, Bool, ◌&&◌, ◌||◌, nat_le, if◌then◌else◌, List, [], ◌∷◌, length, codes, slice_index_or, Option, Some, None, Result, Ok, Err}
 use Rattle.std.specs.Str.{bytes_eq}
 use Rattle.not_count.specs.Command.{command_in}
-use Rattle.not_count.specs.declared.command.Command.{Command}
+use Rattle.not_count.specs.declared.command.NotCommand.{NotCommand}
 use Rattle.not_count.specs.declared.command.NoCommand.{NoCommand}
 use Rattle.inner_answers.specs.declared.tool.Tool.{Tool}
 use Rattle.inner_answers.specs.declared.tool.Tool.TheVariants.{FileCheck, Count, Not}
@@ -27,7 +27,7 @@ pub record Level : Type 0 where
   pub crash : Bool
 
 -- the `not` of a command in these words
-abbrev pub level_in : List (List ℕ) → Command → Level
+abbrev pub level_in : List (List ℕ) → NotCommand → Level
 level_in words command = record { name = slice_index_or words command.first []; crash = command.crash }
 
 -- words as they are peeled: the `not`s, from the outermost, and what is below them
@@ -38,7 +38,7 @@ pub record Peeled : Type 0 where
 abbrev pub beneath : Level → Peeled → Peeled
 beneath level peeled = record { levels = level ∷ peeled.levels; core = peeled.core }
 
-abbrev pub accepted : Result Command NoCommand → Option Command
+abbrev pub accepted : Result NotCommand NoCommand → Option NotCommand
 accepted (Ok command) = Some command
 accepted (Err refusal) = None
 
@@ -47,14 +47,14 @@ abbrev pub is_short : List ℕ → Bool
 is_short input = nat_le (length input) (2 ^ 26)
 
 -- the command below the tool of a name, with these words behind it
-abbrev pub command_below : Bool → List ℕ → List (List ℕ) → Option Command
+abbrev pub command_below : Bool → List ℕ → List (List ℕ) → Option NotCommand
 command_below short name words = if short && bytes_eq name (codes "not") then accepted (command_in words) else None
 
 -- a command among the words behind so many, by its index among all
-abbrev pub moved : ℕ → Command → Command
+abbrev pub moved : ℕ → NotCommand → NotCommand
 moved at command = record { crash = command.crash; first = at + command.first }
 
-abbrev pub placed : ℕ → Option Command → Option Command
+abbrev pub placed : ℕ → Option NotCommand → Option NotCommand
 placed at (Some command) = Some (moved at command)
 placed at None = None
 

@@ -6,8 +6,8 @@ use Rattle.not_count.specs.Command.{command_in}
 use Rattle.not_count.specs.Count.{status_of, text_of}
 use Rattle.not_count.specs.Inverse.{inverse_answer, reply_answer}
 use Rattle.not_count.specs.Lines.{lines_of}
-use Rattle.not_count.specs.declared.asked.Refusal.{Refusal}
-use Rattle.not_count.specs.declared.command.Command.{Command}
+use Rattle.not_count.specs.declared.asked.CountRefusal.{CountRefusal}
+use Rattle.not_count.specs.declared.command.NotCommand.{NotCommand}
 use Rattle.not_count.specs.declared.command.NoCommand.{NoCommand}
 use Rattle.not_count.specs.declared.count.Outcome.{Outcome}
 use Rattle.not_count.specs.declared.count.Outcome.TheVariants as outcomes
@@ -34,7 +34,7 @@ reply_within limit answer =
 abbrev pub counted : List ℕ → Counted
 counted input = if nat_le (length input) (2 ^ 40) then counts.Lines (lines_of input) else counts.TooLong
 
-abbrev pub compared : Result ℕ Refusal → List ℕ → Outcome
+abbrev pub compared : Result ℕ CountRefusal → List ℕ → Outcome
 compared (Ok wanted) input = outcomes.Compared wanted (counted input)
 compared (Err refusal) input = outcomes.Refused refusal
 
@@ -48,7 +48,7 @@ count_answer words input = told_of words (compared (asked words) input)
 -- ---- not
 
 -- a `not` that isn't peeled refuses its words, or else its input
-abbrev pub refused : Result Command NoCommand → Inverse
+abbrev pub refused : Result NotCommand NoCommand → Inverse
 refused (Ok command) = inverses.TooLarge
 refused (Err refusal) = inverses.Refused refusal
 

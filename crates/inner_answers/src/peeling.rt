@@ -7,7 +7,7 @@ ghost use Rattle.not_count.specs.Command.{command_in};
 ghost use Rattle.inner_answers.specs.Peeled.{accepted, command_below, placed};
 ghost use Rattle.inner_answers.specs.Peeling.{IsPeeling};
 
-use not_count::{Command, command_in};
+use not_count::{NotCommand, command_in};
 use std::alloc::Global;
 use std::str::from_utf8;
 use tt_base::{Bytes, Items, NoMemory};
@@ -15,7 +15,7 @@ use tt_base::{Bytes, Items, NoMemory};
 /// What stands in front of words: the commands of its `not`s, by their indices among all words, and where what is below these begins.
 #[derive(Drop, Debug)]
 pub(crate) struct Peeling {
-    pub(crate) levels: Items<Command>,
+    pub(crate) levels: Items<NotCommand>,
     pub(crate) core: usize,
 }
 
@@ -51,7 +51,7 @@ fn front_len(words: &[String]) -> usize
 }
 
 /// The command that words of a `not` ask for, in the time of the words in front of it.
-fn front_command(words: &[String]) -> Option<Command>
+fn front_command(words: &[String]) -> Option<NotCommand>
     ensures value { result ≡ accepted (command_in (texts words.now)) }
     ensures within { IfSome result (λ command. command.first < length words.now) }
 {
@@ -70,7 +70,7 @@ fn is_not(word: &[u8]) -> bool
 
 /// The command of a `not` that stands at an index, by its index among all words, where the `not` accepts it and an input that may be
 /// short.
-fn command_below(words: &[String], at: usize, short: bool) -> Option<Command>
+fn command_below(words: &[String], at: usize, short: bool) -> Option<NotCommand>
     requires { at < length words.now }
     ensures value { result ≡ placed (at + 1)
         (command_below short (slice_index_or (texts words.now) at []) (drop (at + 1) (texts words.now))) }
@@ -81,7 +81,7 @@ fn command_below(words: &[String], at: usize, short: bool) -> Option<Command>
         return None;
     }
     match front_command(&words[at + 1..]) {
-        Some(command) => Some(Command {
+        Some(command) => Some(NotCommand {
             crash: command.crash,
             first: at + 1 + command.first,
         }),

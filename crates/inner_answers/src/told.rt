@@ -4,7 +4,7 @@ ghost use Rattle.opt_words.specs.Step.{texts};
 ghost use Rattle.inner_answers.specs.Peeled.{level_in};
 ghost use Rattle.inner_answers.specs.Told.{count_answer, inverse_all, inverse_reply, refused_answer, reply_within};
 
-use not_count::{Command, Inverse, command_in, count_run, inverse_answer, reply_answer};
+use not_count::{Inverse, NotCommand, command_in, count_run, inverse_answer, reply_answer};
 use std::alloc::Global;
 use tt_base::{Bytes, NoMemory};
 use tt_outside::{Finish, MemSink, MemSource, Reply, SharedBytes, Stream};
@@ -67,7 +67,7 @@ pub(crate) fn refused_reply(alloc: Global, words: &[String], limit: u64) -> Resu
 fn inverse_reply(
     alloc: Global,
     words: &[String],
-    command: Command,
+    command: NotCommand,
     limit: u64,
     reply: Reply,
 ) -> Result<Reply, NoMemory>
@@ -89,7 +89,7 @@ fn inverse_reply(
 pub(crate) fn inverse_all(
     alloc: Global,
     words: &[String],
-    levels: &[Command],
+    levels: &[NotCommand],
     limit: u64,
     core: Reply,
 ) -> Result<Reply, NoMemory>

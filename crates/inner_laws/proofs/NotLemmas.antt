@@ -6,7 +6,7 @@ use Rattle.std.proofs.lemmas.Bool.{and_parts}
 use Rattle.std.specs.List.{list_all, list_any}
 use Rattle.std.specs.Str.{bytes_eq, is_utf8}
 use Rattle.not_count.specs.Command.{command_in}
-use Rattle.not_count.specs.declared.command.Command.{Command}
+use Rattle.not_count.specs.declared.command.NotCommand.{NotCommand}
 use Rattle.tt_outside.specs.declared.request.Pair.{Pair}
 use Rattle.tt_outside.specs.declared.request.Reply.{Reply}
 use Rattle.tt_outside.specs.declared.request.Reply.TheVariants as kinds
@@ -29,7 +29,7 @@ no_not false false true none = cc
 no_not false true nots none = cc
 no_not true counts nots none = cc
 
-not_below : (short named : Bool) (found : Option Command) → named ≡ false → (if short && named then found else None) ≡ None
+not_below : (short named : Bool) (found : Option NotCommand) → named ≡ false → (if short && named then found else None) ≡ None
 not_below true named found none = ap (λ b. if b then found else None) none
 not_below false named found none = refl
 
@@ -100,7 +100,7 @@ later_texts [] (suc skip) texts = texts
 later_texts (word ∷ words) (suc skip) texts =
     later_texts words skip (and_parts (is_utf8 word) (list_all is_utf8 words) texts).1
 
-module _ (words : List (List ℕ)) (dir : List ℕ) (env : List Pair) (input : List ℕ) (limit : ℕ) (command : Command)
+module _ (words : List (List ℕ)) (dir : List ℕ) (env : List Pair) (input : List ℕ) (limit : ℕ) (command : NotCommand)
     (inside : is_inside (Spawn (codes "not" ∷ words) dir env input limit) ≡ true) (short : is_short input ≡ true)
     (accepts : command_in words ≡ Ok command) where
   abbrev outer : Request

@@ -2,7 +2,7 @@
 use Rattle.std.specs.Prelude.{◌≡◌, ◌↔◌, ℕ, true, List, ◌∷◌, drop, codes, Ok}
 use Rattle.std.specs.List.{list_any}
 use Rattle.not_count.specs.Command.{command_in}
-use Rattle.not_count.specs.declared.command.Command.{Command}
+use Rattle.not_count.specs.declared.command.NotCommand.{NotCommand}
 use Rattle.tt_outside.specs.Fits.{fits}
 use Rattle.tt_outside.specs.declared.request.Pair.{Pair}
 use Rattle.tt_outside.specs.declared.request.Reply.{Reply}
@@ -39,7 +39,7 @@ pub record IsInverse (outer inner : Request) (invert : Reply → Reply) : Type 0
 -- Law: a `not` that accepts its words and the input has the inverse of the reply to its command.
 abbrev pub NotInverts : Type 0
 NotInverts =
-    (words : List (List ℕ)) (dir : List ℕ) (env : List Pair) (input : List ℕ) (limit : ℕ) (command : Command)
+    (words : List (List ℕ)) (dir : List ℕ) (env : List Pair) (input : List ℕ) (limit : ℕ) (command : NotCommand)
     → is_inside (Spawn (codes "not" ∷ words) dir env input limit) ≡ true → is_short input ≡ true → command_in words ≡ Ok command
     → IsInverse (Spawn (codes "not" ∷ words) dir env input limit) (Spawn (drop command.first words) dir env input limit)
     (inverse_reply limit (level_in words command))

@@ -5,7 +5,7 @@ use Rattle.std.proofs.Common.{◌≡◌, codes, ℕ, suc, ◌+◌, nat_eq, Bool,
 use Rattle.std.proofs.lemmas.Bool.Decides.{nat_tests}
 use Rattle.std.specs.Option.{option_or, option_map}
 use Rattle.check_lines.specs.Decision.{decide_from, is_word, mark_at, mark_of}
-use Rattle.check_lines.specs.declared.decision.Mark.{Mark}
+use Rattle.check_lines.specs.declared.decision.LineMark.{LineMark}
 use Rattle.lead_laws.specs.Marks.{DecidesBehind, IsLead, LeadsDecideNothing, checks, comments, mark_of_kind}
 use Rattle.check_lines.specs.declared.kind.Kind.{Kind}
 use Rattle.check_lines.specs.declared.kind.Kind.TheVariants.{Plain, Next, Empty, Not}
@@ -33,7 +33,7 @@ none_marks b rest h =
     ∙ ap (λ p. mark_of None (taken (begins_with (b ∷ rest) (codes "RUN")) 1 3 (taken p 0 3 None)) (b ∷ rest)) comment
     ∙ ap (λ p. mark_of None (taken p 1 3 None) (b ∷ rest)) run
 
-leads_to : (lead : List ℕ) (line : List ℕ) (at : ℕ) (mark : Mark) → IsLead lead
+leads_to : (lead : List ℕ) (line : List ℕ) (at : ℕ) (mark : LineMark) → IsLead lead
     → decide_from checks comments false (at + length lead) line ≡ Some (record { at = at + length lead; mark = mark })
     → decide_from checks comments false at (lead ++ line) ≡ Some (record { at = at + length lead; mark = mark })
 unfolding decide_from

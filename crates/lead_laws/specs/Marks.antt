@@ -2,8 +2,8 @@
 -- Own rule: a lead holds no letter, digit, `-` or `_`, so no prefix begins in it and none is behind a word.
 use Rattle.std.specs.Prelude.{◌≡◌, codes, ℕ, false, List, [], ◌∷◌, ◌++◌, length, Some}
 use Rattle.check_lines.specs.Decision.{decide, is_word}
-use Rattle.check_lines.specs.declared.decision.Mark.{Mark}
-use Rattle.check_lines.specs.declared.decision.Mark.TheVariants.{Check}
+use Rattle.check_lines.specs.declared.decision.LineMark.{LineMark}
+use Rattle.check_lines.specs.declared.decision.LineMark.TheVariants.{Check}
 use Rattle.check_lines.specs.declared.suffix.Spelling.TheVariants.{Good}
 use Rattle.check_lines.specs.declared.kind.Kind.{Kind}
 use Rattle.check_lines.specs.declared.kind.Kind.TheVariants.{Plain, Next, Empty, Not}
@@ -20,7 +20,7 @@ IsLead [] = Unit {0}
 IsLead (b ∷ lead) = (is_word b ≡ false) × IsLead lead
 
 -- a directive of a kind, behind the default prefix
-abbrev pub mark_of_kind : Kind → ℕ → Mark
+abbrev pub mark_of_kind : Kind → ℕ → LineMark
 mark_of_kind kind count = Check (record { index = 0; length = 5 }) (Good (record { kind = kind; literal = false; count = count }))
 
 -- what decides a line behind a lead

@@ -12,7 +12,7 @@ use crate::pending::Pending;
 use crate::walk::Walk;
 use crate::words::add_word;
 use lit_dirs::DiscoverFault;
-use lit_look::Seen;
+use lit_look::SeenFolders;
 use lit_paths::{joined, read_path};
 use std::alloc::Global;
 use std::collections::BTreeSet;
@@ -26,7 +26,7 @@ const MAX_TESTS: usize = 100_000;
 fn add_words<T: Tree>(
     alloc: Global,
     tree: &mut T,
-    seen: &mut Seen,
+    seen: &mut SeenFolders,
     walk: &mut Walk,
     base: &[Bytes],
     texts: &[Bytes],
@@ -56,7 +56,7 @@ fn walk_words<T: Tree>(
     ensures tree { Leaves T.nodes T.root T.faults T.steady tree.old tree.new (fault_of result) }
 {
     let base = read_path(alloc, tree.base())?;
-    let mut seen = Seen::new(alloc);
+    let mut seen = SeenFolders::new(alloc);
     let mut walk = Walk {
         found: Discovery::new(alloc),
         walked: BTreeSet::new(alloc),

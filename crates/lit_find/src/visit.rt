@@ -12,7 +12,7 @@ use crate::place::Place;
 use crate::sorting::sort_items;
 use crate::walk::Walk;
 use lit_dirs::DiscoverFault;
-use lit_look::{Looked, Seen, SharedRoot, look};
+use lit_look::{Looked, SeenFolders, SharedRoot, look};
 use lit_paths::text_of;
 use std::alloc::Global;
 use std::collections::BTreeSet;
@@ -66,7 +66,7 @@ fn enter(
 fn visit<T: Tree>(
     alloc: Global,
     tree: &mut T,
-    seen: &mut Seen,
+    seen: &mut SeenFolders,
     walk: &mut Walk,
     place: Place,
 ) -> Result<(), DiscoverFault>
@@ -91,7 +91,7 @@ fn visit<T: Tree>(
 pub(crate) fn walk_all<T: Tree>(
     alloc: Global,
     tree: &mut T,
-    seen: &mut Seen,
+    seen: &mut SeenFolders,
     walk: &mut Walk,
 ) -> Result<(), DiscoverFault>
     ensures gives { GoesOn (T.nodes tree.old) seen.old seen.new walk.old walk.new result }

@@ -10,7 +10,7 @@ use crate::place::TestFile;
 use crate::visit::walk_all;
 use crate::walk::Walk;
 use lit_dirs::DiscoverFault;
-use lit_look::{Seen, nearest};
+use lit_look::{SeenFolders, nearest};
 use lit_paths::text_of;
 use std::alloc::Global;
 use tt_base::Bytes;
@@ -20,7 +20,7 @@ use tt_outside::Tree;
 fn add_file<T: Tree>(
     alloc: Global,
     tree: &mut T,
-    seen: &mut Seen,
+    seen: &mut SeenFolders,
     walk: &mut Walk,
     word: &[Bytes],
 ) -> Result<(), DiscoverFault>
@@ -45,7 +45,7 @@ fn add_file<T: Tree>(
 pub(crate) fn add_word<T: Tree>(
     alloc: Global,
     tree: &mut T,
-    seen: &mut Seen,
+    seen: &mut SeenFolders,
     walk: &mut Walk,
     word: &[Bytes],
 ) -> Result<(), DiscoverFault>

@@ -10,5 +10,5 @@ mod upward;
 
 pub use looking::look;
 pub use root::{SharedRoot, SuiteRoot};
-pub use seen::{Looked, Seen};
+pub use seen::{Looked, SeenFolders};
 pub use upward::nearest;

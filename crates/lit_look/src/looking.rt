@@ -11,7 +11,7 @@ ghost use Rattle.tt_outside.specs.declared.tree.Node.{Node};
 ghost use Rattle.tt_outside.specs.TreeMap.{Lists, is_part};
 
 use crate::root::{SharedRoot, SuiteRoot};
-use crate::seen::{Looked, Seen};
+use crate::seen::{Looked, SeenFolders};
 use lit_dirs::{DiscoverFault, list_dir, look_in};
 use lit_paths::{copied, text_of};
 use lit_suite::Suite;
@@ -41,7 +41,7 @@ fn rooted(
 fn enter<T: Tree>(
     alloc: Global,
     tree: &mut T,
-    seen: &mut Seen,
+    seen: &mut SeenFolders,
     dir: &[Bytes],
     items: Items<Item>,
 ) -> Result<usize, DiscoverFault>
@@ -76,7 +76,7 @@ fn enter<T: Tree>(
 pub fn look<T: Tree>(
     alloc: Global,
     tree: &mut T,
-    seen: &mut Seen,
+    seen: &mut SeenFolders,
     dir: &[Bytes],
 ) -> Result<Option<usize>, DiscoverFault>
     requires parts { list_all is_part dir.now ≡ true }

@@ -26,7 +26,7 @@ pub struct Looked {
 
 /// The directories that were looked at, in their order.
 #[derive(Drop, Debug)]
-pub struct Seen {
+pub struct SeenFolders {
     held: Vec<Looked>,
     /// The number of each directory, under its path.
     numbers: BTreeMap<Vec<u8>, usize>,
@@ -34,7 +34,7 @@ pub struct Seen {
     items: u64,
 }
 
-impl Model for Seen {
+impl Model for SeenFolders {
     ghost use Rattle.std.specs.Prelude.{List};
     ghost use Rattle.lit_look.specs.declared.seen.Looked.{Looked};
     ghost use Rattle.lit_look.specs.Index.{IsIndexed};
@@ -46,12 +46,12 @@ impl Model for Seen {
     ghost invariant = { λ seen. IsIndexed seen.held.items seen.numbers.entries seen.items };
 }
 
-impl Seen {
+impl SeenFolders {
     /// No directories. It takes no memory.
-    pub fn new(alloc: Global) -> Seen
+    pub fn new(alloc: Global) -> SeenFolders
         ensures { result ≡ [] }
     {
-        Seen {
+        SeenFolders {
             held: Vec::new(alloc),
             numbers: BTreeMap::new(alloc),
             items: 0,

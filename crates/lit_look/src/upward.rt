@@ -11,7 +11,7 @@ ghost use Rattle.tt_outside.specs.TreeMap.{are_nested, is_part};
 
 use crate::looking::look;
 use crate::root::SharedRoot;
-use crate::seen::Seen;
+use crate::seen::SeenFolders;
 use lit_dirs::DiscoverFault;
 use lit_paths::text_of;
 use std::alloc::Global;
@@ -19,7 +19,7 @@ use tt_base::{Bytes, NoMemory};
 use tt_outside::Tree;
 
 /// The suite that the directory of a number is the root of.
-fn suite_of(seen: &Seen, number: usize) -> Result<Option<SharedRoot>, NoMemory>
+fn suite_of(seen: &SeenFolders, number: usize) -> Result<Option<SharedRoot>, NoMemory>
     requires { number < length seen.now }
     ensures suite { IfOk result (λ root. root ≡ suite_of (slice_get seen.now number)) }
     ensures here { (dir : Parts) → IsNumberOf seen.now dir number
@@ -36,7 +36,7 @@ fn suite_of(seen: &Seen, number: usize) -> Result<Option<SharedRoot>, NoMemory>
 pub fn nearest<T: Tree>(
     alloc: Global,
     tree: &mut T,
-    seen: &mut Seen,
+    seen: &mut SeenFolders,
     dir: &[Bytes],
     word: &[Bytes],
 ) -> Result<Option<SharedRoot>, DiscoverFault>

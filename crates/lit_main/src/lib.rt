@@ -14,7 +14,7 @@ use std::io::{self, ErrorKind};
 use tt_base::Bytes;
 use tt_main::{Pages, no_words, with_variable, words_or_page};
 use tt_outside::Sink;
-use tt_run::{Frame, answer_parts};
+use tt_run::{ToolFrame, answer_parts};
 
 /// The variable of the environment whose words stand before those of the command line.
 const VARIABLE: &str = "LIT_OPTS";
@@ -29,7 +29,11 @@ fn current_dir<R: Env + AllocGlobal>(rt: &R) -> io::Result<Bytes> {
 }
 
 /// The path that words are joined to: that of the current directory. Where there is none, that is told, with a status.
-pub fn base<R: Env + AllocGlobal, E: Sink>(rt: &R, frame: Frame, err: &mut E) -> Result<Bytes, u8>
+pub fn base<R: Env + AllocGlobal, E: Sink>(
+    rt: &R,
+    frame: ToolFrame,
+    err: &mut E,
+) -> Result<Bytes, u8>
     ensures told { IfErr result (λ status. NoBase frame.name.now status (stream_of E.Sink err.old err.new)) }
     ensures silent { OnOk result (err.new ≡ err.old) }
 {
@@ -43,7 +47,7 @@ pub fn base<R: Env + AllocGlobal, E: Sink>(rt: &R, frame: Frame, err: &mut E) ->
 }
 
 /// Tells that the tree cannot be read.
-fn cannot_read_tree<E: Sink>(frame: Frame, err: &mut E) -> u8
+fn cannot_read_tree<E: Sink>(frame: ToolFrame, err: &mut E) -> u8
     ensures { NoBase frame.name.now result (stream_of E.Sink err.old err.new) }
 {
     answer_parts(&[frame.name, b": error: cannot read the tree\n"], 3, err)
@@ -53,7 +57,7 @@ fn cannot_read_tree<E: Sink>(frame: Frame, err: &mut E) -> u8
 /// no words, or where they ask for one of its pages, which is shown.
 pub fn all_words<R: Env + AllocGlobal, O: Sink, E: Sink>(
     rt: &R,
-    frame: Frame,
+    frame: ToolFrame,
     pages: Pages,
     out: &mut O,
     err: &mut E,

@@ -4,7 +4,7 @@ ghost use Rattle.std.specs.Prelude.{◌≡◌, string_bytes};
 ghost use Rattle.std.specs.List.{list_any};
 ghost use Rattle.lit_main.specs.Before.{hushes};
 
-use lit_progress::Line;
+use lit_progress::ProgressLine;
 use std::alloc::Global;
 use std::io::Write;
 use tt_base::NoMemory;
@@ -26,16 +26,16 @@ pub fn is_quiet(words: &[String]) -> bool
 /// A line of progress for each part of a run.
 #[derive(Drop)]
 pub struct Lines<W> {
-    pub out: Line<W>,
-    pub err: Line<W>,
-    pub crew: Line<W>,
-    pub end: Line<W>,
+    pub out: ProgressLine<W>,
+    pub err: ProgressLine<W>,
+    pub crew: ProgressLine<W>,
+    pub end: ProgressLine<W>,
 }
 
 impl<W: Write + Copy> Lines<W> {
     /// The same line for each, which is written to a writer, if it is to be shown at all.
     pub fn new(alloc: Global, writer: W, is_shown: bool) -> Result<Lines<W>, NoMemory> {
-        let end = Line::new(alloc, writer, is_shown)?;
+        let end = ProgressLine::new(alloc, writer, is_shown)?;
         Ok(Lines {
             out: end.another()?,
             err: end.another()?,

@@ -1,6 +1,6 @@
 //! A crew beside which a line of progress is shown.
 
-use crate::line::Line;
+use crate::line::ProgressLine;
 use std::alloc::Global;
 use std::io::Write;
 use tt_base::NoMemory;
@@ -10,7 +10,7 @@ use tt_outside::{Crew, Entry, Reply, Request, Runner};
 #[derive(Drop)]
 pub struct ProgressHand<H, W> {
     hand: H,
-    line: Line<W>,
+    line: ProgressLine<W>,
 }
 
 impl<H: Runner, W: Write + Copy> Runner for ProgressHand<H, W> {
@@ -45,12 +45,12 @@ impl<H: Runner, W: Write + Copy> Runner for ProgressHand<H, W> {
 #[derive(Drop)]
 pub struct ProgressCrew<C, W> {
     crew: C,
-    line: Line<W>,
+    line: ProgressLine<W>,
 }
 
 impl<C, W> ProgressCrew<C, W> {
     /// The crew, beside which the line is shown.
-    pub fn new(crew: C, line: Line<W>) -> ProgressCrew<C, W> {
+    pub fn new(crew: C, line: ProgressLine<W>) -> ProgressCrew<C, W> {
         ProgressCrew { crew, line }
     }
 }

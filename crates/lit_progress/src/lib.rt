@@ -8,6 +8,6 @@ mod sink;
 mod tally;
 
 pub use crew::{ProgressCrew, ProgressHand};
-pub use line::Line;
+pub use line::ProgressLine;
 pub use sink::ProgressSink;
 pub use tally::Tally;

@@ -22,23 +22,23 @@ struct Numbers {
 
 /// A line of progress at a terminal. Each part of a run has one of its own; all show the same numbers.
 #[derive(Drop)]
-pub struct Line<W> {
+pub struct ProgressLine<W> {
     alloc: Global,
     numbers: Arc<Numbers>,
     writer: W,
     is_shown: bool,
 }
 
-impl<W: Write + Copy> Line<W> {
+impl<W: Write + Copy> ProgressLine<W> {
     /// A line that is written to a writer, if it is to be shown at all. No test was begun.
-    pub fn new(alloc: Global, writer: W, is_shown: bool) -> Result<Line<W>, NoMemory> {
+    pub fn new(alloc: Global, writer: W, is_shown: bool) -> Result<ProgressLine<W>, NoMemory> {
         let numbers = Numbers {
             begun: AtomicU64::new(0),
             failed: AtomicU64::new(0),
             drawn: AtomicU64::new(0),
         };
         match Arc::new(alloc, numbers) {
-            Ok(numbers) => Ok(Line {
+            Ok(numbers) => Ok(ProgressLine {
                 alloc,
                 numbers,
                 writer,
@@ -49,9 +49,9 @@ impl<W: Write + Copy> Line<W> {
     }
 
     /// Another one, for another part of the run.
-    pub fn another(&self) -> Result<Line<W>, NoMemory> {
+    pub fn another(&self) -> Result<ProgressLine<W>, NoMemory> {
         match Arc::try_clone(&self.numbers) {
-            Ok(numbers) => Ok(Line {
+            Ok(numbers) => Ok(ProgressLine {
                 alloc: self.alloc,
                 numbers,
                 writer: self.writer,

@@ -1,6 +1,6 @@
 //! Streams beside which a line of progress is shown.
 
-use crate::line::Line;
+use crate::line::ProgressLine;
 use crate::tally::Tally;
 use std::io::Write;
 use tt_outside::{Failed, Sink};
@@ -9,13 +9,13 @@ use tt_outside::{Failed, Sink};
 #[derive(Drop)]
 pub struct ProgressSink<S, W> {
     sink: S,
-    line: Line<W>,
+    line: ProgressLine<W>,
     tally: Tally,
 }
 
 impl<S, W> ProgressSink<S, W> {
     /// The sink, beside which the line is shown.
-    pub fn new(sink: S, line: Line<W>) -> ProgressSink<S, W> {
+    pub fn new(sink: S, line: ProgressLine<W>) -> ProgressSink<S, W> {
         ProgressSink {
             sink,
             line,

@@ -23,8 +23,8 @@ use Rattle.shell_play.specs.declared.told.PlayEnd.TheVariants as play_end
 use Rattle.test_attempts.specs.Attempts.{AttemptsCourse, Seen, attempts_of, seen}
 use Rattle.test_attempts.specs.Ends.{Ends}
 use Rattle.test_attempts.specs.Finish.{Finishes}
-use Rattle.test_attempts.specs.declared.attempt.Stop.{Stop}
-use Rattle.test_attempts.specs.declared.attempt.Stop.TheVariants.{Ended, TooMuch}
+use Rattle.test_attempts.specs.declared.attempt.AttemptStop.{AttemptStop}
+use Rattle.test_attempts.specs.declared.attempt.AttemptStop.TheVariants.{Ended, TooMuch}
 use Rattle.test_attempts.specs.declared.attempts.Finished.{Finished}
 use Rattle.test_plan.specs.Plan.{IsSmall, plan_of}
 use Rattle.test_plan.specs.declared.cause.Cause.{Cause}
@@ -39,7 +39,7 @@ use Rattle.lit_test.specs.declared.outcome.Ending.{Ending}
 -- ---- attempts
 
 -- where nothing more is asked of attempts the test ended as they did
-stopped : (runs : Runs) (rest : AttemptsCourse) (stop : Stop) (kept : ℕ) (last : Cause) → Ends rest stop
+stopped : (runs : Runs) (rest : AttemptsCourse) (stop : AttemptStop) (kept : ℕ) (last : Cause) → Ends rest stop
     → ending_stopped kept last (shows runs (shown rest)) stop ≡ ending_at kept last (followed (shows runs) (ends runs) rest)
 stopped runs (over now end) (Ended is) kept last e = ap (λ (one : PlayEnd). ending_by kept last (shows runs now) (played one)) e
 stopped runs (over now end) TooMuch kept last e = absurd e

@@ -6,8 +6,8 @@ use Rattle.tt_outside.specs.declared.request.Entry.{Entry}
 use Rattle.tt_outside.specs.declared.test_data.Test.{Test}
 use Rattle.tt_outside.specs.declared.crew.Runner.{Ghosts as OfRunner}
 use Rattle.test_attempts.specs.Attempts.{seen}
-use Rattle.test_attempts.specs.declared.attempt.Stop.{Stop}
-use Rattle.test_attempts.specs.declared.attempt.Stop.TheVariants.{Ended, TooMuch}
+use Rattle.test_attempts.specs.declared.attempt.AttemptStop.{AttemptStop}
+use Rattle.test_attempts.specs.declared.attempt.AttemptStop.TheVariants.{Ended, TooMuch}
 use Rattle.test_attempts.specs.declared.attempts.Finished.{Finished}
 use Rattle.shell_play.specs.PlayOf.{course_of as left_of}
 use Rattle.test_course.specs.Course.{shown}
@@ -21,7 +21,7 @@ use Rattle.lit_test.specs.Trial.{TestCourse, TestShown, by_plan, course_of, endi
 use Rattle.lit_test.specs.declared.outcome.Ending.{Ending}
 
 -- how attempts ended that show this, by why nothing more is asked of them
-abbrev pub ending_stopped : ℕ → Cause → TestShown → Stop → Ending
+abbrev pub ending_stopped : ℕ → Cause → TestShown → AttemptStop → Ending
 ending_stopped kept last now (Ended end) = ending_by kept last now (played end)
 ending_stopped kept last now TooMuch = unresolved_by (shown_text now) cause.TooMuch
 

@@ -3,8 +3,8 @@
 -- in a newline gets one.
 use Rattle.std.specs.Prelude.{codes, ◌==◌, ◌+◌, ◌-◌, ℕ, Bool, nat_lt, if◌then◌else◌, List, [], ◌∷◌, ◌++◌, length, get_or, decimal, Option, Some, None}
 use Rattle.lit_directives.specs.declared.script.RunLine.{RunLine}
-use Rattle.shell_play.specs.declared.told.Note.{Note}
-use Rattle.shell_play.specs.declared.told.Note.TheVariants.{NoProgram, NoFile, NoWrite}
+use Rattle.shell_play.specs.declared.told.LackNote.{LackNote}
+use Rattle.shell_play.specs.declared.told.LackNote.TheVariants.{NoProgram, NoFile, NoWrite}
 use Rattle.shell_play.specs.declared.told.Told.{Told}
 use Rattle.test_plan.specs.declared.cause.Cause.{Cause}
 use Rattle.lit_test.specs.Names.{cause_name}
@@ -18,12 +18,12 @@ ended bytes = if ends_line bytes then bytes else bytes ++ codes "\n"
 
 -- ---- a command
 
-abbrev pub note_text : Note → List ℕ
+abbrev pub note_text : LackNote → List ℕ
 note_text (NoProgram word) = ended (codes "# no such program: " ++ word)
 note_text (NoFile path) = ended (codes "# no such file: " ++ path)
 note_text (NoWrite path) = ended (codes "# cannot write: " ++ path)
 
-abbrev pub notes_text : List Note → List ℕ
+abbrev pub notes_text : List LackNote → List ℕ
 notes_text [] = []
 notes_text (note ∷ notes) = note_text note ++ notes_text notes
 

@@ -8,7 +8,7 @@ use crate::text::Text;
 use crate::transcript::{add_seen, add_unresolved};
 use shell_play::PlayEnd;
 use std::alloc::Global;
-use test_attempts::{Finished, Stop};
+use test_attempts::{AttemptStop, Finished};
 use test_course::MAX_KEPT;
 use test_outcome::Outcome;
 use test_plan::{Cause, Runs};
@@ -120,11 +120,15 @@ pub(crate) fn ending_stopped(
 {
     let text = shown_text(alloc, runs, done)?;
     match done.stop {
-        Stop::TooMuch => unresolved_by(text, Cause::TooMuch),
-        Stop::Ended(PlayEnd::Unresolved) => unresolved_by(text, last),
-        Stop::Ended(PlayEnd::Passed) => {
+        AttemptStop::TooMuch => unresolved_by(text, Cause::TooMuch),
+        AttemptStop::Ended(PlayEnd::Unresolved) => unresolved_by(text, last),
+        AttemptStop::Ended(PlayEnd::Passed) => {
             resolved(done.kept, text, passed(runs.may_fail, done.attempts))
         }
-        Stop::Ended(PlayEnd::Failed { .. }) => resolved(done.kept, text, failed(runs.may_fail)),
+        AttemptStop::Ended(PlayEnd::Failed { .. }) => resolved(
+            done.kept,
+            text,
+            failed(runs.may_fail),
+        ),
     }
 }

@@ -6,7 +6,7 @@ use crate::names::cause_name;
 use crate::text::Text;
 use itoa::Buffer;
 use lit_directives::RunLine;
-use shell_play::{Note, Told};
+use shell_play::{LackNote, Told};
 use std::alloc::Global;
 use test_plan::Cause;
 use tt_base::NoMemory;
@@ -73,17 +73,17 @@ fn add_number(text: &mut Text, head: &[u8], number: u32) -> Result<(), NoMemory>
     text.append(b"\n")
 }
 
-fn add_note(text: &mut Text, note: &Note) -> Result<(), NoMemory>
+fn add_note(text: &mut Text, note: &LackNote) -> Result<(), NoMemory>
     ensures { OnOk result (text.new ≡ text.old ++ note_text note.now) }
 {
     match note {
-        Note::NoProgram(word) => add_ended(text, b"# no such program: ", word.as_slice()),
-        Note::NoFile(path) => add_ended(text, b"# no such file: ", path.as_slice()),
-        Note::NoWrite(path) => add_ended(text, b"# cannot write: ", path.as_slice()),
+        LackNote::NoProgram(word) => add_ended(text, b"# no such program: ", word.as_slice()),
+        LackNote::NoFile(path) => add_ended(text, b"# no such file: ", path.as_slice()),
+        LackNote::NoWrite(path) => add_ended(text, b"# cannot write: ", path.as_slice()),
     }
 }
 
-fn add_notes(text: &mut Text, notes: &[Note]) -> Result<(), NoMemory>
+fn add_notes(text: &mut Text, notes: &[LackNote]) -> Result<(), NoMemory>
     ensures { OnOk result (text.new ≡ text.old ++ notes_text notes.now) }
 {
     for note in notes {

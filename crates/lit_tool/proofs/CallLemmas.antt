@@ -3,13 +3,13 @@
 -- was hired. None is hard: the definitions go by cases of what was asked, and each lemma is in one of them.
 use Rattle.std.proofs.Common.{◌≡◌, ℕ, true, false, List, Ok, Err, sym, ◌∙◌, ap, subst, inl, inr}
 use Rattle.lit_words.specs.Asked.{Wanted, asked_by}
-use Rattle.lit_words.specs.declared.fault.WordsFault.{WordsFault}
+use Rattle.lit_words.specs.declared.fault.LitWordsFault.{LitWordsFault}
 use Rattle.run_report.specs.Run.{Around, NoHand, Rests, RunEnds, are_told, untried}
 use Rattle.run_report.specs.declared.ending.LitEnd.{LitEnd}
 use Rattle.lit_tool.specs.Answer.{LacksMemory, TellsNames, TellsStop}
 use Rattle.lit_tool.specs.Run.{AskedEnds, Call, LitEnds, NothingRan, Refuses, RunsFrom, RunsTold, ShowsFrom, ShowsOrRuns, TestsFrom, TreeRests}
-use Rattle.lit_tool.specs.declared.stop.Stop.{Stop}
-use Rattle.lit_tool.specs.declared.stop.Stop.TheVariants.{Words, NotText}
+use Rattle.lit_tool.specs.declared.stop.LitStop.{LitStop}
+use Rattle.lit_tool.specs.declared.stop.LitStop.TheVariants.{Words, NotText}
 use Rattle.tt_outside.specs.declared.test_data.Test.{Test}
 
 -- the status of a run that left its status alone
@@ -29,7 +29,7 @@ lacks status words c end same nobody lack =
     )
 
 -- the words are refused
-pub refused : (status : ℕ) (words : List (List ℕ)) (fault : WordsFault) (c : Call) (end : LitEnd)
+pub refused : (status : ℕ) (words : List (List ℕ)) (fault : LitWordsFault) (c : Call) (end : LitEnd)
     → asked_by words ≡ Err fault → end ≡ untried status → NoHand c.around.hired → TreeRests c.searched → Rests c.around.out
     → TellsStop (Words fault) status c.around.err → LitEnds words c end
 refused status words fault c end is same nobody still rests told =
@@ -83,7 +83,7 @@ untold_run status wanted tests c end same nobody rests from untold told =
     inr (Ok tests, from, runs)
 
 -- why no test is run
-pub refused_run : (status : ℕ) (wanted : Wanted) (stop : Stop) (c : Call) (end : LitEnd) → end ≡ untried status
+pub refused_run : (status : ℕ) (wanted : Wanted) (stop : LitStop) (c : Call) (end : LitEnd) → end ≡ untried status
     → NoHand c.around.hired → Rests c.around.out → TestsFrom c.searched wanted (Err stop)
     → TellsStop stop status c.around.err → RunsFrom wanted c end
 refused_run status wanted stop c end same nobody rests from told = inr (

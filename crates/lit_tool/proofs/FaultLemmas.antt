@@ -10,7 +10,7 @@ use Rattle.lit_dirs.specs.declared.fault.DiscoverFault.TheVariants.{Missing, Pyt
 use Rattle.lit_select.specs.Selection.{selected}
 use Rattle.lit_words.specs.Asked.{Wanted, asked_by}
 use Rattle.lit_words.specs.declared.asked.Detail.{Detail}
-use Rattle.lit_words.specs.declared.fault.WordsFault.{WordsFault}
+use Rattle.lit_words.specs.declared.fault.LitWordsFault.{LitWordsFault}
 use Rattle.lit_words.specs.declared.number.Shard.{Shard}
 use Rattle.run_report.specs.Run.{Around, are_told}
 use Rattle.run_report.specs.declared.ending.LitEnd.{LitEnd}
@@ -18,11 +18,11 @@ use Rattle.run_report.proofs.FaultLemmas.{StreamFailed, run_fault}
 use Rattle.lit_tool.specs.Answer.{TellsNames, TellsStop, status_of}
 use Rattle.lit_tool.specs.Kept.{unless_none}
 use Rattle.lit_tool.specs.Run.{AskedEnds, Call, LitEnds, RunsTold, ShowsOrRuns, TestsFrom, TreeRun}
-use Rattle.lit_tool.specs.declared.stop.Stop.{Stop}
-use Rattle.lit_tool.specs.declared.stop.Stop.TheVariants.{Words, Discovery, NoneSelected, NotText}
+use Rattle.lit_tool.specs.declared.stop.LitStop.{LitStop}
+use Rattle.lit_tool.specs.declared.stop.LitStop.TheVariants.{Words, Discovery, NoneSelected, NotText}
 
 -- the tree failed
-abbrev pub IsFault : Result (List Test) Stop → Type 0
+abbrev pub IsFault : Result (List Test) LitStop → Type 0
 IsFault outcome = outcome ≡ Err (Discovery TreeFault)
 
 -- a stop of status 3 is a fault of the tree
@@ -38,7 +38,7 @@ found_fault NoTests is = cc
 found_fault TreeFault is = refl
 found_fault NoMemory is = cc
 
-stop_fault : (stop : Stop) → status_of stop ≡ 3 → IsFault (Err stop)
+stop_fault : (stop : LitStop) → status_of stop ≡ 3 → IsFault (Err stop)
 stop_fault (Words fault) is = cc
 stop_fault NoneSelected is = cc
 stop_fault NotText is = cc
@@ -57,7 +57,7 @@ same_fault fault is = cc
 abbrev pub Failed : TreeRun → Type 0
 Failed t = Rose t.before t.now × (t.steady → ⊥)
 
-fault_of_tests : (t : TreeRun) (wanted : Wanted) (outcome : Result (List Test) Stop) → TestsFrom t wanted outcome
+fault_of_tests : (t : TreeRun) (wanted : Wanted) (outcome : Result (List Test) LitStop) → TestsFrom t wanted outcome
     → IsFault outcome → Failed t
 fault_of_tests t wanted outcome (Ok tests, searched, same) is =
     absurd (kept_calm wanted.shard (selected wanted.select wanted.drop tests) (sym same ∙ is))
@@ -67,13 +67,13 @@ fault_of_tests t wanted outcome (Err fault, searched, same) is =
 -- ---- what is told
 
 -- a stop was told with status 3: it is a fault of the tree, or the stream failed
-told_three : (stop : Stop) (status : ℕ) (err : Stream) → TellsStop stop status err → status ≡ 3
+told_three : (stop : LitStop) (status : ℕ) (err : Stream) → TellsStop stop status err → status ≡ 3
     → IsFault (Err stop) ⊎ Rose err.before err.now
 told_three stop status err (inl (four, told)) is = cc
 told_three stop status err (inr (inl (same, taken))) is = inl (stop_fault stop (sym same ∙ is))
 told_three stop status err (inr (inr (three, stopped))) is = inr stopped.1
 
-names_three : (outcome : Result (List Test) Stop) (status : ℕ) (out err : Stream) → TellsNames outcome status out err
+names_three : (outcome : Result (List Test) LitStop) (status : ℕ) (out err : Stream) → TellsNames outcome status out err
     → status ≡ 3 → IsFault outcome ⊎ StreamFailed out err
 names_three (Ok tests) status out err (inl (taken, inl (same, told))) is = cc
 names_three (Ok tests) status out err (inl (taken, inr (three, stopped))) is = inr (inr stopped.1)
@@ -93,7 +93,7 @@ tests_three false detail workers tests a end (nothing, rests, told) is =
       | inr rose ↦ inr rose
     ]
 
-ends_three : (show : Bool) (detail : Detail) (workers : ℕ) (outcome : Result (List Test) Stop) (a : Around) (end : LitEnd)
+ends_three : (show : Bool) (detail : Detail) (workers : ℕ) (outcome : Result (List Test) LitStop) (a : Around) (end : LitEnd)
     → ShowsOrRuns show detail workers outcome a end → end.status ≡ 3 → IsFault outcome ⊎ StreamFailed a.out a.err
 ends_three true detail workers outcome a end (nothing, tells) is = names_three outcome end.status a.out a.err tells is
 ends_three false detail workers (Ok tests) a end runs is =
@@ -104,7 +104,7 @@ ends_three false detail workers (Err stop) a end (nothing, rests, told) is =
       | inr rose ↦ inr (inr rose)
     ]
 
-asked_three : (asked : Result Wanted WordsFault) (t : TreeRun) (a : Around) (end : LitEnd) → AskedEnds asked t a end
+asked_three : (asked : Result Wanted LitWordsFault) (t : TreeRun) (a : Around) (end : LitEnd) → AskedEnds asked t a end
     → end.status ≡ 3 → Failed t ⊎ StreamFailed a.out a.err
 asked_three (Ok wanted) t a end (outcome, from, ends) is =
     elim (ends_three wanted.show wanted.detail wanted.workers outcome a end ends is) [

@@ -10,7 +10,7 @@ use Rattle.lit_dirs.specs.declared.fault.DiscoverFault.TheVariants.{TreeFault, N
 use Rattle.lit_find.specs.Found.{Discovers}
 use Rattle.lit_select.specs.Selection.{selected}
 use Rattle.lit_words.specs.Asked.{Wanted, wanted}
-use Rattle.lit_words.specs.declared.asked.Asked.{Asked}
+use Rattle.lit_words.specs.declared.asked.LitAsked.{LitAsked}
 use Rattle.lit_words.specs.declared.number.Shard.{Shard}
 use Rattle.tt_outside.specs.declared.test_data.Test.{Test}
 use Rattle.tt_run.specs.Run.{Stream, Written}
@@ -19,7 +19,7 @@ use Rattle.run_report.specs.Run.{Rests}
 use Rattle.lit_tool.specs.Answer.{TellsStop, WritesNames, name_line, showing, shown_names, shown_text}
 use Rattle.lit_tool.specs.Kept.{has_place, names_in, names_of, shard_from, unless_none}
 use Rattle.lit_tool.specs.Run.{NamesFrom, ShowsFrom, TestsFrom, TreeRests, TreeRun, shown_of}
-use Rattle.lit_tool.specs.declared.stop.Stop.{Stop}
+use Rattle.lit_tool.specs.declared.stop.LitStop.{LitStop}
 
 map_more : {A B : Type 0} (f : A → B) (b : Bool) (x : A) (xs : List A) (ys : List B) → map f xs ≡ ys
     → map f (if b then x ∷ xs else xs) ≡ (if b then f x ∷ ys else ys)
@@ -58,7 +58,7 @@ no_both : {A E : Type 0} (one : Result A E) (x : A) (fault : E) → one ≡ Ok x
 no_both one x fault first second = cc
 
 -- names are written
-names_by : (t : TreeRun) (wanted : Wanted) (outcome : Result (List Test) Stop) (named : Result (List (List ℕ)) Stop)
+names_by : (t : TreeRun) (wanted : Wanted) (outcome : Result (List Test) LitStop) (named : Result (List (List ℕ)) LitStop)
     (names : List (List ℕ)) (status : ℕ) (out err : Stream) → TestsFrom t wanted outcome → named ≡ Ok names
     → named ≡ names_in outcome → Written (cannot_write (codes "lit")) (showing (shown_names names)) status out err
     → ShowsFrom t wanted status out err
@@ -71,7 +71,7 @@ names_by t wanted (Ok tests) named names status out err from is same written =
     )
 names_by t wanted (Err stop) named names status out err from is same written = absurd (no_both named names stop is same)
 
-pub shows_names : (t : TreeRun) (wanted : Wanted) (named : Result (List (List ℕ)) Stop) (names : List (List ℕ)) (status : ℕ)
+pub shows_names : (t : TreeRun) (wanted : Wanted) (named : Result (List (List ℕ)) LitStop) (names : List (List ℕ)) (status : ℕ)
     (out err : Stream) → named ≡ Ok names → NamesFrom t wanted named → WritesNames names status out err
     → ShowsFrom t wanted status out err
 shows_names t wanted named names status out err is from (inl lack) = inl lack
@@ -79,15 +79,15 @@ shows_names t wanted named names status out err is (found, searched, same) (inr 
     names_by t wanted (shown_of wanted found) named names status out err (found, searched, refl) is same written
 
 -- why there are none is told
-stop_by : (t : TreeRun) (wanted : Wanted) (outcome : Result (List Test) Stop) (named : Result (List (List ℕ)) Stop)
-    (stop : Stop) (status : ℕ) (out err : Stream) → TestsFrom t wanted outcome → named ≡ Err stop
+stop_by : (t : TreeRun) (wanted : Wanted) (outcome : Result (List Test) LitStop) (named : Result (List (List ℕ)) LitStop)
+    (stop : LitStop) (status : ℕ) (out err : Stream) → TestsFrom t wanted outcome → named ≡ Err stop
     → named ≡ names_in outcome → Rests out → TellsStop stop status err → ShowsFrom t wanted status out err
 stop_by t wanted (Ok tests) named stop status out err from is same rests told =
     absurd (no_both named (names_of tests) stop same is)
 stop_by t wanted (Err other) named stop status out err from is same rests told =
     inr (Err other, from, (rests, subst (λ s. TellsStop s status err) (err_same named stop other is same) told))
 
-pub shows_stop : (t : TreeRun) (wanted : Wanted) (named : Result (List (List ℕ)) Stop) (stop : Stop) (status : ℕ)
+pub shows_stop : (t : TreeRun) (wanted : Wanted) (named : Result (List (List ℕ)) LitStop) (stop : LitStop) (status : ℕ)
     (out err : Stream) → named ≡ Err stop → NamesFrom t wanted named → Rests out → TellsStop stop status err
     → ShowsFrom t wanted status out err
 shows_stop t wanted named stop status out err is (found, searched, same) rests told =
@@ -103,8 +103,8 @@ all_selected : (select drop : Option Ere) (tests : List Test) → select ≡ Non
 all_selected select drop tests no_select no_drop = rw (no_select, no_drop)
 
 -- then the names of those found are those of all tests
-pub all_named : {E : Type 0} (t : TreeRun) (asked : Asked) (tests : List Test) (names : List (List ℕ))
-    (result : Result (Result (List (List ℕ)) Stop) E) → asked.select ≡ None → asked.drop ≡ None
+pub all_named : {E : Type 0} (t : TreeRun) (asked : LitAsked) (tests : List Test) (names : List (List ℕ))
+    (result : Result (Result (List (List ℕ)) LitStop) E) → asked.select ≡ None → asked.drop ≡ None
     → Discovers t.nodes t.base asked.paths (Ok tests) → TreeRests t → names ≡ names_of tests
     → IfOk result (λ kept. kept ≡ unless_none asked.shard names) → IfOk result (NamesFrom t (wanted asked))
 all_named t asked tests names (Err fault) no_select no_drop found rests same is = tt

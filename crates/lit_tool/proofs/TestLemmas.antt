@@ -7,7 +7,7 @@ use Rattle.lit_words.specs.Asked.{Wanted}
 use Rattle.lit_words.specs.declared.number.Shard.{Shard}
 use Rattle.tt_outside.specs.declared.test_data.Test.{Test}
 use Rattle.lit_tool.specs.Kept.{has_place, kept_of, shard_from, unless_none}
-use Rattle.lit_tool.specs.declared.stop.Stop.{Stop}
+use Rattle.lit_tool.specs.declared.stop.LitStop.{LitStop}
 
 longer : {A : Type 0} (b : Bool) (x : A) (xs ys : List A) → length xs ≤ length ys
     → length (if b then x ∷ xs else xs) ≤ length (x ∷ ys)
@@ -40,11 +40,11 @@ unless_few (Some s) (test ∷ tests) n few =
     (let shorter = shard_few s 0 (test ∷ tests) in omega (arith, shorter, few))
 
 -- no more tests are kept than were found
-pub kept_few : {E : Type 0} (wanted : Wanted) (tests : List Test) (n : ℕ) (result : Result (Result (List Test) Stop) E)
+pub kept_few : {E : Type 0} (wanted : Wanted) (tests : List Test) (n : ℕ) (result : Result (Result (List Test) LitStop) E)
     → length tests ≤ n → IfOk result (λ kept. kept ≡ kept_of wanted tests)
     → IfOk result (λ kept. IfOk kept (λ some. length some ≤ n))
 kept_few wanted tests n (Err fault) few is = tt
 kept_few wanted tests n (Ok kept) few is =
-    subst (λ (k : Result (List Test) Stop). IfOk k (λ some. length some ≤ n)) (sym is)
+    subst (λ (k : Result (List Test) LitStop). IfOk k (λ some. length some ≤ n)) (sym is)
     (unless_few wanted.shard (selected wanted.select wanted.drop tests) n
     (let shorter = selected_few wanted.select wanted.drop tests in omega (arith, shorter, few)))

@@ -5,8 +5,8 @@ use Rattle.std.specs.Prelude.{◌≡◌, ◌⊎◌, ℕ, List, [], ◌++◌, cod
 use Rattle.std.specs.List.{flat_map}
 use Rattle.lit_dirs.specs.declared.fault.DiscoverFault.TheVariants.{TreeFault}
 use Rattle.lit_tool.specs.Message.{text_of}
-use Rattle.lit_tool.specs.declared.stop.Stop.{Stop}
-use Rattle.lit_tool.specs.declared.stop.Stop.TheVariants.{Discovery}
+use Rattle.lit_tool.specs.declared.stop.LitStop.{LitStop}
+use Rattle.lit_tool.specs.declared.stop.LitStop.TheVariants.{Discovery}
 use Rattle.run_report.specs.Message.{unplaced}
 use Rattle.run_report.specs.Run.{Rests}
 use Rattle.tt_outside.specs.declared.test_data.Test.{Test}
@@ -42,12 +42,12 @@ showing text = record { out = text; err = []; status = 0 }
 
 -- ---- a stop
 
-abbrev pub status_of : Stop → ℕ
+abbrev pub status_of : LitStop → ℕ
 status_of (Discovery TreeFault) = 3
 status_of stop = 2
 
 -- it is told, unless memory is wanting
-abbrev pub TellsStop : Stop → ℕ → Stream → Type 0
+abbrev pub TellsStop : LitStop → ℕ → Stream → Type 0
 TellsStop stop status err =
     ((status ≡ 4) × Told (out_of_memory (codes "lit")) err) ⊎ Answered (unplaced (text_of stop)) (status_of stop) status err
 
@@ -59,6 +59,6 @@ WritesNames names status out err =
     LacksMemory status out err ⊎ Written (cannot_write (codes "lit")) (showing (shown_names names)) status out err
 
 -- the names of these tests are written, or why there are none
-abbrev pub TellsNames : Result (List Test) Stop → ℕ → Stream → Stream → Type 0
+abbrev pub TellsNames : Result (List Test) LitStop → ℕ → Stream → Stream → Type 0
 TellsNames (Ok tests) status out err = Written (cannot_write (codes "lit")) (showing (shown_text tests)) status out err
 TellsNames (Err stop) status out err = Rests out × TellsStop stop status err

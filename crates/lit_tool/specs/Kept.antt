@@ -5,8 +5,8 @@ use Rattle.std.specs.Prelude.{ℕ, ◌+◌, ◌%◌, ◌==◌, Bool, if◌then�
 use Rattle.lit_select.specs.Selection.{selected}
 use Rattle.lit_words.specs.Asked.{Wanted}
 use Rattle.lit_words.specs.declared.number.Shard.{Shard}
-use Rattle.lit_tool.specs.declared.stop.Stop.{Stop}
-use Rattle.lit_tool.specs.declared.stop.Stop.TheVariants.{NoneSelected}
+use Rattle.lit_tool.specs.declared.stop.LitStop.{LitStop}
+use Rattle.lit_tool.specs.declared.stop.LitStop.TheVariants.{NoneSelected}
 use Rattle.tt_outside.specs.declared.test_data.Test.{Test}
 
 -- the place of a test, counted from 0, makes it one of a shard
@@ -24,12 +24,12 @@ sharded None items = items
 sharded (Some shard) items = shard_from shard 0 items
 
 -- there is a test before shards are made
-abbrev pub unless_none : {A : Type 0} → Option Shard → List A → Result (List A) Stop
+abbrev pub unless_none : {A : Type 0} → Option Shard → List A → Result (List A) LitStop
 unless_none shard [] = Err NoneSelected
 unless_none shard (item ∷ items) = Ok (sharded shard (item ∷ items))
 
 -- the tests that are kept by what is asked for
-abbrev pub kept_of : Wanted → List Test → Result (List Test) Stop
+abbrev pub kept_of : Wanted → List Test → Result (List Test) LitStop
 kept_of wanted tests = unless_none wanted.shard (selected wanted.select wanted.drop tests)
 
 -- the names of tests

@@ -4,13 +4,13 @@ use Rattle.lit_dirs.specs.declared.fault.DiscoverFault.{DiscoverFault}
 use Rattle.lit_dirs.specs.declared.fault.DiscoverFault.TheVariants.{Missing, PythonConfig, NoSuite, BadSuite, SuiteTooLarge, TooMany, TooManyItems, NoTests, TreeFault, NoMemory}
 use Rattle.lit_suite.specs.declared.suite_file.SuiteFault.{SuiteFault}
 use Rattle.lit_suite.specs.declared.suite_file.SuiteFault.TheVariants.{NotToml, MissingKey, BadVersion, UnknownKey, BadValue}
-use Rattle.lit_words.specs.declared.fault.WordsFault.{WordsFault}
-use Rattle.lit_words.specs.declared.fault.WordsFault.TheVariants.{Faulty, NoPath, Misfit, BadRegex}
-use Rattle.lit_tool.specs.declared.stop.Stop.{Stop}
-use Rattle.lit_tool.specs.declared.stop.Stop.TheVariants.{Words, Discovery, NoneSelected, NotText}
+use Rattle.lit_words.specs.declared.fault.LitWordsFault.{LitWordsFault}
+use Rattle.lit_words.specs.declared.fault.LitWordsFault.TheVariants.{Faulty, NoPath, Misfit, BadRegex}
+use Rattle.lit_tool.specs.declared.stop.LitStop.{LitStop}
+use Rattle.lit_tool.specs.declared.stop.LitStop.TheVariants.{Words, Discovery, NoneSelected, NotText}
 use Rattle.opt_words.specs.Fault.{text_before, text_behind}
 
-abbrev pub words_text : WordsFault → List ℕ
+abbrev pub words_text : LitWordsFault → List ℕ
 words_text (Faulty fault word) = text_before fault ++ word ++ text_behind fault
 words_text NoPath = codes "a path is needed"
 words_text Misfit = codes "these options don't fit together"
@@ -37,7 +37,7 @@ discovery_text TreeFault = codes "cannot read the tree"
 discovery_text NoMemory = codes "out of memory"
 
 -- what is told of a stop
-abbrev pub text_of : Stop → List ℕ
+abbrev pub text_of : LitStop → List ℕ
 text_of (Words fault) = words_text fault
 text_of (Discovery fault) = discovery_text fault
 text_of NoneSelected = codes "no tests selected"

@@ -13,13 +13,13 @@ use Rattle.lit_dirs.specs.declared.fault.DiscoverFault.{DiscoverFault}
 use Rattle.lit_dirs.specs.declared.fault.DiscoverFault.TheVariants.{TreeFault, NoMemory}
 use Rattle.lit_words.specs.Asked.{Wanted, asked_by}
 use Rattle.lit_words.specs.declared.asked.Detail.{Detail}
-use Rattle.lit_words.specs.declared.fault.WordsFault.{WordsFault}
+use Rattle.lit_words.specs.declared.fault.LitWordsFault.{LitWordsFault}
 use Rattle.run_report.specs.Run.{Around, NoHand, Rests, RunEnds, are_told, around, untried}
 use Rattle.run_report.specs.declared.ending.LitEnd.{LitEnd}
 use Rattle.lit_tool.specs.Answer.{LacksMemory, TellsNames, TellsStop}
 use Rattle.lit_tool.specs.Kept.{kept_of, names_in}
-use Rattle.lit_tool.specs.declared.stop.Stop.{Stop}
-use Rattle.lit_tool.specs.declared.stop.Stop.TheVariants.{Words, Discovery, NotText}
+use Rattle.lit_tool.specs.declared.stop.LitStop.{LitStop}
+use Rattle.lit_tool.specs.declared.stop.LitStop.TheVariants.{Words, Discovery, NotText}
 
 -- ---- the tree
 
@@ -52,17 +52,17 @@ TreeSearched t paths found =
     × (found ≢ Err TreeFault → TreeRests t) × (found ≢ Err NoMemory)
 
 -- the tests that are kept of those found, or why there are none
-abbrev pub shown_of : Wanted → Result (List Test) DiscoverFault → Result (List Test) Stop
+abbrev pub shown_of : Wanted → Result (List Test) DiscoverFault → Result (List Test) LitStop
 shown_of wanted (Ok tests) = kept_of wanted tests
 shown_of wanted (Err fault) = Err (Discovery fault)
 
 -- the tree was searched, and these tests are kept, or why there are none
-abbrev pub TestsFrom : TreeRun → Wanted → Result (List Test) Stop → Type 0
+abbrev pub TestsFrom : TreeRun → Wanted → Result (List Test) LitStop → Type 0
 TestsFrom t wanted outcome =
     (found : Result (List Test) DiscoverFault) × TreeSearched t wanted.paths found × (outcome ≡ shown_of wanted found)
 
 -- the same, of their names
-abbrev pub NamesFrom : TreeRun → Wanted → Result (List (List ℕ)) Stop → Type 0
+abbrev pub NamesFrom : TreeRun → Wanted → Result (List (List ℕ)) LitStop → Type 0
 NamesFrom t wanted named =
     (found : Result (List Test) DiscoverFault) × TreeSearched t wanted.paths found
     × (named ≡ names_in (shown_of wanted found))
@@ -85,7 +85,7 @@ abbrev pub NothingRan : Around → LitEnd → Type 0
 NothingRan a end = (end ≡ untried end.status) × NoHand a.hired
 
 -- where nothing is to be run, why is told
-abbrev pub Refuses : Stop → Around → LitEnd → Type 0
+abbrev pub Refuses : LitStop → Around → LitEnd → Type 0
 Refuses stop a end = NothingRan a end × Rests a.out × TellsStop stop end.status a.err
 
 -- tests are run, unless there is one of which the report can't tell
@@ -94,19 +94,19 @@ RunsTold true detail workers tests a end = RunEnds detail workers tests a end
 RunsTold false detail workers tests a end = Refuses NotText a end
 
 -- tests are run, or why there are none is told
-abbrev pub RunsTests : Detail → ℕ → Result (List Test) Stop → Around → LitEnd → Type 0
+abbrev pub RunsTests : Detail → ℕ → Result (List Test) LitStop → Around → LitEnd → Type 0
 RunsTests detail workers (Ok tests) a end = RunsTold (are_told detail tests) detail workers tests a end
 RunsTests detail workers (Err stop) a end = Refuses stop a end
 
 -- their names are shown where that is asked, and else they are run
-abbrev pub ShowsOrRuns : Bool → Detail → ℕ → Result (List Test) Stop → Around → LitEnd → Type 0
+abbrev pub ShowsOrRuns : Bool → Detail → ℕ → Result (List Test) LitStop → Around → LitEnd → Type 0
 ShowsOrRuns true detail workers outcome a end = NothingRan a end × TellsNames outcome end.status a.out a.err
 ShowsOrRuns false detail workers outcome a end = RunsTests detail workers outcome a end
 
 -- what the words ask for is done, or they are refused and the tree is left alone
-abbrev pub AskedEnds : Result Wanted WordsFault → TreeRun → Around → LitEnd → Type 0
+abbrev pub AskedEnds : Result Wanted LitWordsFault → TreeRun → Around → LitEnd → Type 0
 AskedEnds (Ok wanted) t a end =
-    (outcome : Result (List Test) Stop) × TestsFrom t wanted outcome × ShowsOrRuns wanted.show wanted.detail wanted.workers outcome a end
+    (outcome : Result (List Test) LitStop) × TestsFrom t wanted outcome × ShowsOrRuns wanted.show wanted.detail wanted.workers outcome a end
 AskedEnds (Err fault) t a end = TreeRests t × Refuses (Words fault) a end
 
 -- how a call ends, by the texts of its words: memory is wanting before a byte, or what they ask for is done
@@ -121,10 +121,10 @@ LitEnds words c end =
 abbrev pub ShowsFrom : TreeRun → Wanted → ℕ → Stream → Stream → Type 0
 ShowsFrom t wanted status out err =
     LacksMemory status out err
-    ⊎ ((outcome : Result (List Test) Stop) × TestsFrom t wanted outcome × TellsNames outcome status out err)
+    ⊎ ((outcome : Result (List Test) LitStop) × TestsFrom t wanted outcome × TellsNames outcome status out err)
 
 -- tests are run, or memory is wanting before that
 abbrev pub RunsFrom : Wanted → Call → LitEnd → Type 0
 RunsFrom wanted c end =
     (NothingRan c.around end × LacksMemory end.status c.around.out c.around.err)
-    ⊎ ((outcome : Result (List Test) Stop) × TestsFrom c.searched wanted outcome × RunsTests wanted.detail wanted.workers outcome c.around end)
+    ⊎ ((outcome : Result (List Test) LitStop) × TestsFrom c.searched wanted outcome × RunsTests wanted.detail wanted.workers outcome c.around end)

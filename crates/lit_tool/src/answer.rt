@@ -5,7 +5,7 @@ ghost use Rattle.lit_tool.specs.Answer.{TellsStop, WritesNames, name_line, shown
 ghost use Rattle.lit_tool.specs.Message.{text_of};
 
 use crate::message::message_of;
-use crate::stop::Stop;
+use crate::stop::LitStop;
 use lit_dirs::DiscoverFault;
 use run_report::LIT;
 use std::alloc::Global;
@@ -55,18 +55,18 @@ pub(crate) fn write_names<O: Sink, E: Sink>(
 }
 
 /// The status of a stop.
-fn status_of(stop: &Stop) -> u8
+fn status_of(stop: &LitStop) -> u8
     ensures value { result ≡ status_of stop.now }
     ensures small { result ≤ 3 }
 {
     match stop {
-        Stop::Discovery(DiscoverFault::TreeFault) => 3,
+        LitStop::Discovery(DiscoverFault::TreeFault) => 3,
         _ => 2,
     }
 }
 
 /// Tells a stop, and answers its status, 3 at a fault of the stream, or 4 for want of memory.
-pub(crate) fn refuse<E: Sink>(alloc: Global, stop: &Stop, err: &mut E) -> u8
+pub(crate) fn refuse<E: Sink>(alloc: Global, stop: &LitStop, err: &mut E) -> u8
     ensures { TellsStop stop.now result (stream_of E.Sink err.old err.new) }
 {
     let Ok(message) = message_of(alloc, stop) else {

@@ -4,10 +4,10 @@ ghost use Rattle.lit_words.specs.Asked.{wanted};
 ghost use Rattle.lit_words.specs.Number.{IsShard};
 ghost use Rattle.lit_tool.specs.Kept.{has_place, kept_of, names_in, names_of, shard_from, unless_none};
 
-use crate::stop::Stop;
+use crate::stop::LitStop;
 use lit_select::select;
 use lit_suite::shard;
-use lit_words::{Asked, Shard};
+use lit_words::{LitAsked, Shard};
 use std::alloc::Global;
 use tt_base::{Bytes, Items, NoMemory};
 use tt_outside::Test;
@@ -42,12 +42,12 @@ pub(crate) fn unless_none<A: Drop>(
     alloc: Global,
     shard: Option<Shard>,
     items: Items<A>,
-) -> Result<Result<Items<A>, Stop>, NoMemory>
+) -> Result<Result<Items<A>, LitStop>, NoMemory>
     requires { IfSome shard IsShard }
     ensures { IfOk result (λ kept. kept ≡ unless_none shard items) }
 {
     if items.is_empty() {
-        return Ok(Err(Stop::NoneSelected));
+        return Ok(Err(LitStop::NoneSelected));
     }
     match shard {
         Some(part) => Ok(Ok(in_shard(alloc, part, items)?)),
@@ -69,8 +69,8 @@ fn names_of(alloc: Global, tests: Items<Test>) -> Result<Items<Bytes>, NoMemory>
 /// The names of the tests, where there are any.
 pub(crate) fn names_in(
     alloc: Global,
-    tests: Result<Items<Test>, Stop>,
-) -> Result<Result<Items<Bytes>, Stop>, NoMemory>
+    tests: Result<Items<Test>, LitStop>,
+) -> Result<Result<Items<Bytes>, LitStop>, NoMemory>
     ensures { IfOk result (λ names. names ≡ names_in tests) }
 {
     match tests {
@@ -82,9 +82,9 @@ pub(crate) fn names_in(
 /// The tests that are kept by what is asked for.
 pub(crate) fn kept_of(
     alloc: Global,
-    asked: &Asked,
+    asked: &LitAsked,
     tests: Items<Test>,
-) -> Result<Result<Items<Test>, Stop>, NoMemory>
+) -> Result<Result<Items<Test>, LitStop>, NoMemory>
     requires { IfSome asked.now.shard IsShard }
     ensures { IfOk result (λ kept. kept ≡ kept_of (wanted asked.now) tests) }
 {

@@ -11,4 +11,4 @@ mod tests;
 
 pub use run::lit_run;
 pub use run_report::{LIT, LitEnd};
-pub use stop::Stop;
+pub use stop::LitStop;

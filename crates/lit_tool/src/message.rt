@@ -3,10 +3,10 @@ ghost use Rattle.std.specs.Prelude.{◌≡◌, ◌++◌, IfOk};
 ghost use Rattle.run_report.specs.Message.{unplaced};
 ghost use Rattle.lit_tool.specs.Message.{discovery_text, kind_text, text_of, words_text};
 
-use crate::stop::Stop;
+use crate::stop::LitStop;
 use lit_dirs::DiscoverFault;
 use lit_suite::SuiteFault;
-use lit_words::WordsFault;
+use lit_words::LitWordsFault;
 use std::alloc::Global;
 use tt_base::{Bytes, NoMemory};
 
@@ -21,7 +21,7 @@ fn named(alloc: Global, before: &[u8], name: &Bytes, behind: &[u8]) -> Result<By
 }
 
 /// The message that tells a stop, with the program's name before it.
-pub(crate) fn message_of(alloc: Global, stop: &Stop) -> Result<Bytes, NoMemory>
+pub(crate) fn message_of(alloc: Global, stop: &LitStop) -> Result<Bytes, NoMemory>
     ensures { IfOk result (λ message. message ≡ unplaced (text_of stop.now)) }
 {
     let text = text_of(alloc, stop)?;
@@ -32,27 +32,27 @@ pub(crate) fn message_of(alloc: Global, stop: &Stop) -> Result<Bytes, NoMemory>
 }
 
 /// What is told of a stop.
-fn text_of(alloc: Global, stop: &Stop) -> Result<Bytes, NoMemory>
+fn text_of(alloc: Global, stop: &LitStop) -> Result<Bytes, NoMemory>
     ensures { IfOk result (λ text. text ≡ text_of stop.now) }
 {
     match stop {
-        Stop::Words(fault) => words_text(alloc, fault),
-        Stop::Discovery(fault) => discovery_text(alloc, fault),
-        Stop::NoneSelected => Bytes::from_slice(alloc, b"no tests selected"),
-        Stop::NotText => Bytes::from_slice(alloc, b"name isn't text"),
+        LitStop::Words(fault) => words_text(alloc, fault),
+        LitStop::Discovery(fault) => discovery_text(alloc, fault),
+        LitStop::NoneSelected => Bytes::from_slice(alloc, b"no tests selected"),
+        LitStop::NotText => Bytes::from_slice(alloc, b"name isn't text"),
     }
 }
 
-fn words_text(alloc: Global, fault: &WordsFault) -> Result<Bytes, NoMemory>
+fn words_text(alloc: Global, fault: &LitWordsFault) -> Result<Bytes, NoMemory>
     ensures { IfOk result (λ text. text ≡ words_text fault.now) }
 {
     match fault {
-        WordsFault::Faulty(fault, word) => {
+        LitWordsFault::Faulty(fault, word) => {
             named(alloc, fault.text_before(), word, fault.text_behind())
         }
-        WordsFault::NoPath => Bytes::from_slice(alloc, b"a path is needed"),
-        WordsFault::Misfit => Bytes::from_slice(alloc, b"these options don't fit together"),
-        WordsFault::BadRegex(value) => named(alloc, b"bad regex '", value, b"'"),
+        LitWordsFault::NoPath => Bytes::from_slice(alloc, b"a path is needed"),
+        LitWordsFault::Misfit => Bytes::from_slice(alloc, b"these options don't fit together"),
+        LitWordsFault::BadRegex(value) => named(alloc, b"bad regex '", value, b"'"),
     }
 }
 

@@ -8,9 +8,9 @@ ghost use Rattle.lit_words.specs.Number.{IsShard};
 ghost use Rattle.lit_tool.specs.Run.{LitEnds, RunsFrom, ShowsFrom, call, tree};
 
 use crate::answer::{refuse, write_names};
-use crate::stop::Stop;
+use crate::stop::LitStop;
 use crate::tests::{names_from, tests_from};
-use lit_words::{Asked, WordsFail, asked_by};
+use lit_words::{LitAsked, LitWordsFail, asked_by};
 use run_report::{LIT, LitEnd, are_told, run_and_report};
 use std::alloc::Global;
 use std::sync::Wait;
@@ -68,10 +68,10 @@ fn lit_on<R: Threads + Wait + Sync, T: Tree, C: Crew, O: Sink, E: Sink>(
 {
     let asked = match asked_by(alloc, words) {
         Ok(asked) => asked,
-        Err(WordsFail::Bad(fault)) => {
-            return LitEnd::untried(alloc, refuse(alloc, &Stop::Words(fault), err));
+        Err(LitWordsFail::Bad(fault)) => {
+            return LitEnd::untried(alloc, refuse(alloc, &LitStop::Words(fault), err));
         }
-        Err(WordsFail::NoMemory) => return LitEnd::untried(alloc, LIT.out_of_memory(err)),
+        Err(LitWordsFail::NoMemory) => return LitEnd::untried(alloc, LIT.out_of_memory(err)),
     };
     if asked.show {
         return LitEnd::untried(alloc, show(alloc, &asked, from, out, err));
@@ -82,7 +82,7 @@ fn lit_on<R: Threads + Wait + Sync, T: Tree, C: Crew, O: Sink, E: Sink>(
 /// Shows the names of the tests, and answers the status.
 fn show<T: Tree, O: Sink, E: Sink>(
     alloc: Global,
-    asked: &Asked,
+    asked: &LitAsked,
     from: &mut T,
     out: &mut O,
     err: &mut E,
@@ -105,7 +105,7 @@ fn show<T: Tree, O: Sink, E: Sink>(
 fn run<R: Threads + Wait + Sync, T: Tree, C: Crew, O: Sink, E: Sink>(
     rt: &R,
     alloc: Global,
-    asked: &Asked,
+    asked: &LitAsked,
     from: &mut T,
     crew: &mut C,
     out: &mut O,
@@ -125,7 +125,7 @@ fn run<R: Threads + Wait + Sync, T: Tree, C: Crew, O: Sink, E: Sink>(
     match tests_from(alloc, asked, from) {
         Ok(Ok(tests)) => {
             if !are_told(asked.detail, tests.as_slice()) {
-                return LitEnd::untried(alloc, refuse(alloc, &Stop::NotText, err));
+                return LitEnd::untried(alloc, refuse(alloc, &LitStop::NotText, err));
             }
             run_and_report(rt, alloc, asked, &tests, crew, out, err)
         }

@@ -12,11 +12,11 @@ use Rattle.lit_words.specs.Fault.{◌>>=◌}
 use Rattle.lit_words.specs.Given.{given_by, is_given}
 use Rattle.lit_words.specs.Number.{IsShard, shard_of, workers_of}
 use Rattle.lit_words.specs.Paths.{paths_of, some_paths}
-use Rattle.lit_words.specs.declared.asked.Asked.{Asked}
+use Rattle.lit_words.specs.declared.asked.LitAsked.{LitAsked}
 use Rattle.lit_words.specs.declared.asked.Detail.{Detail}
 use Rattle.lit_words.specs.declared.asked.Detail.TheVariants.{Quiet, Whole, Verbose, Plain, Json}
-use Rattle.lit_words.specs.declared.fault.WordsFault.{WordsFault}
-use Rattle.lit_words.specs.declared.fault.WordsFault.TheVariants.{Misfit}
+use Rattle.lit_words.specs.declared.fault.LitWordsFault.{LitWordsFault}
+use Rattle.lit_words.specs.declared.fault.LitWordsFault.TheVariants.{Misfit}
 use Rattle.lit_words.specs.declared.number.Shard.{Shard}
 
 -- what is asked for, with expressions as trees
@@ -29,7 +29,7 @@ pub record Wanted : Type 0 where
   pub drop : Option Tree
   pub shard : Option Shard
 
-abbrev pub wanted : Asked → Wanted
+abbrev pub wanted : LitAsked → Wanted
 wanted asked = record {
   paths = asked.paths;
   show = asked.show;
@@ -53,13 +53,13 @@ abbrev pub is_text_asked : List Given → Bool
 is_text_asked all = is_given 0 all || is_given 1 all || is_given 2 all || is_given 9 all
 
 -- what is shown: JSON goes with none of these
-abbrev pub detail_of : List Given → Result Detail WordsFault
+abbrev pub detail_of : List Given → Result Detail LitWordsFault
 detail_of all =
     if is_given 10 all then (if is_text_asked all then Err Misfit else Ok Json)
     else Ok (text_detail_of all)
 
 -- what is asked for by what the words give, or the first refusal
-abbrev pub wanted_by : List (List ℕ) → List Given → Result Wanted WordsFault
+abbrev pub wanted_by : List (List ℕ) → List Given → Result Wanted LitWordsFault
 wanted_by words all = do
   paths ← some_paths (paths_of words all)
   detail ← detail_of all
@@ -77,13 +77,13 @@ wanted_by words all = do
     shard = shard;
   })
 
-abbrev pub asked_by : List (List ℕ) → Result Wanted WordsFault
+abbrev pub asked_by : List (List ℕ) → Result Wanted LitWordsFault
 asked_by words = do
   all ← given_by words
   wanted_by words all
 
 -- there is a path, and the numbers are within their bounds
-pub record IsSound (asked : Asked) : Type 0 where
+pub record IsSound (asked : LitAsked) : Type 0 where
   pub some : 0 < length asked.paths
   pub least : 1 ≤ asked.workers
   pub most : asked.workers ≤ 64

@@ -10,7 +10,7 @@ use Rattle.opt_words.specs.declared.row.Form.TheVariants.{Flag, Number, Once}
 use Rattle.opt_words.specs.declared.row.Row.{Row}
 use Rattle.opt_words.specs.declared.step.Given.{Given}
 use Rattle.lit_words.specs.Fault.{faulty}
-use Rattle.lit_words.specs.declared.fault.WordsFault.{WordsFault}
+use Rattle.lit_words.specs.declared.fault.LitWordsFault.{LitWordsFault}
 use Rattle.lit_words.specs.declared.given.GivenWords.{GivenWords}
 
 abbrev pub row : List ℕ → Form → Row
@@ -25,11 +25,11 @@ rows =
     ∷ row (codes "show-tests") Flag ∷ row (codes "json") Flag ∷ []
 
 -- what the words give in order, or the first faulty word
-abbrev pub unless_faulty : List (List ℕ) → Result (List Given) WordFault → Result (List Given) WordsFault
+abbrev pub unless_faulty : List (List ℕ) → Result (List Given) WordFault → Result (List Given) LitWordsFault
 unless_faulty words (Ok all) = Ok all
 unless_faulty words (Err fault) = Err (faulty words fault)
 
-abbrev pub given_by : List (List ℕ) → Result (List Given) WordsFault
+abbrev pub given_by : List (List ℕ) → Result (List Given) LitWordsFault
 given_by words = unless_faulty words (givens rows false words)
 
 -- the words were read, and all that they give stands in them

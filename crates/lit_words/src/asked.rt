@@ -7,7 +7,7 @@ ghost use Rattle.lit_words.specs.Fault.{Gives};
 ghost use Rattle.lit_words.specs.Given.{IsRead};
 
 use crate::expression::expression_of;
-use crate::fault::{WordsFail, WordsFault, refuse};
+use crate::fault::{LitWordsFail, LitWordsFault, refuse};
 use crate::given::{GivenWords, given_by};
 use crate::number::{Shard, shard_of, workers_of};
 use crate::paths::some_paths;
@@ -32,7 +32,7 @@ pub enum Detail {
 
 /// What the words ask for.
 #[derive(Drop, Debug)]
-pub struct Asked {
+pub struct LitAsked {
     /// The paths of tests and of directories of tests, as they were given.
     pub paths: Items<Bytes>,
     /// Whether the names of the tests are shown, and none is run.
@@ -80,7 +80,7 @@ fn is_text_asked(given: &GivenWords) -> bool
 }
 
 /// What is shown.
-fn detail_of(given: &GivenWords) -> Result<Detail, WordsFail>
+fn detail_of(given: &GivenWords) -> Result<Detail, LitWordsFail>
     requires { IsTally 11 given.now.all given.now.settings }
     ensures { Gives (λ detail. detail) result (detail_of given.now.all) }
 {
@@ -88,7 +88,7 @@ fn detail_of(given: &GivenWords) -> Result<Detail, WordsFail>
         return Ok(text_detail_of(given));
     }
     if is_text_asked(given) {
-        return refuse(WordsFault::Misfit);
+        return refuse(LitWordsFault::Misfit);
     }
     Ok(Detail::Json)
 }
@@ -110,7 +110,7 @@ fn text_detail_of(given: &GivenWords) -> Detail
 }
 
 /// What is asked for by what the words give.
-fn wanted_by(alloc: Global, words: &[String], given: &GivenWords) -> Result<Asked, WordsFail>
+fn wanted_by(alloc: Global, words: &[String], given: &GivenWords) -> Result<LitAsked, LitWordsFail>
     requires { IsRead (texts words.now) given.now }
     ensures value { Gives wanted result (wanted_by (texts words.now) given.now.all) }
     ensures sound { IfOk result IsSound }
@@ -122,7 +122,7 @@ fn wanted_by(alloc: Global, words: &[String], given: &GivenWords) -> Result<Aske
     let shard = shard_of(alloc, words, last[NUM_SHARDS], last[RUN_SHARD])?;
     let select = expression_of(alloc, words, last[SELECT])?;
     let drop = expression_of(alloc, words, last[DROP])?;
-    Ok(Asked {
+    Ok(LitAsked {
         paths,
         show: given.has(SHOW_TESTS),
         detail,
@@ -134,7 +134,7 @@ fn wanted_by(alloc: Global, words: &[String], given: &GivenWords) -> Result<Aske
 }
 
 /// What the words ask for, which are without the program's name.
-pub fn asked_by(alloc: Global, words: &[String]) -> Result<Asked, WordsFail>
+pub fn asked_by(alloc: Global, words: &[String]) -> Result<LitAsked, LitWordsFail>
     ensures value { Gives wanted result (asked_by (texts words.now)) }
     ensures sound { IfOk result IsSound }
 {

@@ -6,20 +6,20 @@ ghost use Rattle.opt_words.specs.Step.{Stands, texts};
 ghost use Rattle.lit_words.specs.Expression.{expression_of, tree_of};
 ghost use Rattle.lit_words.specs.Fault.{Gives};
 
-use crate::fault::{WordsFail, WordsFault, refuse};
+use crate::fault::{LitWordsFail, LitWordsFault, refuse};
 use ere_tree::{Ere, EreFail, parse};
 use opt_words::Given;
 use std::alloc::Global;
 use tt_base::Bytes;
 
 /// A value as an expression.
-fn tree_of(alloc: Global, value: &[u8]) -> Result<Ere, WordsFail>
+fn tree_of(alloc: Global, value: &[u8]) -> Result<Ere, LitWordsFail>
     ensures { Gives view result (tree_of value.now) }
 {
     match parse(alloc, value, false) {
         Ok(ere) => Ok(ere),
-        Err(EreFail::Bad(_)) => refuse(WordsFault::BadRegex(Bytes::from_slice(alloc, value)?)),
-        Err(EreFail::NoMemory) => Err(WordsFail::NoMemory),
+        Err(EreFail::Bad(_)) => refuse(LitWordsFault::BadRegex(Bytes::from_slice(alloc, value)?)),
+        Err(EreFail::NoMemory) => Err(LitWordsFail::NoMemory),
     }
 }
 
@@ -28,7 +28,7 @@ pub(crate) fn expression_of(
     alloc: Global,
     words: &[String],
     last: Option<Given>,
-) -> Result<Option<Ere>, WordsFail>
+) -> Result<Option<Ere>, LitWordsFail>
     requires { IfSome last (Stands (texts words.now)) }
     ensures { Gives (option_map view) result (expression_of (texts words.now) last) }
 {

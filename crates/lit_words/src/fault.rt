@@ -3,7 +3,7 @@ ghost use Rattle.std.specs.Prelude.{◌≡◌, ◌<◌, Err, length};
 ghost use Rattle.opt_words.specs.Fault.{word_of};
 ghost use Rattle.opt_words.specs.Step.{texts};
 ghost use Rattle.lit_words.specs.Fault.{Gives, faulty};
-ghost use Rattle.lit_words.specs.declared.fault.WordsFail.TheVariants.{Bad};
+ghost use Rattle.lit_words.specs.declared.fault.LitWordsFail.TheVariants.{Bad};
 
 use opt_words::WordFault;
 use std::alloc::Global;
@@ -11,7 +11,7 @@ use tt_base::{Bytes, NoMemory};
 
 /// Why words aren't accepted, in the order in which it is told.
 #[derive(Drop, Debug)]
-pub enum WordsFault {
+pub enum LitWordsFault {
     /// `--nope`, or an option without its value: what is wrong, and the word that names the option.
     Faulty(WordFault, Bytes),
     /// No plain word.
@@ -24,27 +24,27 @@ pub enum WordsFault {
 
 /// Why a step gave no value.
 #[derive(Drop, Debug)]
-pub enum WordsFail {
-    Bad(WordsFault),
+pub enum LitWordsFail {
+    Bad(LitWordsFault),
     NoMemory,
 }
 
-impl From<NoMemory> for WordsFail {
+impl From<NoMemory> for LitWordsFail {
     ghost use Rattle.std.specs.Prelude.{◌≡◌};
-    ghost use Rattle.lit_words.specs.declared.fault.WordsFail.TheVariants.{NoMemory};
+    ghost use Rattle.lit_words.specs.declared.fault.LitWordsFail.TheVariants.{NoMemory};
 
     ghost from_gives = { λ _ fail. fail ≡ NoMemory };
 
-    fn from(_: NoMemory) -> WordsFail {
-        WordsFail::NoMemory
+    fn from(_: NoMemory) -> LitWordsFail {
+        LitWordsFail::NoMemory
     }
 }
 
 /// A step that refuses.
-pub(crate) fn refuse<T>(fault: WordsFault) -> Result<T, WordsFail>
+pub(crate) fn refuse<T>(fault: LitWordsFault) -> Result<T, LitWordsFail>
     ensures { result ≡ Err (Bad fault) }
 {
-    Err(WordsFail::Bad(fault))
+    Err(LitWordsFail::Bad(fault))
 }
 
 /// The refusal of a word by its table.
@@ -52,10 +52,10 @@ pub(crate) fn refuse_word<T>(
     alloc: Global,
     words: &[String],
     fault: WordFault,
-) -> Result<T, WordsFail>
+) -> Result<T, LitWordsFail>
     requires { word_of fault < length words.now }
     ensures { Gives (λ value. value) result (Err (faulty (texts words.now) fault)) }
 {
     let word = Bytes::from_slice(alloc, fault.word(words))?;
-    refuse(WordsFault::Faulty(fault, word))
+    refuse(LitWordsFault::Faulty(fault, word))
 }

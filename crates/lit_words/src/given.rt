@@ -5,7 +5,7 @@ ghost use Rattle.opt_words.specs.Step.{Stands, texts};
 ghost use Rattle.lit_words.specs.Fault.{Gives};
 ghost use Rattle.lit_words.specs.Given.{IsRead, given_by, is_given, named_at, rows};
 
-use crate::fault::{WordsFail, refuse_word};
+use crate::fault::{LitWordsFail, refuse_word};
 use opt_words::{Form, Given, Name, Row, Settings, Table};
 use std::alloc::Global;
 use tt_base::Items;
@@ -52,7 +52,7 @@ fn table() -> Table<11>
 }
 
 /// What the words give.
-pub(crate) fn given_by(alloc: Global, words: &[String]) -> Result<GivenWords, WordsFail>
+pub(crate) fn given_by(alloc: Global, words: &[String]) -> Result<GivenWords, LitWordsFail>
     ensures value { Gives (λ given. given.all) result (given_by (texts words.now)) }
     ensures read { IfOk result (IsRead (texts words.now)) }
 {

@@ -9,6 +9,6 @@ mod given;
 mod number;
 mod paths;
 
-pub use asked::{Asked, Detail, asked_by};
-pub use fault::{WordsFail, WordsFault};
+pub use asked::{Detail, LitAsked, asked_by};
+pub use fault::{LitWordsFail, LitWordsFault};
 pub use number::Shard;

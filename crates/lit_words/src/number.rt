@@ -4,7 +4,7 @@ ghost use Rattle.opt_words.specs.Step.{Stands, texts};
 ghost use Rattle.lit_words.specs.Fault.{Gives};
 ghost use Rattle.lit_words.specs.Number.{IsShard, as_shard, bad_number, number_of, shard_beside, shard_of, workers_of};
 
-use crate::fault::{WordsFail, WordsFault, refuse, refuse_word};
+use crate::fault::{LitWordsFail, LitWordsFault, refuse, refuse_word};
 use crate::given::named_at;
 use opt_words::{Given, WordFault, decimal};
 use std::alloc::Global;
@@ -25,7 +25,7 @@ const MAX_WORKERS: u64 = 64;
 const MAX_SHARDS: u64 = 20_000;
 
 /// The refusal of a number.
-fn bad_number(alloc: Global, words: &[String], given: Given) -> Result<u64, WordsFail>
+fn bad_number(alloc: Global, words: &[String], given: Given) -> Result<u64, LitWordsFail>
     requires { Stands (texts words.now) given }
     ensures { Gives (λ n. n) result (bad_number (texts words.now) given) }
 {
@@ -33,7 +33,7 @@ fn bad_number(alloc: Global, words: &[String], given: Given) -> Result<u64, Word
 }
 
 /// The number that a value spells, from 1 to a greatest one.
-fn number_of(alloc: Global, words: &[String], most: u64, given: Given) -> Result<u64, WordsFail>
+fn number_of(alloc: Global, words: &[String], most: u64, given: Given) -> Result<u64, LitWordsFail>
     requires { Stands (texts words.now) given }
     ensures value { Gives (λ n. n) result (number_of (texts words.now) most given) }
     ensures least { IfOk result (λ n. 1 ≤ n) }
@@ -56,7 +56,7 @@ pub(crate) fn workers_of(
     words: &[String],
     letter: Option<Given>,
     name: Option<Given>,
-) -> Result<u64, WordsFail>
+) -> Result<u64, LitWordsFail>
     requires letter { IfSome letter (Stands (texts words.now)) }
     requires name { IfSome name (Stands (texts words.now)) }
     ensures value { Gives (λ n. n) result (workers_of (texts words.now) letter name) }
@@ -65,7 +65,7 @@ pub(crate) fn workers_of(
 {
     match letter {
         Some(given) => match name {
-            Some(_) => refuse(WordsFault::Misfit),
+            Some(_) => refuse(LitWordsFault::Misfit),
             None => number_of(alloc, words, MAX_WORKERS, given),
         },
         None => match name {
@@ -76,13 +76,13 @@ pub(crate) fn workers_of(
 }
 
 /// One of so many shards.
-fn as_shard(shards: u64, run: u64) -> Result<Option<Shard>, WordsFail>
+fn as_shard(shards: u64, run: u64) -> Result<Option<Shard>, LitWordsFail>
     requires { 1 ≤ run }
     ensures value { Gives (λ shard. shard) result (as_shard shards run) }
     ensures sound { IfOk result (λ shard. IfSome shard IsShard) }
 {
     if run > shards {
-        return refuse(WordsFault::Misfit);
+        return refuse(LitWordsFault::Misfit);
     }
     Ok(Some(Shard { shards, run }))
 }
@@ -93,7 +93,7 @@ fn shard_beside(
     words: &[String],
     shards: Given,
     run: Given,
-) -> Result<Option<Shard>, WordsFail>
+) -> Result<Option<Shard>, LitWordsFail>
     requires shards { Stands (texts words.now) shards }
     requires run { Stands (texts words.now) run }
     ensures value { Gives (λ shard. shard) result (shard_beside (texts words.now) shards run) }
@@ -110,7 +110,7 @@ pub(crate) fn shard_of(
     words: &[String],
     shards: Option<Given>,
     run: Option<Given>,
-) -> Result<Option<Shard>, WordsFail>
+) -> Result<Option<Shard>, LitWordsFail>
     requires shards { IfSome shards (Stands (texts words.now)) }
     requires run { IfSome run (Stands (texts words.now)) }
     ensures value { Gives (λ shard. shard) result (shard_of (texts words.now) shards run) }
@@ -119,10 +119,10 @@ pub(crate) fn shard_of(
     match shards {
         Some(shards) => match run {
             Some(run) => shard_beside(alloc, words, shards, run),
-            None => refuse(WordsFault::Misfit),
+            None => refuse(LitWordsFault::Misfit),
         },
         None => match run {
-            Some(_) => refuse(WordsFault::Misfit),
+            Some(_) => refuse(LitWordsFault::Misfit),
             None => Ok(None),
         },
     }

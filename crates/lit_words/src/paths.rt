@@ -4,7 +4,7 @@ ghost use Rattle.opt_words.specs.Step.{Stands, texts};
 ghost use Rattle.lit_words.specs.Fault.{Gives};
 ghost use Rattle.lit_words.specs.Paths.{path_of, paths_of, some_paths};
 
-use crate::fault::{WordsFail, WordsFault, refuse};
+use crate::fault::{LitWordsFail, LitWordsFault, refuse};
 use opt_words::Given;
 use std::alloc::Global;
 use tt_base::{Bytes, Items, NoMemory};
@@ -44,14 +44,14 @@ pub(crate) fn some_paths(
     alloc: Global,
     words: &[String],
     all: &[Given],
-) -> Result<Items<Bytes>, WordsFail>
+) -> Result<Items<Bytes>, LitWordsFail>
     requires { All (Stands (texts words.now)) all.now }
     ensures value { Gives (λ paths. paths) result (some_paths (paths_of (texts words.now) all.now)) }
     ensures some { IfOk result (λ paths. 0 < length paths) }
 {
     let paths = paths_of(alloc, words, all)?;
     if paths.is_empty() {
-        return refuse(WordsFault::NoPath);
+        return refuse(LitWordsFault::NoPath);
     }
     Ok(paths)
 }

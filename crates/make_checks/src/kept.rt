@@ -8,7 +8,7 @@ ghost use Rattle.file_laws.specs.Kept.{kept};
 
 use crate::fault::{MAX_FILE, MakeFail, MakeFault};
 use crate::lines::first_line;
-use check_lines::{Mark, Prefixes, canon_owned, decide};
+use check_lines::{LineMark, Prefixes, canon_owned, decide};
 use prefix_tree::PrefixTree;
 use std::alloc::Global;
 use tt_base::{Bytes, Items, NoMemory};
@@ -40,8 +40,8 @@ fn is_free(prefixes: &Prefixes<'_>, line: &[u8]) -> bool
     match decide(prefixes, line) {
         None => true,
         Some(found) => match found.mark {
-            Mark::Comment => true,
-            Mark::Check(_, _) => false,
+            LineMark::Comment => true,
+            LineMark::Check(_, _) => false,
         },
     }
 }

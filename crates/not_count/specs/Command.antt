@@ -7,7 +7,7 @@ use Rattle.opt_words.specs.declared.fault.WordFault.{WordFault}
 use Rattle.opt_words.specs.declared.row.Row.{Row}
 use Rattle.opt_words.specs.declared.row.Form.TheVariants.{Flag}
 use Rattle.opt_words.specs.declared.step.Given.{Given}
-use Rattle.not_count.specs.declared.command.Command.{Command}
+use Rattle.not_count.specs.declared.command.NotCommand.{NotCommand}
 use Rattle.not_count.specs.declared.command.NoCommand.{NoCommand}
 use Rattle.not_count.specs.declared.command.NoCommand.TheVariants.{FaultyWord, Missing}
 
@@ -15,15 +15,15 @@ use Rattle.not_count.specs.declared.command.NoCommand.TheVariants.{FaultyWord, M
 abbrev pub rows : List Row
 rows = record { name = codes "crash"; form = Flag } ∷ []
 
-abbrev pub command_from : ℕ → Option Given → Result Command NoCommand
+abbrev pub command_from : ℕ → Option Given → Result NotCommand NoCommand
 command_from crashes (Some given) = Ok (record { crash = nat_lt 0 crashes; first = given.word })
 command_from crashes None = Err Missing
 
-abbrev pub command_of : Result (List Given) WordFault → Result Command NoCommand
+abbrev pub command_of : Result (List Given) WordFault → Result NotCommand NoCommand
 command_of (Ok all) = command_from (times 0 all) (first 1 all)
 command_of (Err fault) = Err (FaultyWord fault)
 
-abbrev pub command_in : List (List ℕ) → Result Command NoCommand
+abbrev pub command_in : List (List ℕ) → Result NotCommand NoCommand
 command_in words = command_of (givens rows true words)
 
 -- a faulty word is one of so many words

@@ -8,8 +8,8 @@ use Rattle.tt_run.specs.Frame.{error_text, newline}
 use Rattle.tt_run.specs.Run.{Answered, Source, SourceRests, Stream}
 use Rattle.not_count.specs.Asked.{IsTold, asked}
 use Rattle.not_count.specs.Lines.{IsCounted}
-use Rattle.not_count.specs.declared.asked.Refusal.{Refusal}
-use Rattle.not_count.specs.declared.asked.Refusal.TheVariants.{FaultyWord, NotOneNumber}
+use Rattle.not_count.specs.declared.asked.CountRefusal.{CountRefusal}
+use Rattle.not_count.specs.declared.asked.CountRefusal.TheVariants.{FaultyWord, NotOneNumber}
 use Rattle.not_count.specs.declared.count.Outcome.{Outcome}
 use Rattle.not_count.specs.declared.count.Outcome.TheVariants.{Refused, Compared}
 use Rattle.not_count.specs.declared.lines.Counted.{Counted}
@@ -18,7 +18,7 @@ use Rattle.not_count.specs.declared.lines.Counted.TheVariants.{Lines, TooLong, F
 -- ---- what a run comes to
 
 -- the words are refused and the input is left alone, or its lines are counted up to a limit
-abbrev pub OutcomeFrom : Source → ℕ → Result ℕ Refusal → Outcome → Type 0
+abbrev pub OutcomeFrom : Source → ℕ → Result ℕ CountRefusal → Outcome → Type 0
 OutcomeFrom input limit (Ok wanted) outcome =
     (counted : Counted) × IsCounted input limit counted × (outcome ≡ Compared wanted counted)
 OutcomeFrom input limit (Err refusal) outcome = SourceRests input × (outcome ≡ Refused refusal)
@@ -37,7 +37,7 @@ IsToldOf count (Compared wanted counted) = ⊤
 abbrev pub faulty_word_text : List ℕ → WordFault → List ℕ
 faulty_word_text word fault = concat (codes "count: error: " ∷ text_before fault ∷ word ∷ text_behind fault ∷ newline ∷ [])
 
-abbrev pub refusal_text : List (List ℕ) → Refusal → List ℕ
+abbrev pub refusal_text : List (List ℕ) → CountRefusal → List ℕ
 refusal_text words (FaultyWord fault) = faulty_word_text (slice_index_or words (word_of fault) []) fault
 refusal_text words NotOneNumber = error_text (codes "count") (codes "one number is needed")
 
@@ -74,7 +74,7 @@ status_of (Compared wanted counted) = compared_status wanted counted
 abbrev pub FaultTold : List ℕ → WordFault → ℕ → Stream → Type 0
 FaultTold word fault result err = Answered (faulty_word_text word fault) 2 result err
 
-abbrev pub RefusalTold : List (List ℕ) → Refusal → ℕ → Stream → Type 0
+abbrev pub RefusalTold : List (List ℕ) → CountRefusal → ℕ → Stream → Type 0
 RefusalTold words refusal result err = Answered (refusal_text words refusal) 2 result err
 
 abbrev pub ExpectedTold : ℕ → ℕ → ℕ → Stream → Type 0

@@ -19,7 +19,7 @@ use Rattle.tt_run.specs.declared.answer.Answer.{Answer}
 use Rattle.tt_run.specs.declared.reading.Reading.{Reading}
 use Rattle.tt_run.specs.declared.reading.Reading.TheVariants as readings
 use Rattle.not_count.specs.Command.{IsToldWord, command_in}
-use Rattle.not_count.specs.declared.command.Command.{Command}
+use Rattle.not_count.specs.declared.command.NotCommand.{NotCommand}
 use Rattle.not_count.specs.declared.command.NoCommand.{NoCommand}
 use Rattle.not_count.specs.declared.command.NoCommand.TheVariants.{FaultyWord, Missing}
 use Rattle.not_count.specs.declared.inverse.Inverse.{Inverse}
@@ -32,20 +32,20 @@ abbrev pub spawn : List (List ℕ) → List ℕ → ℕ → Request
 spawn words input limit = Spawn words (codes ".") [] input limit
 
 -- a command with an input came to a reply, one that may be given to the first request of test 0 and fits it
-abbrev pub Replied : Gave → ℕ → List (List ℕ) → Command → List ℕ → Inverse → Type 0
+abbrev pub Replied : Gave → ℕ → List (List ℕ) → NotCommand → List ℕ → Inverse → Type 0
 Replied gave limit words command input outcome =
     (reply : Reply) × gave 0 [] (spawn (drop command.first words) input limit) reply
     × (fits (spawn (drop command.first words) input limit) reply ≡ true) × (outcome ≡ inverses.Replied command reply)
 
 -- what was read came to this
-abbrev pub ReadTo : Gave → ℕ → List (List ℕ) → Command → Reading → Inverse → Type 0
+abbrev pub ReadTo : Gave → ℕ → List (List ℕ) → NotCommand → Reading → Inverse → Type 0
 ReadTo gave limit words command (readings.Whole input) outcome = Replied gave limit words command input outcome
 ReadTo gave limit words command readings.TooLarge outcome = outcome ≡ inverses.TooLarge
 ReadTo gave limit words command readings.Failed outcome = outcome ≡ inverses.Unread
 ReadTo gave limit words command readings.Missing outcome = ⊥
 
 -- the words are refused and the input is left alone, or the input is read to its end, within a limit, and the command run
-abbrev pub OutcomeFrom : Source → Gave → ℕ → List (List ℕ) → Result Command NoCommand → Inverse → Type 0
+abbrev pub OutcomeFrom : Source → Gave → ℕ → List (List ℕ) → Result NotCommand NoCommand → Inverse → Type 0
 OutcomeFrom input gave limit words (Ok command) outcome =
     (read : Reading) × SourceRead input limit read × ReadTo gave limit words command read outcome
 OutcomeFrom input gave limit words (Err refusal) outcome = SourceRests input × (outcome ≡ inverses.Refused refusal)

@@ -7,7 +7,7 @@ use opt_words::{Table, WordFault, decimal};
 
 /// Why the words are refused.
 #[derive(Clone, Copy, Debug, PartialEq, Eq)]
-pub enum Refusal {
+pub enum CountRefusal {
     /// A word that isn't a plain one, as `--nope`.
     FaultyWord(WordFault),
     /// Not one number, as `x`, or two words.
@@ -15,7 +15,7 @@ pub enum Refusal {
 }
 
 /// The number that the words ask for.
-pub fn asked(words: &[String]) -> Result<u64, Refusal>
+pub fn asked(words: &[String]) -> Result<u64, CountRefusal>
     ensures value { result ≡ asked (texts words.now) }
     ensures told { IfErr result (IsTold (length words.now)) }
 {
@@ -25,17 +25,17 @@ pub fn asked(words: &[String]) -> Result<u64, Refusal>
     };
     let settings = match table.read(words) {
         Ok(settings) => settings,
-        Err(fault) => return Err(Refusal::FaultyWord(fault)),
+        Err(fault) => return Err(CountRefusal::FaultyWord(fault)),
     };
     match settings.first_plain {
-        None => Err(Refusal::NotOneNumber),
+        None => Err(CountRefusal::NotOneNumber),
         Some(given) => {
             if settings.plain != 1 {
-                return Err(Refusal::NotOneNumber);
+                return Err(CountRefusal::NotOneNumber);
             }
             match decimal(given.value(words)) {
                 Some(number) => Ok(number),
-                None => Err(Refusal::NotOneNumber),
+                None => Err(CountRefusal::NotOneNumber),
             }
         }
     }

@@ -18,7 +18,7 @@ pub enum NoCommand {
 
 /// What the words ask for.
 #[derive(Clone, Copy, Debug, PartialEq, Eq)]
-pub struct Command {
+pub struct NotCommand {
     /// Whether the program is to end by a signal.
     pub crash: bool,
     /// The index of the command's first word, the program's name.
@@ -26,7 +26,7 @@ pub struct Command {
 }
 
 /// The command that the words ask for.
-pub fn command_in(words: &[String]) -> Result<Command, NoCommand>
+pub fn command_in(words: &[String]) -> Result<NotCommand, NoCommand>
     ensures value { result ≡ command_in (texts words.now) }
     ensures told { IfErr result (IsToldWord (length words.now)) }
     ensures within { IfOk result (λ command. command.first < length words.now) }
@@ -44,7 +44,7 @@ pub fn command_in(words: &[String]) -> Result<Command, NoCommand>
     };
     match settings.first_plain {
         None => Err(NoCommand::Missing),
-        Some(given) => Ok(Command {
+        Some(given) => Ok(NotCommand {
             crash: settings.times[0] > 0,
             first: given.word,
         }),

@@ -7,20 +7,20 @@ ghost use Rattle.not_count.specs.Asked.{IsTold};
 ghost use Rattle.not_count.specs.Count.{Counts, IsToldOf, OutcomeOf};
 ghost use Rattle.not_count.specs.Count.{ComparedTold, ExpectedTold, FaultTold, LinesTold, OutcomeTold, RefusalTold};
 
-use crate::asked::{Refusal, asked};
+use crate::asked::{CountRefusal, asked};
 use crate::lines::{Counted, count_lines};
 use itoa::Buffer;
 use opt_words::WordFault;
 use tt_outside::{Sink, Source};
-use tt_run::{Frame, answer_on, answer_parts};
+use tt_run::{ToolFrame, answer_on, answer_parts};
 
 /// The name of `count`.
-pub const COUNT: Frame = Frame { name: b"count" };
+pub const COUNT: ToolFrame = ToolFrame { name: b"count" };
 
 /// What a run of `count` comes to.
 #[derive(Clone, Copy, Debug, PartialEq, Eq)]
 pub enum Outcome {
-    Refused(Refusal),
+    Refused(CountRefusal),
     Compared(u64, Counted),
 }
 
@@ -63,14 +63,14 @@ fn answer<E: Sink>(words: &[String], outcome: Outcome, err: &mut E) -> u8
 }
 
 /// Tells why the words are refused.
-fn refuse<E: Sink>(words: &[String], refusal: Refusal, err: &mut E) -> u8
+fn refuse<E: Sink>(words: &[String], refusal: CountRefusal, err: &mut E) -> u8
     requires { IsTold (length words.now) refusal }
     ensures answered { RefusalTold (texts words.now) refusal result (stream_of E.Sink err.old err.new) }
     ensures range { result ≤ 3 }
 {
     match refusal {
-        Refusal::FaultyWord(fault) => tell_fault(fault.word(words), fault, err),
-        Refusal::NotOneNumber => answer_on(b"count: error: one number is needed\n", 2, err),
+        CountRefusal::FaultyWord(fault) => tell_fault(fault.word(words), fault, err),
+        CountRefusal::NotOneNumber => answer_on(b"count: error: one number is needed\n", 2, err),
     }
 }
 

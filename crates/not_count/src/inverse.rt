@@ -8,14 +8,14 @@ ghost use Rattle.opt_words.specs.Step.{texts};
 ghost use Rattle.not_count.specs.Command.{IsToldWord, command_in};
 ghost use Rattle.not_count.specs.Inverse.{AskedOnce, AtMostOneHand, HandFailed, HandsOf, Inverts, IsToldInverse, LeavesHands, OutcomeFrom, Replied, inverse_answer, no_command_text, reply_answer, status_at, telling, word_text};
 
-use crate::command::{Command, NoCommand, bytes_of, command_in};
+use crate::command::{NoCommand, NotCommand, bytes_of, command_in};
 use std::alloc::Global;
 use tt_base::{Bytes, Items, NoMemory};
 use tt_outside::{Crew, Finish, Reply, Request, Runner, SharedBytes, Sink, Source};
-use tt_run::{Answer, Frame, Reading, read_source};
+use tt_run::{Answer, Reading, ToolFrame, read_source};
 
 /// The name of `not`.
-pub const NOT: Frame = Frame { name: b"not" };
+pub const NOT: ToolFrame = ToolFrame { name: b"not" };
 
 /// The greatest length of an input, and of each stream of the program, in bytes.
 pub const INPUT_LIMIT: u64 = 67_108_864;
@@ -29,7 +29,7 @@ pub enum Inverse {
     /// The input couldn't be read.
     Unread,
     /// What was answered to the command.
-    Replied(Command, Reply),
+    Replied(NotCommand, Reply),
 }
 
 /// Runs `not` on words, which are without the program's name: the command is run once, with the whole input, and what it
@@ -101,7 +101,7 @@ fn outcome_from<C: Crew, I: Source>(
 fn replied<C: Crew>(
     alloc: Global,
     words: &[String],
-    command: Command,
+    command: NotCommand,
     input: SharedBytes,
     crew: &mut C,
 ) -> Result<Inverse, NoMemory>

@@ -8,6 +8,6 @@ mod count;
 mod inverse;
 mod lines;
 
-pub use command::{Command, NoCommand, bytes_of, command_in};
+pub use command::{NoCommand, NotCommand, bytes_of, command_in};
 pub use count::{COUNT, count_run};
 pub use inverse::{INPUT_LIMIT, Inverse, NOT, inverse_answer, not_run, reply_answer};

@@ -8,10 +8,10 @@ use Rattle.ere_tree.specs.Front.{begins_with}
 use Rattle.num_base.specs.Term.{Term, binary}
 use Rattle.num_exprs.specs.Token.{Token, value, operator, named, open_paren, close_paren, comma, Tokens, ends, stops, next, token, tokens_from, wanted_behind}
 use Rattle.num_exprs.specs.Place.{Frame, behind, paren, first, second, Place, wants, called, has, taken, step, step_within, weight, is_wanted, Found, failed, over, whole, using, uses_of, reading_from, on_place}
-use Rattle.num_exprs.specs.declared.block.Named.{Named}
+use Rattle.num_exprs.specs.declared.block.PlacedName.{PlacedName}
 
 -- what is said where so much was read up to an offset
-abbrev pub said : List Named → ℕ → Place Term → ℕ → List ℕ → Found
+abbrev pub said : List PlacedName → ℕ → Place Term → ℕ → List ℕ → Found
 said uses left place at text = using uses (reading_from left place (tokens_from (is_wanted place) at 0 text))
 
 -- one token of a text
@@ -86,27 +86,27 @@ within_wants left place q t = each (nat_le (weight t) left)
     each false h = absurd (true≢false (sym (ap is_some h)))
 
 -- where the text begins
-pub said_begins : (uses : List Named) (place : Place Term) (at : ℕ) (text : List ℕ) → uses ≡ [] → place ≡ wants []
+pub said_begins : (uses : List PlacedName) (place : Place Term) (at : ℕ) (text : List ℕ) → uses ≡ [] → place ≡ wants []
     → said uses 250 place (at + 0) (drop 0 text) ≡ reading_from 250 (wants []) (tokens_from true at 0 text)
 said_begins uses place at text none begins =
     ap (λ names. said names 250 place (at + 0) text) none ∙ ap (λ p. said [] 250 p (at + 0) text) begins
     ∙ ap (λ n. said [] 250 (wants []) n text) (omega arith)
 
 -- a blank is passed over
-pub said_blank : (uses : List Named) (left : ℕ) (place : Place Term) (at : ℕ) (text : List ℕ)
+pub said_blank : (uses : List PlacedName) (left : ℕ) (place : Place Term) (at : ℕ) (text : List ℕ)
     → begins_with is_blank text ≡ true → said uses left place (at + 1) (drop 1 text) ≡ said uses left place at text
 said_blank uses left place at text blank =
     ap (λ tokens. using uses (reading_from left place tokens)) (sym (tokens_blank (is_wanted place) at text blank))
 
 -- a token is taken
-pub said_next : (uses : List Named) (left : ℕ) (place q : Place Term) (at : ℕ) (text : List ℕ) (found : Token × ℕ)
+pub said_next : (uses : List PlacedName) (left : ℕ) (place q : Place Term) (at : ℕ) (text : List ℕ) (found : Token × ℕ)
     → begins_with is_blank text ≡ false → token (is_wanted place) text ≡ Ok found → 0 < length text → 0 < found.1
     → found.1 ≤ length text → step_within left place found.0 ≡ Some q
     → said (uses ++ uses_of at found.0) (left - weight found.0) q (at + found.1) (drop found.1 text)
     ≡ said uses left place at text
 said_next uses left place q at text found blank is more some fits goes =
     let rest : Tokens = tokens_from (wanted_behind found.0) (at + found.1) 0 (drop found.1 text) in
-    let here : List Named = uses_of at found.0 in
+    let here : List PlacedName = uses_of at found.0 in
     ap (λ mode. using (uses ++ here) (reading_from (left - weight found.0) q
     (tokens_from mode (at + found.1) 0 (drop found.1 text)))) (within_wants left place q found.0 goes)
     ∙ ap (λ names. record (reading_from (left - weight found.0) q rest) { uses = names })
@@ -117,7 +117,7 @@ said_next uses left place q at text found blank is more some fits goes =
     (sym (tokens_next (is_wanted place) at text found blank is more some fits))
 
 -- a byte can't be read on
-pub said_stop : (uses : List Named) (left : ℕ) (place : Place Term) (at : ℕ) (text : List ℕ) (k : ℕ)
+pub said_stop : (uses : List PlacedName) (left : ℕ) (place : Place Term) (at : ℕ) (text : List ℕ) (k : ℕ)
     → begins_with is_blank text ≡ false → token (is_wanted place) text ≡ Err k → 0 < length text
     → said uses left place at text ≡ using uses (failed (at + k))
 said_stop uses left place at text k blank is more =
@@ -125,7 +125,7 @@ said_stop uses left place at text k blank is more =
     (tokens_stop (is_wanted place) at text k blank is more)
 
 -- nor can a token
-pub said_denied : (uses : List Named) (left : ℕ) (place : Place Term) (at : ℕ) (text : List ℕ) (found : Token × ℕ)
+pub said_denied : (uses : List PlacedName) (left : ℕ) (place : Place Term) (at : ℕ) (text : List ℕ) (found : Token × ℕ)
     → begins_with is_blank text ≡ false → token (is_wanted place) text ≡ Ok found → 0 < length text → 0 < found.1
     → found.1 ≤ length text → step_within left place found.0 ≡ None
     → said uses left place at text ≡ using uses (failed at)
@@ -137,7 +137,7 @@ said_denied uses left place at text found blank is more some fits goes =
     (reading_from (left - weight found.0) there rest)))) goes
 
 -- the text ends
-pub said_end : (uses : List Named) (left : ℕ) (place : Place Term) (at : ℕ) (text : List ℕ) → length text ≡ 0
+pub said_end : (uses : List PlacedName) (left : ℕ) (place : Place Term) (at : ℕ) (text : List ℕ) → length text ≡ 0
     → said uses left place at text ≡ using uses (over at (whole place))
 said_end uses left place at text none =
     ap (λ tokens. using uses (reading_from left place tokens)) (tokens_end (is_wanted place) at text none)

@@ -18,7 +18,7 @@ use Rattle.num_exprs.specs.Fault.{fault}
 use Rattle.num_exprs.specs.Name.{name_at}
 use Rattle.num_exprs.specs.Place.{Found, wants, reading_from}
 use Rattle.num_exprs.specs.Token.{blanks, tokens_from}
-use Rattle.num_exprs.specs.declared.block.Named.{Named}
+use Rattle.num_exprs.specs.declared.block.PlacedName.{PlacedName}
 use Rattle.num_exprs.specs.declared.fault.NumFault.{NumFault}
 use Rattle.num_exprs.specs.declared.fault.NumKind.TheVariants.{BadName, BadFormat, BadExpr}
 use Rattle.num_exprs.specs.declared.head.TheConstants.{MAX_DIGITS}
@@ -84,24 +84,24 @@ abbrev pub format_at : List ℕ → Result (Option Format × ℕ) NumFault
 format_at text = if begins 37 (drop (blanks text) text) then percent_at (blanks text) text else Ok (None, 0)
 
 -- the colon behind a name of this length that begins behind so many bytes
-abbrev pub colon_at : ℕ → ℕ → ℕ → ℕ → List ℕ → Result (Option Named × ℕ) NumFault
+abbrev pub colon_at : ℕ → ℕ → ℕ → ℕ → List ℕ → Result (Option PlacedName × ℕ) NumFault
 colon_at at begin long count text =
     if begins 58 (drop count text) then
     Ok (Some (record { at = at + begin; name = take long (drop begin text) }), count + 1)
     else fault BadName (at + count)
 
-abbrev pub colon_behind : ℕ → ℕ → ℕ → List ℕ → Result (Option Named × ℕ) NumFault
+abbrev pub colon_behind : ℕ → ℕ → ℕ → List ℕ → Result (Option PlacedName × ℕ) NumFault
 colon_behind at begin long text =
     colon_at at begin long (begin + long + blanks (drop (begin + long) text)) text
 
-abbrev pub name_behind : ℕ → ℕ → List ℕ → Result (Option Named × ℕ) NumFault
+abbrev pub name_behind : ℕ → ℕ → List ℕ → Result (Option PlacedName × ℕ) NumFault
 name_behind at begin text = elim (name_at (drop begin text)) [
   | Ok long ↦ colon_behind at begin long text
   | Err behind ↦ fault BadName (at + begin + behind)
 ]
 
 -- the name that is defined, at an offset: where a `:` stands anywhere behind it
-abbrev pub name_from : ℕ → List ℕ → Result (Option Named × ℕ) NumFault
+abbrev pub name_from : ℕ → List ℕ → Result (Option PlacedName × ℕ) NumFault
 name_from at text = if list_any (λ b. b == 58) text then name_behind at (blanks text) text else Ok (None, 0)
 
 -- how many bytes there are up to and with an `==`, or none where there is none
@@ -112,11 +112,11 @@ equals_at text = if begins_with (drop (blanks text) text) (codes "==") then blan
 -- offset, and the expression, or the first fault. The format and the names are those before the fault.
 pub record Reading : Type 0 where
   pub format : Option Format
-  pub defines : Option Named
-  pub uses : List Named
+  pub defines : Option PlacedName
+  pub uses : List PlacedName
   pub expr : Result (Option Term) NumFault
 
-abbrev pub refused : Option Format → Option Named → NumFault → Reading
+abbrev pub refused : Option Format → Option PlacedName → NumFault → Reading
 refused format defines fault = record { format = format; defines = defines; uses = []; expr = Err fault }
 
 -- the expression that was found
@@ -124,7 +124,7 @@ abbrev pub expr_of : Result Term ℕ → Result (Option Term) NumFault
 expr_of (Ok t) = Ok (Some t)
 expr_of (Err at) = fault BadExpr at
 
-abbrev pub with_expr : Option Format → Option Named → Found → Reading
+abbrev pub with_expr : Option Format → Option PlacedName → Found → Reading
 with_expr format defines found =
     record { format = format; defines = defines; uses = found.uses; expr = expr_of found.outcome }
 
@@ -133,7 +133,7 @@ abbrev pub found_in : ℕ → List ℕ → Found
 found_in at text = reading_from MAX_WEIGHT (wants []) (tokens_from true at 0 text)
 
 -- the expression of a block at an offset, behind an `==` or not
-abbrev pub expr_from : Option Format → Option Named → Bool → ℕ → List ℕ → Reading
+abbrev pub expr_from : Option Format → Option PlacedName → Bool → ℕ → List ℕ → Reading
 expr_from format defines equals at text =
     if blanks text == length text then
     (if equals then refused format defines (record { at = at + length text; kind = BadExpr })
@@ -141,7 +141,7 @@ expr_from format defines equals at text =
     else with_expr format defines (found_in at text)
 
 -- what is read behind the format, and behind the name that is defined
-abbrev pub behind_name : Option Format → Option Named → ℕ → List ℕ → Reading
+abbrev pub behind_name : Option Format → Option PlacedName → ℕ → List ℕ → Reading
 behind_name format defines at text =
     expr_from format defines (not (equals_at text == 0)) (at + equals_at text) (drop (equals_at text) text)
 
@@ -166,7 +166,7 @@ pub record Num : Type 0 where
 
 abbrev pub num_of : Reading → Option Term → Num
 num_of read expr =
-    record { format = read.format; defines = option_map (λ (named : Named). named.name) read.defines; expr = expr }
+    record { format = read.format; defines = option_map (λ (named : PlacedName). named.name) read.defines; expr = expr }
 
 -- the block that was read, or its first fault
 abbrev pub block_of : Reading → Result Num NumFault

@@ -4,7 +4,7 @@ use Rattle.std.specs.Prelude.{ℕ, ◌-◌, Bool, true, false, Option, Some, Non
 use Rattle.num_base.specs.Term.{Term, name, binary}
 use Rattle.num_base.specs.declared.expr.Op.{Op}
 use Rattle.num_exprs.specs.Token.{Token, value, operator, named, open_paren, close_paren, comma, Tokens, ends, stops, next}
-use Rattle.num_exprs.specs.declared.block.Named.{Named}
+use Rattle.num_exprs.specs.declared.block.PlacedName.{PlacedName}
 
 -- what is open round a place: a left side and its operator; a `(`; an op before its comma; an op behind it, with the
 -- expression before it
@@ -54,7 +54,7 @@ step_within left place token = if nat_le (weight token) left then step place tok
 -- what was read of an expression: the names that it uses, with their offsets, and its value, or the offset of the
 -- first byte that can't be read on
 pub record Found : Type 0 where
-  pub uses : List Named
+  pub uses : List PlacedName
   pub outcome : Result Term ℕ
 
 abbrev pub failed : ℕ → Found
@@ -75,15 +75,15 @@ name_of (value (name bytes)) = Some bytes
 name_of token = None
 
 -- the names that a token at an offset uses
-abbrev pub uses_from : ℕ → Option (List ℕ) → List Named
+abbrev pub uses_from : ℕ → Option (List ℕ) → List PlacedName
 uses_from at None = []
 uses_from at (Some bytes) = record { at = at; name = bytes } ∷ []
 
-abbrev pub uses_of : ℕ → Token → List Named
+abbrev pub uses_of : ℕ → Token → List PlacedName
 uses_of at token = uses_from at (name_of token)
 
 -- what was found, behind names that were used before
-abbrev pub using : List Named → Found → Found
+abbrev pub using : List PlacedName → Found → Found
 using names found = record found { uses = names ++ found.uses }
 
 abbrev pub on_place : ℕ → Option (Place Term) → (Place Term → Found) → Found

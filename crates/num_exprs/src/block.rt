@@ -24,7 +24,7 @@ pub struct NumBlock {
 
 /// A name and where it stands.
 #[derive(Drop, Debug)]
-pub struct Named {
+pub struct PlacedName {
     /// The offset of its first byte, behind the `[[#`.
     pub at: usize,
     pub name: Bytes,
@@ -36,9 +36,9 @@ pub struct BlockReading {
     /// The format that is written.
     pub format: Option<Format>,
     /// The name that is defined.
-    pub defines: Option<Named>,
+    pub defines: Option<PlacedName>,
     /// The names that the expression uses, from the left.
-    pub uses: Items<Named>,
+    pub uses: Items<PlacedName>,
     /// The expression, if there is one, or the first fault.
     pub expr: Result<Option<Expr>, NumFault>,
 }
@@ -46,7 +46,7 @@ pub struct BlockReading {
 fn refused(
     alloc: Global,
     format: Option<Format>,
-    defines: Option<Named>,
+    defines: Option<PlacedName>,
     fault: NumFault,
 ) -> BlockReading
     ensures { reading_view result ≡ refused format defines fault }
@@ -63,7 +63,7 @@ fn refused(
 fn expr_from(
     alloc: Global,
     format: Option<Format>,
-    defines: Option<Named>,
+    defines: Option<PlacedName>,
     equals: bool,
     at: usize,
     text: &[u8],
@@ -105,7 +105,7 @@ fn expr_from(
 fn behind_name(
     alloc: Global,
     format: Option<Format>,
-    defines: Option<Named>,
+    defines: Option<PlacedName>,
     at: usize,
     text: &[u8],
 ) -> Result<BlockReading, NoMemory>

@@ -6,7 +6,7 @@ ghost use Rattle.std.specs.Prelude.{IsSome, drop, ◌==◌};
 ghost use Rattle.std.specs.List.{list_any};
 ghost use Rattle.num_exprs.specs.Token.{blanks};
 
-use crate::block::Named;
+use crate::block::PlacedName;
 use crate::fault::{NumFault, NumKind};
 use crate::names::name_at;
 use crate::row::{Row, row_length};
@@ -161,7 +161,7 @@ pub(crate) fn format_at(text: &[u8]) -> Result<(Option<Format>, usize), NumFault
 }
 
 /// What was found of a name that is defined, and how many bytes it takes; or its fault.
-type NameFound = Result<(Option<Named>, usize), NumFault>;
+type NameFound = Result<(Option<PlacedName>, usize), NumFault>;
 
 /// The colon behind a name of this length that begins behind so many bytes.
 fn colon_behind(
@@ -182,7 +182,7 @@ fn colon_behind(
     }
     match Bytes::from_slice(alloc, behind(text, begin).split_at(long).0) {
         Ok(name) => Ok(Ok((
-            Some(Named {
+            Some(PlacedName {
                 at: at + begin,
                 name,
             }),

@@ -13,7 +13,7 @@ mod reader;
 mod row;
 mod token;
 
-pub use block::{BlockReading, Named, NumBlock, parse_block, read_block};
+pub use block::{BlockReading, NumBlock, PlacedName, parse_block, read_block};
 pub use fault::{NumFail, NumFault, NumKind};
 pub use head::MAX_DIGITS;
 pub use laws::law_of_expressions;

@@ -5,7 +5,7 @@ ghost use Rattle.num_exprs.specs.Place.{uses_from};
 ghost use Rattle.num_exprs.specs.Place as places;
 ghost use Rattle.num_exprs.specs.View.{found_of, place_view};
 
-use crate::block::Named;
+use crate::block::PlacedName;
 use crate::place::{Last, Place};
 use crate::row::{Row, begins_row};
 use crate::token::token_at;
@@ -21,21 +21,21 @@ pub const MAX_WEIGHT: u32 = 250;
 /// that can't be read on.
 #[derive(Drop, Debug)]
 pub(crate) struct ExprReading {
-    pub(crate) uses: Items<Named>,
+    pub(crate) uses: Items<PlacedName>,
     pub(crate) outcome: Result<Expr, usize>,
 }
 
 /// Adds a name that is used at an offset.
-fn note(uses: &mut Items<Named>, at: usize, name: Option<Bytes>) -> Result<(), NoMemory>
+fn note(uses: &mut Items<PlacedName>, at: usize, name: Option<Bytes>) -> Result<(), NoMemory>
     ensures { OnOk result (uses.new ≡ uses.old ++ uses_from at name) }
 {
     match name {
-        Some(name) => uses.push(Named { at, name }),
+        Some(name) => uses.push(PlacedName { at, name }),
         None => Ok(()),
     }
 }
 
-fn failed(uses: Items<Named>, at: usize) -> ExprReading
+fn failed(uses: Items<PlacedName>, at: usize) -> ExprReading
     ensures { found_of result ≡ places.using uses (places.failed at) }
 {
     ExprReading {
@@ -45,7 +45,7 @@ fn failed(uses: Items<Named>, at: usize) -> ExprReading
 }
 
 /// What is read where the text ends at an offset.
-fn finished(uses: Items<Named>, at: usize, place: Place) -> ExprReading
+fn finished(uses: Items<PlacedName>, at: usize, place: Place) -> ExprReading
     ensures { found_of result ≡ places.using uses (places.over at (places.whole (place_view place))) }
 {
     match place.whole() {

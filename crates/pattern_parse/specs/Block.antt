@@ -21,7 +21,7 @@ use Rattle.num_base.specs.declared.format.FormatKind.{FormatKind}
 use Rattle.num_base.specs.declared.format.FormatKind.TheVariants.{Unsigned, Signed, LowerHex, UpperHex}
 use Rattle.num_exprs.specs.Block.{Reading, num_of, reading}
 use Rattle.num_exprs.specs.Name.{name_at}
-use Rattle.num_exprs.specs.declared.block.Named.{Named}
+use Rattle.num_exprs.specs.declared.block.PlacedName.{PlacedName}
 use Rattle.num_exprs.specs.declared.fault.NumKind.{NumKind}
 use Rattle.num_exprs.specs.declared.fault.NumKind.TheVariants as num
 use Rattle.pattern_parse.specs.Item.{Item, define, recall, number, refused}
@@ -104,7 +104,7 @@ differs (Some g) f = not (same_format g f)
 -- the formats of the numbers that a block uses, and the numbers that are used from then on; or the first refusal at one
 -- of them
 abbrev pub uses_read : (List ℕ → Option Format) → FinMap name_cmp ℤ → Bool → ℕ → FinMap name_cmp ℤ → Option Format
-    → List Named → Result (Option Format × FinMap name_cmp ℤ) PatFault
+    → List PlacedName → Result (Option Format × FinMap name_cmp ℤ) PatFault
 uses_read known defined written at used seen [] = Ok (seen, used)
 uses_read known defined written at used seen (u ∷ us) =
     if is_some (get defined u.name) then refused SameLineNumber (at + u.at)
@@ -115,7 +115,7 @@ uses_read known defined written at used seen (u ∷ us) =
     ]
 
 -- the same of all that it uses, by the formats that are known
-abbrev pub all_uses_read : FinMap name_cmp Format → FinMap name_cmp ℤ → Bool → ℕ → FinMap name_cmp ℤ → List Named
+abbrev pub all_uses_read : FinMap name_cmp Format → FinMap name_cmp ℤ → Bool → ℕ → FinMap name_cmp ℤ → List PlacedName
     → Result (Option Format × FinMap name_cmp ℤ) PatFault
 all_uses_read known defined written at used uses = uses_read (get known) defined written at used None uses
 
@@ -126,15 +126,15 @@ format_of None (Some f) = f
 format_of None None = record { kind = Unsigned; alternate = false; digits = 0 }
 
 -- the numbers that are defined with a block's own
-abbrev pub with_own : FinMap name_cmp ℤ → Option Named → FinMap name_cmp ℤ
+abbrev pub with_own : FinMap name_cmp ℤ → Option PlacedName → FinMap name_cmp ℤ
 with_own defined None = defined
 with_own defined (Some named) = insert defined named.name (pos 1)
 
-abbrev pub is_used : FinMap name_cmp ℤ → Option Named → Bool
+abbrev pub is_used : FinMap name_cmp ℤ → Option PlacedName → Bool
 is_used used None = false
 is_used used (Some named) = is_some (get used named.name)
 
-abbrev pub own_place : Option Named → ℕ
+abbrev pub own_place : Option PlacedName → ℕ
 own_place None = 0
 own_place (Some named) = named.at
 

@@ -21,7 +21,7 @@ use crate::pattern::Piece;
 use crate::said::Said;
 use ere_tree::{EreFail, parse};
 use num_base::{Expr, Format, FormatKind, Numbers, Op};
-use num_exprs::{BlockReading, Named, NumBlock, NumKind, name_at, read_block};
+use num_exprs::{BlockReading, NumBlock, NumKind, PlacedName, name_at, read_block};
 use num_spell::{begins, behind, number_of};
 use std::alloc::Global;
 use tt_base::{Bytes, NoMemory};
@@ -157,7 +157,7 @@ fn read_uses(
     used: &mut Numbers,
     written: bool,
     at: usize,
-    uses: &[Named],
+    uses: &[PlacedName],
 ) -> Result<Result<Option<Format>, PatFault>, NoMemory>
     ensures { Sees result used.new (all_uses_read known.now defined.now written at used.old uses.now) }
 {
@@ -204,7 +204,7 @@ fn format_of(written: Option<Format>, seen: Option<Format>) -> Format
 }
 
 /// Whether the number that a block defines was used before it.
-fn is_used(used: &Numbers, defines: &Option<Named>) -> bool
+fn is_used(used: &Numbers, defines: &Option<PlacedName>) -> bool
     ensures { result ≡ blocks.is_used used.now defines.now }
 {
     match defines {
@@ -213,7 +213,7 @@ fn is_used(used: &Numbers, defines: &Option<Named>) -> bool
     }
 }
 
-fn own_place(defines: &Option<Named>) -> usize
+fn own_place(defines: &Option<PlacedName>) -> usize
     ensures { result ≡ blocks.own_place defines.now }
 {
     match defines {
@@ -223,7 +223,7 @@ fn own_place(defines: &Option<Named>) -> usize
 }
 
 /// Adds the number that a block defines.
-fn add_own(defined: &mut Numbers, defines: &Option<Named>) -> Result<(), NoMemory>
+fn add_own(defined: &mut Numbers, defines: &Option<PlacedName>) -> Result<(), NoMemory>
     ensures { OnOk result (defined.new ≡ blocks.with_own defined.old defines.now) }
 {
     match defines {

@@ -1,6 +1,6 @@
 //! Numeric blocks with what is read of them or their faults, values of expressions, and hostile blocks.
 use num_base::{Expr, Format, Numbers, Op, eval};
-use num_exprs::{Named, NumBlock, NumFail, parse_block, read_block};
+use num_exprs::{NumBlock, NumFail, PlacedName, parse_block, read_block};
 use std::alloc::{AllocError, Global};
 
 fn add_bytes(out: &mut String, bytes: &[u8]) -> Result<(), AllocError> {
@@ -182,14 +182,18 @@ fn the_first_fault_is_told_with_its_place(rt: HostRuntime) -> Result<(), AllocEr
 }
 
 /// A name behind its offset.
-fn put_named(alloc: Global, named: &Named, out: &mut String) -> Result<(), AllocError> {
+fn put_named(alloc: Global, named: &PlacedName, out: &mut String) -> Result<(), AllocError> {
     let at = named.at;
     put(out, format!(in alloc; "{at} ")?.as_str())?;
     add_bytes(out, named.name.as_slice())
 }
 
 /// The names that are read, each with its offset, the defined one in brackets.
-fn names_of(alloc: Global, defines: &Option<Named>, uses: &[Named]) -> Result<String, AllocError> {
+fn names_of(
+    alloc: Global,
+    defines: &Option<PlacedName>,
+    uses: &[PlacedName],
+) -> Result<String, AllocError> {
     let mut out = String::new(alloc);
     if let Some(named) = defines {
         put(&mut out, "[")?;

@@ -15,10 +15,10 @@ use Rattle.report_changes.specs.Answer.{answer_to, changed_status}
 use Rattle.report_changes.specs.Asked.{asked}
 use Rattle.report_changes.specs.Run.{BehindOld, OutcomeBy, OutcomeOf, ReportRead, compared, or_bad}
 use Rattle.report_changes.specs.Stop.{word_at}
-use Rattle.report_changes.specs.declared.asked.Refusal.{Refusal}
+use Rattle.report_changes.specs.declared.asked.ChangesRefusal.{ChangesRefusal}
 use Rattle.report_changes.specs.declared.asked.Reports.{Reports}
-use Rattle.report_changes.specs.declared.stop.Stop.{Stop}
-use Rattle.report_changes.specs.declared.stop.Stop.TheVariants.{Words, Report}
+use Rattle.report_changes.specs.declared.stop.ChangesStop.{ChangesStop}
+use Rattle.report_changes.specs.declared.stop.ChangesStop.TheVariants.{Words, Report}
 use Rattle.report_changes.specs.declared.stop.Unread.{Unread}
 use Rattle.report_changes.specs.declared.stop.Unread.TheVariants.{Missing, TooLarge, Failed, Bad}
 
@@ -28,7 +28,7 @@ module _ {F : Type 0} (of : OfFiles F) (first middle : F) (words : List (List �
     (name : List ℕ) (at : name ≡ word_at words reports.old) (old : Result (List Line) Unread)
     (read : ReportRead (files_of of first middle) name old) (kept : IsKept of first middle) where
   -- what is told behind the old report
-  behind_old : (last : F) (outcome : Result (List Change) Stop) → BehindOld (files_of of middle last) words reports old outcome
+  behind_old : (last : F) (outcome : Result (List Change) ChangesStop) → BehindOld (files_of of middle last) words reports old outcome
       → OutcomeOf of first last words outcome
   behind_old last outcome behind =
       subst (λ found. OutcomeBy of first last words found outcome) (sym is)
@@ -43,7 +43,7 @@ module _ {F : Type 0} (of : OfFiles F) (first middle : F) (words : List (List �
   -- the new one was read too
   pub new_read : (last : F) (lines : List Line) → old ≡ Ok lines → (other : List ℕ) → other ≡ word_at words reports.new
       → (new : Result (List Line) Unread) → ReportRead (files_of of middle last) other new
-      → (outcome : Result (List Change) Stop) → outcome ≡ compared reports.new lines new → OutcomeOf of first last words outcome
+      → (outcome : Result (List Change) ChangesStop) → outcome ≡ compared reports.new lines new → OutcomeOf of first last words outcome
   new_read last lines same other here new found outcome told =
       behind_old last outcome
       (subst (λ report. BehindOld (files_of of middle last) words reports report outcome) (sym same)
@@ -89,7 +89,7 @@ abbrev Fails : {F : Type 0} → OfFiles F → F → F → Type 0
 Fails of first last = Counted of.faults first last × (of.steady first → ⊥)
 
 three_behind : {F : Type 0} (of : OfFiles F) (first middle last : F) (words : List (List ℕ)) (reports : Reports)
-    (old : Result (List Line) Unread) (outcome : Result (List Change) Stop)
+    (old : Result (List Line) Unread) (outcome : Result (List Change) ChangesStop)
     → ReportRead (files_of of first middle) (word_at words reports.old) old → IsKept of first middle
     → BehindOld (files_of of middle last) words reports old outcome → (answer_to words outcome).status ≡ 3 → Fails of first last
 three_behind of first middle last words reports (Ok lines) outcome read kept (new, found, same) is =
@@ -108,8 +108,8 @@ three_behind of first middle last words reports (Err unread) outcome read kept (
       | inr calm ↦ absurd (calm.1 (ap Err failed))
     ]
 
-three_by : {F : Type 0} (of : OfFiles F) (first last : F) (words : List (List ℕ)) (found : Result Reports Refusal)
-    (outcome : Result (List Change) Stop) → OutcomeBy of first last words found outcome
+three_by : {F : Type 0} (of : OfFiles F) (first last : F) (words : List (List ℕ)) (found : Result Reports ChangesRefusal)
+    (outcome : Result (List Change) ChangesStop) → OutcomeBy of first last words found outcome
     → (answer_to words outcome).status ≡ 3 → Fails of first last
 three_by of first last words (Ok reports) outcome (middle, old, read, kept, behind) is =
     three_behind of first middle last words reports old outcome read kept behind is
@@ -117,7 +117,7 @@ three_by of first last words (Err refusal) outcome (rests, same) is =
     absurd (let no = sym (ap (λ o. (answer_to words o).status) same) ∙ is in cc)
 
 -- status 3 is a fault of the files
-pub fault_of_outcome : {F : Type 0} (of : OfFiles F) (first last : F) (words : List (List ℕ)) (outcome : Result (List Change) Stop)
+pub fault_of_outcome : {F : Type 0} (of : OfFiles F) (first last : F) (words : List (List ℕ)) (outcome : Result (List Change) ChangesStop)
     (answer : Answer) → OutcomeOf of first last words outcome → answer ≡ answer_to words outcome → answer.status ≡ 3
     → Fails of first last
 fault_of_outcome of first last words outcome answer from same is =

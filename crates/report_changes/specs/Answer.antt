@@ -7,7 +7,7 @@ use Rattle.test_outcome.specs.declared.outcome.Outcome.{Outcome}
 use Rattle.tt_run.specs.Frame.{newline}
 use Rattle.tt_run.specs.declared.answer.Answer.{Answer}
 use Rattle.report_changes.specs.Stop.{status_of, text_of}
-use Rattle.report_changes.specs.declared.stop.Stop.{Stop}
+use Rattle.report_changes.specs.declared.stop.ChangesStop.{ChangesStop}
 
 -- the name of a result, if there is one
 abbrev pub result_text : Option Outcome → List ℕ
@@ -26,6 +26,6 @@ abbrev pub changed_status : List Change → ℕ
 changed_status [] = 0
 changed_status (change ∷ more) = 1
 
-abbrev pub answer_to : List (List ℕ) → Result (List Change) Stop → Answer
+abbrev pub answer_to : List (List ℕ) → Result (List Change) ChangesStop → Answer
 answer_to words (Ok changes) = record { out = changes_text changes; err = []; status = changed_status changes }
 answer_to words (Err stop) = record { out = []; err = text_of words stop; status = status_of stop }

@@ -5,10 +5,10 @@ use Rattle.json_report.specs.declared.line.ReportFault.TheVariants.{NotJson, Bad
 use Rattle.opt_words.specs.Fault.{text_before, text_behind, word_of}
 use Rattle.tt_run.specs.Frame.{error_text}
 use Rattle.report_changes.specs.Asked.{IsTold}
-use Rattle.report_changes.specs.declared.asked.Refusal.{Refusal}
-use Rattle.report_changes.specs.declared.asked.Refusal.TheVariants.{FaultyWord, NotTwoReports}
-use Rattle.report_changes.specs.declared.stop.Stop.{Stop}
-use Rattle.report_changes.specs.declared.stop.Stop.TheVariants.{Words, Report}
+use Rattle.report_changes.specs.declared.asked.ChangesRefusal.{ChangesRefusal}
+use Rattle.report_changes.specs.declared.asked.ChangesRefusal.TheVariants.{FaultyWord, NotTwoReports}
+use Rattle.report_changes.specs.declared.stop.ChangesStop.{ChangesStop}
+use Rattle.report_changes.specs.declared.stop.ChangesStop.TheVariants.{Words, Report}
 use Rattle.report_changes.specs.declared.stop.Unread.{Unread}
 use Rattle.report_changes.specs.declared.stop.Unread.TheVariants.{Missing, TooLarge, Failed, Bad}
 
@@ -16,7 +16,7 @@ use Rattle.report_changes.specs.declared.stop.Unread.TheVariants.{Missing, TooLa
 abbrev pub word_at : List (List ℕ) → ℕ → List ℕ
 word_at words index = slice_index_or words index []
 
-abbrev pub refusal_text : List (List ℕ) → Refusal → List ℕ
+abbrev pub refusal_text : List (List ℕ) → ChangesRefusal → List ℕ
 refusal_text words (FaultyWord fault) = text_before fault ++ word_at words (word_of fault) ++ text_behind fault
 refusal_text words NotTwoReports = codes "two reports are needed"
 
@@ -36,11 +36,11 @@ unread_text name TooLarge = codes "'" ++ name ++ codes "' is too large"
 unread_text name Failed = codes "cannot read '" ++ name ++ codes "'"
 unread_text name (Bad fault) = (codes "bad report '" ++ name ++ codes "': ") ++ kind_of fault
 
-abbrev pub reason_of : List (List ℕ) → Stop → List ℕ
+abbrev pub reason_of : List (List ℕ) → ChangesStop → List ℕ
 reason_of words (Words refusal) = refusal_text words refusal
 reason_of words (Report word unread) = unread_text (word_at words word) unread
 
-abbrev pub text_of : List (List ℕ) → Stop → List ℕ
+abbrev pub text_of : List (List ℕ) → ChangesStop → List ℕ
 text_of words stop = error_text (codes "lit_changes") (reason_of words stop)
 
 abbrev pub unread_status : Unread → ℕ
@@ -49,11 +49,11 @@ unread_status Missing = 2
 unread_status TooLarge = 2
 unread_status (Bad fault) = 2
 
-abbrev pub status_of : Stop → ℕ
+abbrev pub status_of : ChangesStop → ℕ
 status_of (Words refusal) = 2
 status_of (Report word unread) = unread_status unread
 
 -- what is told of is among so many words
-abbrev pub IsToldOf : ℕ → Stop → Type 0
+abbrev pub IsToldOf : ℕ → ChangesStop → Type 0
 IsToldOf count (Words refusal) = IsTold count refusal
 IsToldOf count (Report word unread) = word < count

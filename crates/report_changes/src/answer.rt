@@ -4,7 +4,7 @@ ghost use Rattle.opt_words.specs.Step.{texts};
 ghost use Rattle.report_changes.specs.Answer.{answer_to, change_line, changes_text, result_text};
 ghost use Rattle.report_changes.specs.Stop.{IsToldOf};
 
-use crate::stop::{Stop, add_number, status_of, text_of};
+use crate::stop::{ChangesStop, add_number, status_of, text_of};
 use json_report::Change;
 use std::alloc::Global;
 use test_outcome::Outcome;
@@ -15,7 +15,7 @@ use tt_run::Answer;
 pub(crate) fn answer_to(
     alloc: Global,
     words: &[String],
-    outcome: &Result<Items<Change>, Stop>,
+    outcome: &Result<Items<Change>, ChangesStop>,
 ) -> Result<Answer, NoMemory>
     requires { IfErr outcome.now (IsToldOf (length words.now)) }
     ensures value { IfOk result (λ answer. answer ≡ answer_to (texts words.now) outcome.now) }

@@ -16,7 +16,7 @@ pub struct Reports {
 
 /// Why the words are refused.
 #[derive(Clone, Copy, Debug, PartialEq, Eq)]
-pub enum Refusal {
+pub enum ChangesRefusal {
     /// A word that isn't a plain one, as `--nope`.
     FaultyWord(WordFault),
     /// Not two plain words.
@@ -24,7 +24,10 @@ pub enum Refusal {
 }
 
 /// The reports that the words ask for.
-pub(crate) fn asked(alloc: Global, words: &[String]) -> Result<Result<Reports, Refusal>, NoMemory>
+pub(crate) fn asked(
+    alloc: Global,
+    words: &[String],
+) -> Result<Result<Reports, ChangesRefusal>, NoMemory>
     ensures value { IfOk result (λ found. found ≡ asked (texts words.now)) }
     ensures within { IfOk result (λ found. IfOk found (AreWithin (length words.now))) }
     ensures told { IfOk result (λ found. IfErr found (IsTold (length words.now))) }
@@ -34,7 +37,7 @@ pub(crate) fn asked(alloc: Global, words: &[String]) -> Result<Result<Reports, R
         stop_at_plain: false,
     };
     if let Err(fault) = table.read(words) {
-        return Ok(Err(Refusal::FaultyWord(fault)));
+        return Ok(Err(ChangesRefusal::FaultyWord(fault)));
     }
     let all = table.givens(alloc, words)?;
     match all.as_slice() {
@@ -42,6 +45,6 @@ pub(crate) fn asked(alloc: Global, words: &[String]) -> Result<Result<Reports, R
             old: old.word,
             new: new.word,
         })),
-        _ => Ok(Err(Refusal::NotTwoReports)),
+        _ => Ok(Err(ChangesRefusal::NotTwoReports)),
     }
 }

@@ -7,6 +7,6 @@ mod asked;
 mod run;
 mod stop;
 
-pub use asked::{Refusal, Reports};
+pub use asked::{ChangesRefusal, Reports};
 pub use run::{CHANGES, REPORT_LIMIT, changes_run};
-pub use stop::{Stop, Unread};
+pub use stop::{ChangesStop, Unread};

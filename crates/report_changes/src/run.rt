@@ -7,15 +7,15 @@ ghost use Rattle.tt_run.specs.Run.{Failed, IsKept, LacksMemory, files_of, stream
 
 use crate::answer::answer_to;
 use crate::asked::asked;
-use crate::stop::{Stop, Unread};
+use crate::stop::{ChangesStop, Unread};
 use json_report::{Change, Line, ReportFail, changes, read_report};
 use std::alloc::Global;
 use tt_base::{Items, NoMemory};
 use tt_outside::{Files, Sink};
-use tt_run::{Answer, Frame, Reading, read_named};
+use tt_run::{Answer, Reading, ToolFrame, read_named};
 
 /// The name of `lit_changes`.
-pub const CHANGES: Frame = Frame {
+pub const CHANGES: ToolFrame = ToolFrame {
     name: b"lit_changes",
 };
 
@@ -66,22 +66,22 @@ fn outcome_of<F: Files>(
     alloc: Global,
     words: &[String],
     files: &mut F,
-) -> Result<Result<Items<Change>, Stop>, NoMemory>
+) -> Result<Result<Items<Change>, ChangesStop>, NoMemory>
     ensures value { IfOk result (OutcomeOf F.Files files.old files.new (texts words.now)) }
     ensures told { IfOk result (λ outcome. IfErr outcome (IsToldOf (length words.now))) }
     ensures files_stay { IsKept F.Files files.old files.new }
 {
     let asked = match asked(alloc, words)? {
         Ok(asked) => asked,
-        Err(refusal) => return Ok(Err(Stop::Words(refusal))),
+        Err(refusal) => return Ok(Err(ChangesStop::Words(refusal))),
     };
     let old = match report_from(alloc, word_at(words, asked.old), files)? {
         Ok(lines) => lines,
-        Err(unread) => return Ok(Err(Stop::Report(asked.old, unread))),
+        Err(unread) => return Ok(Err(ChangesStop::Report(asked.old, unread))),
     };
     let new = match report_from(alloc, word_at(words, asked.new), files)? {
         Ok(lines) => lines,
-        Err(unread) => return Ok(Err(Stop::Report(asked.new, unread))),
+        Err(unread) => return Ok(Err(ChangesStop::Report(asked.new, unread))),
     };
     Ok(Ok(changes(alloc, old.as_slice(), new.as_slice())?))
 }

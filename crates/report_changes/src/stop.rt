@@ -4,7 +4,7 @@ ghost use Rattle.opt_words.specs.Step.{texts};
 ghost use Rattle.report_changes.specs.Asked.{IsTold};
 ghost use Rattle.report_changes.specs.Stop.{IsToldOf, kind_of, reason_of, refusal_text, status_of, text_of, unread_text};
 
-use crate::asked::Refusal;
+use crate::asked::ChangesRefusal;
 use itoa::Buffer;
 use json_report::ReportFault;
 use std::alloc::Global;
@@ -25,25 +25,25 @@ pub enum Unread {
 
 /// Why two reports aren't compared.
 #[derive(Clone, Copy, Debug, PartialEq, Eq)]
-pub enum Stop {
-    Words(Refusal),
+pub enum ChangesStop {
+    Words(ChangesRefusal),
     /// A report by the index of the word that names it, and what is amiss.
     Report(usize, Unread),
 }
 
 /// The status of a stop.
-pub(crate) fn status_of(stop: Stop) -> u8
+pub(crate) fn status_of(stop: ChangesStop) -> u8
     ensures value { result ≡ status_of stop }
     ensures small { result ≤ 3 }
 {
     match stop {
-        Stop::Report(_, Unread::Failed) => 3,
+        ChangesStop::Report(_, Unread::Failed) => 3,
         _ => 2,
     }
 }
 
 /// The message of a stop.
-pub(crate) fn text_of(alloc: Global, words: &[String], stop: Stop) -> Result<Bytes, NoMemory>
+pub(crate) fn text_of(alloc: Global, words: &[String], stop: ChangesStop) -> Result<Bytes, NoMemory>
     requires { IsToldOf (length words.now) stop }
     ensures { IfOk result (λ text. text ≡ text_of (texts words.now) stop) }
 {
@@ -55,23 +55,23 @@ pub(crate) fn text_of(alloc: Global, words: &[String], stop: Stop) -> Result<Byt
 }
 
 /// What is amiss.
-fn reason_of(alloc: Global, words: &[String], stop: Stop) -> Result<Bytes, NoMemory>
+fn reason_of(alloc: Global, words: &[String], stop: ChangesStop) -> Result<Bytes, NoMemory>
     requires { IsToldOf (length words.now) stop }
     ensures { IfOk result (λ text. text ≡ reason_of (texts words.now) stop) }
 {
     match stop {
-        Stop::Words(refusal) => refusal_text(alloc, words, refusal),
-        Stop::Report(word, unread) => unread_text(alloc, words[word].as_bytes(), unread),
+        ChangesStop::Words(refusal) => refusal_text(alloc, words, refusal),
+        ChangesStop::Report(word, unread) => unread_text(alloc, words[word].as_bytes(), unread),
     }
 }
 
 /// Why the words are refused.
-fn refusal_text(alloc: Global, words: &[String], refusal: Refusal) -> Result<Bytes, NoMemory>
+fn refusal_text(alloc: Global, words: &[String], refusal: ChangesRefusal) -> Result<Bytes, NoMemory>
     requires { IsTold (length words.now) refusal }
     ensures { IfOk result (λ text. text ≡ refusal_text (texts words.now) refusal) }
 {
     match refusal {
-        Refusal::FaultyWord(fault) => {
+        ChangesRefusal::FaultyWord(fault) => {
             named(
                 alloc,
                 fault.text_before(),
@@ -79,7 +79,7 @@ fn refusal_text(alloc: Global, words: &[String], refusal: Refusal) -> Result<Byt
                 fault.text_behind(),
             )
         }
-        Refusal::NotTwoReports => Bytes::from_slice(alloc, b"two reports are needed"),
+        ChangesRefusal::NotTwoReports => Bytes::from_slice(alloc, b"two reports are needed"),
     }
 }
 

@@ -13,8 +13,8 @@ use Rattle.lit_words.specs.Asked.{Wanted, asked_by}
 use Rattle.lit_tool.specs.Answer.{TellsStop, status_of}
 use Rattle.lit_tool.specs.Kept.{kept_of}
 use Rattle.lit_tool.specs.Run.{AskedEnds, Call, LitEnds, RunsTests, RunsTold, ShowsOrRuns, TestsFrom, TreeRun}
-use Rattle.lit_tool.specs.declared.stop.Stop.{Stop}
-use Rattle.lit_tool.specs.declared.stop.Stop.TheVariants.{Words, Discovery, NoneSelected, NotText}
+use Rattle.lit_tool.specs.declared.stop.LitStop.{LitStop}
+use Rattle.lit_tool.specs.declared.stop.LitStop.TheVariants.{Words, Discovery, NoneSelected, NotText}
 use Rattle.run_report.specs.Run.{Around, RunEnds, are_told}
 use Rattle.run_report.specs.declared.ending.LitEnd.{LitEnd}
 use Rattle.run_laws.proofs.ListLemmas.{one_list}
@@ -35,14 +35,14 @@ found_high NoTests low = omega (arith, low)
 found_high TreeFault low = omega (arith, low)
 found_high NoMemory low = omega (arith, low)
 
-stop_high : (stop : Stop) → status_of stop ≤ 1 → ⊥
+stop_high : (stop : LitStop) → status_of stop ≤ 1 → ⊥
 stop_high (Words fault) low = omega (arith, low)
 stop_high NoneSelected low = omega (arith, low)
 stop_high NotText low = omega (arith, low)
 stop_high (Discovery fault) low = found_high fault low
 
 -- no stop was told
-told_high : (stop : Stop) (status : ℕ) (err : Stream) → TellsStop stop status err → status ≤ 1 → ⊥
+told_high : (stop : LitStop) (status : ℕ) (err : Stream) → TellsStop stop status err → status ≤ 1 → ⊥
 told_high stop status err (inl (four, told)) low = omega (arith, four, low)
 told_high stop status err (inr (inl (same, taken))) low = stop_high stop (subst (λ n. n ≤ 1) same low)
 told_high stop status err (inr (inr (three, stopped))) low = omega (arith, three, low)
@@ -58,7 +58,7 @@ told_tests : (t : TreeRun) (wanted : Wanted) (tests : List Test) (all : Bool) (a
 told_tests t wanted tests true a end from runs low = record { tests = tests; from = from; ends = runs }
 told_tests t wanted tests false a end from (nothing, rests, told) low = absurd (told_high NotText end.status a.err told low)
 
-ran_tests : (t : TreeRun) (wanted : Wanted) (outcome : Result (List Test) Stop) (a : Around) (end : LitEnd) → TestsFrom t wanted outcome
+ran_tests : (t : TreeRun) (wanted : Wanted) (outcome : Result (List Test) LitStop) (a : Around) (end : LitEnd) → TestsFrom t wanted outcome
     → RunsTests wanted.detail wanted.workers outcome a end → end.status ≤ 1 → Ran t wanted a end
 ran_tests t wanted (Ok tests) a end from runs low = told_tests t wanted tests (are_told wanted.detail tests) a end from runs low
 ran_tests t wanted (Err stop) a end from (nothing, rests, told) low = absurd (told_high stop end.status a.err told low)
@@ -95,7 +95,7 @@ same_tests : (nodes : List Node) (base : List ℕ) (wanted : Wanted) (one other 
 same_tests nodes base wanted one other first second =
     let all = one_list nodes (map (joined (parts_of base)) wanted.paths) first.all second.all first.are second.are in
     let same : Ok one ≡ Ok other = first.kept ∙ ap (kept_of wanted) all ∙ sym second.kept in
-    ap (λ (found : Result (List Test) Stop). elim found [ Ok tests ↦ tests | Err stop ↦ one ]) same
+    ap (λ (found : Result (List Test) LitStop). elim found [ Ok tests ↦ tests | Err stop ↦ one ]) same
 
 -- ---- two calls
 

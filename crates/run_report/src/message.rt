@@ -5,10 +5,10 @@ ghost use Rattle.run_report.specs.Run.{StopTells};
 
 use lit_pool::PoolWhy;
 use tt_outside::Sink;
-use tt_run::{Frame, answer_on};
+use tt_run::{ToolFrame, answer_on};
 
 /// The name of lit.
-pub const LIT: Frame = Frame { name: b"lit" };
+pub const LIT: ToolFrame = ToolFrame { name: b"lit" };
 
 /// Tells that the tests keep too many bytes, and answers 2, or 3 where the error stream fails.
 fn tell_too_much<E: Sink>(err: &mut E) -> u8

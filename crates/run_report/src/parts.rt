@@ -9,7 +9,7 @@ ghost use Rattle.run_report.specs.Run.{PartsWrite, StopsBehind, StopsTests};
 use lit_desk::LitDesk;
 use lit_pool::{PoolStop, run_all};
 use lit_test::Trial;
-use lit_words::Asked;
+use lit_words::LitAsked;
 use std::alloc::Global;
 use std::sync::Wait;
 use std::thread::Threads;
@@ -30,7 +30,7 @@ pub(crate) fn write_piece<O: Sink>(piece: &[u8], out: &mut O) -> Result<(), Fail
 pub(crate) fn report_each<R: Threads + Wait + Sync, C: Crew, O: Sink>(
     rt: &R,
     alloc: Global,
-    asked: &Asked,
+    asked: &LitAsked,
     tests: &Items<Test>,
     from: &mut C,
     out: &mut O,

@@ -9,7 +9,7 @@ use crate::ending::{LitEnd, write_end};
 use crate::message::{LIT, tell_stop};
 use crate::parts::{report_each, write_piece};
 use lit_report::header;
-use lit_words::{Asked, Detail};
+use lit_words::{Detail, LitAsked};
 use std::alloc::Global;
 use std::sync::Wait;
 use std::thread::Threads;
@@ -44,7 +44,7 @@ fn write_header<O: Sink, E: Sink>(
 pub fn run_and_report<R: Threads + Wait + Sync, C: Crew, O: Sink, E: Sink>(
     rt: &R,
     alloc: Global,
-    asked: &Asked,
+    asked: &LitAsked,
     tests: &Items<Test>,
     from: &mut C,
     out: &mut O,

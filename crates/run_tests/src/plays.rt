@@ -2,9 +2,9 @@
 use crate::crews::{asked, crew_of, test_at_w};
 use crate::rows::three;
 use mini_shell::{Line, parse_line};
-use shell_play::{Note, Told};
+use shell_play::{LackNote, Told};
 use std::alloc::{AllocError, Global};
-use test_attempts::{Finished, Stop, run_attempts};
+use test_attempts::{AttemptStop, Finished, run_attempts};
 use tt_base::{Bytes, Items, NoMemory};
 use tt_outside::{Crew, Entry, Runner, Test};
 
@@ -17,11 +17,11 @@ fn lines_of(alloc: Global, field: &str) -> Result<Items<Line>, NoMemory> {
     Ok(lines)
 }
 
-fn show_note(out: &mut Bytes, note: &Note) -> Result<(), NoMemory> {
+fn show_note(out: &mut Bytes, note: &LackNote) -> Result<(), NoMemory> {
     match note {
-        Note::NoProgram(word) => show_bytes(out, b"no program ", word.as_slice()),
-        Note::NoFile(path) => show_bytes(out, b"no file ", path.as_slice()),
-        Note::NoWrite(path) => show_bytes(out, b"no place ", path.as_slice()),
+        LackNote::NoProgram(word) => show_bytes(out, b"no program ", word.as_slice()),
+        LackNote::NoFile(path) => show_bytes(out, b"no file ", path.as_slice()),
+        LackNote::NoWrite(path) => show_bytes(out, b"no place ", path.as_slice()),
     }
 }
 
@@ -60,7 +60,7 @@ fn counts(alloc: Global, attempts: u32, began: u32) -> Result<Bytes, NoMemory> {
     }
 }
 
-fn show_stop(alloc: Global, out: &mut Bytes, stop: Stop) -> Result<(), NoMemory> {
+fn show_stop(alloc: Global, out: &mut Bytes, stop: AttemptStop) -> Result<(), NoMemory> {
     match format!(in alloc; "{stop:?}; ") {
         Ok(text) => out.append(text.as_bytes()),
         Err(AllocError) => Err(NoMemory),

@@ -22,8 +22,8 @@ use Rattle.test_course.specs.Course.{Course, over, asks}
 use Rattle.shell_play.specs.Places.{joined, is_null, places_of, source_of, flow_of, errors_of, writes_of}
 use Rattle.shell_play.specs.declared.places.Places.{Places}
 use Rattle.shell_play.specs.declared.places.Write.{Write}
-use Rattle.shell_play.specs.declared.told.Note.{Note}
-use Rattle.shell_play.specs.declared.told.Note.TheVariants.{NoProgram, NoFile, NoWrite}
+use Rattle.shell_play.specs.declared.told.LackNote.{LackNote}
+use Rattle.shell_play.specs.declared.told.LackNote.TheVariants.{NoProgram, NoFile, NoWrite}
 use Rattle.shell_play.specs.declared.told.PlayEnd.{PlayEnd}
 use Rattle.shell_play.specs.declared.told.PlayEnd.TheVariants.{Passed, Failed, Unresolved}
 use Rattle.shell_play.specs.declared.told.Told.{Told}
@@ -49,7 +49,7 @@ with_now before now = record { told = before ++ now ∷ []; began = now.line + 1
 abbrev pub quiet : ℕ → Told
 quiet line = record { line = line; notes = []; out = []; err = []; status = None }
 
-abbrev pub noted : Told → Note → Told
+abbrev pub noted : Told → LackNote → Told
 noted now note = record now { notes = now.notes ++ note ∷ [] }
 
 abbrev pub status_of : Finish → ℕ

@@ -24,7 +24,7 @@ use Rattle.shell_play.specs.declared.change.Ending.{Ending}
 use Rattle.shell_play.specs.declared.change.Poured.{Poured}
 use Rattle.shell_play.specs.declared.places.Places.{Places}
 use Rattle.shell_play.specs.declared.places.Write.{Write}
-use Rattle.shell_play.specs.declared.told.Note.{Note}
+use Rattle.shell_play.specs.declared.told.LackNote.{LackNote}
 use Rattle.shell_play.specs.declared.told.Told.{Told}
 
 -- pipes that are left of a line, and the lines behind it
@@ -54,7 +54,7 @@ abbrev pub files_by : Test → Running → Ending → List Told → PlayCourse
 files_by test r ending before = write_files ending.writes (onward test r ending.flow) before ending.told ending.status
 
 -- where it left these streams
-abbrev pub streamed_by : Test → Running → List Note → Output → List Told → PlayCourse
+abbrev pub streamed_by : Test → Running → List LackNote → Output → List Told → PlayCourse
 streamed_by test r notes output before =
     streamed (task test r) (onward test r) before (record (quiet r.line) { notes = notes }) output.out output.err output.status
 

@@ -6,7 +6,7 @@ ghost use Rattle.shell_play.specs.Standing.{IsHere, IsPoured, AreFew, ChangesBy,
 use crate::places::{Write, errors_of, flow_of, places_of, writes_of};
 use crate::stage::{Running, Stage, Wants};
 use crate::steps::next_command;
-use crate::told::{Note, PlayEnd, Told};
+use crate::told::{LackNote, PlayEnd, Told};
 use crate::tools::tooled;
 use mini_shell::Command;
 use std::alloc::Global;
@@ -154,7 +154,7 @@ fn streamed<'a>(
     alloc: Global,
     test: &Test,
     running: &Running<'a>,
-    notes: Items<Note>,
+    notes: Items<LackNote>,
     output: &Output,
 ) -> Result<Change<'a>, NoMemory>
     requires few { running.now.line + length running.now.lines.now < 1000 }
@@ -201,7 +201,7 @@ fn program_of(alloc: Global, test: &Test, running: &Running) -> Result<Bytes, No
 }
 
 /// One note.
-fn one(alloc: Global, note: Note) -> Result<Items<Note>, NoMemory>
+fn one(alloc: Global, note: LackNote) -> Result<Items<LackNote>, NoMemory>
     ensures { IfOk result (λ notes. notes ≡ note ∷ []) }
 {
     let mut notes = Items::new(alloc);
@@ -256,7 +256,7 @@ fn by_read<'a>(
         Reply::Missing => {
             let notes = one(
                 alloc,
-                Note::NoFile(Bytes::from_slice(alloc, path.as_slice())?),
+                LackNote::NoFile(Bytes::from_slice(alloc, path.as_slice())?),
             )?;
             streamed(alloc, test, running, notes, &silent(1))
         }
@@ -288,7 +288,10 @@ fn by_spawn<'a>(
             streamed(alloc, test, running, Items::new(alloc), &output)
         }
         Reply::Missing => {
-            let notes = one(alloc, Note::NoProgram(program_of(alloc, test, running)?))?;
+            let notes = one(
+                alloc,
+                LackNote::NoProgram(program_of(alloc, test, running)?),
+            )?;
             streamed(alloc, test, running, notes, &silent(127))
         }
         Reply::Written | Reply::Bytes(_) | Reply::TooLarge(_) | Reply::Broken => {
@@ -338,7 +341,7 @@ fn by_write<'a>(
     match reply {
         Reply::Written => write_files(alloc, test, running, ending),
         Reply::Missing => {
-            let note = Note::NoWrite(Bytes::from_slice(alloc, path.as_slice())?);
+            let note = LackNote::NoWrite(Bytes::from_slice(alloc, path.as_slice())?);
             ending.told.notes.push(note)?;
             ending.status = lacking(ending.status);
             write_files(alloc, test, running, ending)

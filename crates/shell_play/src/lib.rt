@@ -12,8 +12,9 @@ mod told;
 mod tools;
 
 pub use places::{
-    Place, Places, Write, errors_of, flow_of, is_null, joined, places_of, source_of, writes_of,
+    Places, StreamPlace, Write, errors_of, flow_of, is_null, joined, places_of, source_of,
+    writes_of,
 };
 pub use play::{Due, Play};
-pub use told::{Note, PlayEnd, Told};
+pub use told::{LackNote, PlayEnd, Told};
 pub use tools::tooled;

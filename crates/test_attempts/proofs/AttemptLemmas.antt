@@ -16,8 +16,8 @@ use Rattle.shell_play.specs.declared.told.PlayEnd.{PlayEnd}
 use Rattle.shell_play.specs.declared.told.PlayEnd.TheVariants.{Passed, Failed, Unresolved}
 use Rattle.test_attempts.specs.Attempts.{AttemptsCourse, Seen, seen, once_begun, by_end, attempts}
 use Rattle.test_attempts.specs.Ends.{Ends, is_failed}
-use Rattle.test_attempts.specs.declared.attempt.Stop.{Stop}
-use Rattle.test_attempts.specs.declared.attempt.Stop.TheVariants.{Ended, TooMuch}
+use Rattle.test_attempts.specs.declared.attempt.AttemptStop.{AttemptStop}
+use Rattle.test_attempts.specs.declared.attempt.AttemptStop.TheVariants.{Ended, TooMuch}
 
 -- behind the end of an attempt, where so many more are left
 abbrev pub by_left : PlayCourse → ℕ → ℕ → Shown → PlayEnd → AttemptsCourse
@@ -67,7 +67,7 @@ again gave number earlier entries later start course kept play left begun before
     began
 
 -- an attempt that is the last one
-pub last_one : (play rest : PlayCourse) (left begun kept : ℕ) (stop : Stop) → (left ≡ 0) ⊎ (is_failed stop ≡ false)
+pub last_one : (play rest : PlayCourse) (left begun kept : ℕ) (stop : AttemptStop) → (left ≡ 0) ⊎ (is_failed stop ≡ false)
     → Ends rest stop → IsFull kept rest
     → IsFull kept (followed (seen begun) (by_left play left begun) rest)
     × Ends (followed (seen begun) (by_left play left begun) rest) stop
@@ -82,7 +82,7 @@ last_one play (asks s r n) left begun kept (Ended is) which e f = absurd e
 last_one play (asks s r n) left begun kept TooMuch which e f = (f, tt, refl)
 
 -- an attempt that another one follows
-another : (play rest : PlayCourse) (left begun : ℕ) (stop : Stop) → is_failed stop ≡ true → Ends rest stop
+another : (play rest : PlayCourse) (left begun : ℕ) (stop : AttemptStop) → is_failed stop ≡ true → Ends rest stop
     → followed (seen begun) (by_left play (suc left) begun) rest ≡ attempts play left begun (seen begun (shown rest))
 another play (over s (Failed line status)) left begun (Ended is) failed e = refl
 another play (over s Passed) left begun (Ended is) failed e = absurd (cc (rw e at failed))
@@ -93,7 +93,7 @@ another play (asks s r n) left begun TooMuch failed e = absurd (cc failed)
 
 -- an attempt that failed, and the next one
 pub onward : (gave : Gave) (number : ℕ) (earlier later : List Entry) (start : ℕ) (course : AttemptsCourse)
-    (kept : ℕ) (play : PlayCourse) (left fewer begun : ℕ) (rest : PlayCourse) (stop : Stop) → left ≡ suc fewer
+    (kept : ℕ) (play : PlayCourse) (left fewer begun : ℕ) (rest : PlayCourse) (stop : AttemptStop) → left ≡ suc fewer
     → is_failed stop ≡ true → Ends rest stop
     → Played gave number earlier later start course kept (followed (seen begun) (by_left play left begun) rest)
     → Played gave number earlier later start course kept (attempts play fewer begun (seen begun (shown rest)))

@@ -15,7 +15,7 @@ use tt_outside::{Entry, Runner};
 
 /// Why nothing more is asked.
 #[derive(Clone, Copy, Debug, PartialEq, Eq)]
-pub enum Stop {
+pub enum AttemptStop {
     Ended(PlayEnd),
     /// What is due would pass the bytes that a test keeps.
     TooMuch,
@@ -24,8 +24,8 @@ pub enum Stop {
 /// What an attempt leaves: why nothing more is asked, and how many bytes are kept, counted up to
 /// `COUNTED`.
 #[derive(Clone, Copy, Debug, PartialEq, Eq)]
-pub struct Left {
-    pub stop: Stop,
+pub struct AttemptEnd {
+    pub stop: AttemptStop,
     pub kept: u64,
 }
 
@@ -36,7 +36,7 @@ pub fn play_out<R: Runner>(
     entries: &mut Items<Entry>,
     kept: u64,
     hand: &mut R,
-) -> Result<Left, NoMemory>
+) -> Result<AttemptEnd, NoMemory>
     requires begun { R.begun hand.old ≢ [] }
     requires ready { R.ready hand.old }
     requires kept { kept ≤ 2 ^ 25 }
@@ -58,15 +58,15 @@ pub fn play_out<R: Runner>(
     loop {
         match play.due(alloc)? {
             Due::Over(end) => {
-                return Ok(Left {
-                    stop: Stop::Ended(end),
+                return Ok(AttemptEnd {
+                    stop: AttemptStop::Ended(end),
                     kept,
                 });
             }
             Due::Ask(request) => {
                 if kept + own_bytes(&request) > MAX_KEPT {
-                    return Ok(Left {
-                        stop: Stop::TooMuch,
+                    return Ok(AttemptEnd {
+                        stop: AttemptStop::TooMuch,
                         kept,
                     });
                 }

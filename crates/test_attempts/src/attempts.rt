@@ -8,7 +8,7 @@ ghost use Rattle.test_attempts.specs.Ends.{is_failed};
 ghost use Rattle.test_attempts.specs.Finish.{Finishes};
 ghost use Rattle.test_attempts.specs.Hands.{Asked, Failed};
 
-use crate::attempt::{Stop, play_out};
+use crate::attempt::{AttemptStop, play_out};
 use mini_shell::Line;
 use shell_play::{Play, PlayEnd};
 use std::alloc::Global;
@@ -21,14 +21,14 @@ pub struct Finished<'a> {
     pub attempts: u32,
     /// It is at its beginning where none began.
     pub last: Play<'a>,
-    pub stop: Stop,
+    pub stop: AttemptStop,
     pub kept: u64,
 }
 
-fn is_failed(stop: &Stop) -> bool
+fn is_failed(stop: &AttemptStop) -> bool
     ensures { result ≡ is_failed stop.now }
 {
-    matches!(stop, Stop::Ended(PlayEnd::Failed { .. }))
+    matches!(stop, AttemptStop::Ended(PlayEnd::Failed { .. }))
 }
 
 /// Plays lines, and while they fail plays them again, so often at most.
@@ -69,7 +69,7 @@ pub fn run_attempts<'a, R: Runner>(
             return Ok(Finished {
                 attempts,
                 last,
-                stop: Stop::TooMuch,
+                stop: AttemptStop::TooMuch,
                 kept,
             });
         }

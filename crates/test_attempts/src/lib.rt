@@ -5,5 +5,5 @@
 mod attempt;
 mod attempts;
 
-pub use attempt::{Left, Stop, play_out};
+pub use attempt::{AttemptEnd, AttemptStop, play_out};
 pub use attempts::{Finished, run_attempts};

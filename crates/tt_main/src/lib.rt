@@ -14,7 +14,7 @@ pub use page::{Page, Pages, page_of, show_page};
 use std::env::{self, Env};
 use std::io::{self, ErrorKind};
 use tt_outside::Sink;
-use tt_run::Frame;
+use tt_run::ToolFrame;
 
 /// The words of the command line, without the program's name.
 pub fn words<R: Env + AllocGlobal>(rt: &R) -> io::Result<Vec<String>> {
@@ -27,7 +27,7 @@ pub fn words<R: Env + AllocGlobal>(rt: &R) -> io::Result<Vec<String>> {
 /// ask for one of its pages, which is shown.
 pub fn words_or_page<R: Env + AllocGlobal, O: Sink, E: Sink>(
     rt: &R,
-    frame: Frame,
+    frame: ToolFrame,
     pages: Pages,
     out: &mut O,
     err: &mut E,
@@ -43,7 +43,7 @@ pub fn words_or_page<R: Env + AllocGlobal, O: Sink, E: Sink>(
 }
 
 /// Tells why there are no words: one of them isn't text, with status 2; or there was no memory for them, with status 4.
-pub fn no_words<E: Sink>(error: &io::Error, frame: Frame, err: &mut E) -> u8
+pub fn no_words<E: Sink>(error: &io::Error, frame: ToolFrame, err: &mut E) -> u8
     ensures { NoWords frame.name.now (error_kind error.now) result (stream_of E.Sink err.old err.new) }
 {
     match error.kind() {

@@ -5,7 +5,7 @@ ghost use Rattle.tt_run.specs.Frame.{cannot_write};
 ghost use Rattle.tt_run.specs.Run.{stream_of};
 
 use tt_outside::{Sink, write_all};
-use tt_run::Frame;
+use tt_run::ToolFrame;
 
 /// A page that a program shows of itself.
 #[derive(Clone, Copy, Debug, PartialEq, Eq)]
@@ -55,7 +55,7 @@ fn page_named(word: &[u8]) -> Option<Page>
 }
 
 /// Shows a page: 0, or 3 where `out` fails, which is told on `err`.
-pub fn show_page<O: Sink, E: Sink>(text: &[u8], frame: Frame, out: &mut O, err: &mut E) -> u8
+pub fn show_page<O: Sink, E: Sink>(text: &[u8], frame: ToolFrame, out: &mut O, err: &mut E) -> u8
     ensures shown { Shown text.now (cannot_write frame.name.now) result (stream_of O.Sink out.old out.new)
         (stream_of E.Sink err.old err.new) (err.new ≡ err.old) }
 {

@@ -10,6 +10,6 @@ mod told;
 
 pub use gathered::Gathered;
 pub use pen::Pen;
-pub use piece::Piece;
+pub use piece::TextPiece;
 pub use pieces::Pieces;
 pub use told::put_pieces;

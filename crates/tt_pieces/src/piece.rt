@@ -2,7 +2,7 @@
 
 /// A piece of a text. A blank is a byte.
 #[derive(Drop, Debug)]
-pub enum Piece<'a> {
+pub enum TextPiece<'a> {
     Bytes(&'a [u8]),
     Number(u64),
     Blanks(usize),

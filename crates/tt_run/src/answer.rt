@@ -3,7 +3,7 @@ ghost use Rattle.std.specs.Prelude.{◌≤◌};
 ghost use Rattle.tt_run.specs.Frame.{cannot_write};
 ghost use Rattle.tt_run.specs.Run.{Answered, Written, stream_of};
 
-use crate::frame::Frame;
+use crate::frame::ToolFrame;
 use tt_base::Bytes;
 use tt_outside::{Sink, write_all};
 
@@ -17,7 +17,7 @@ pub struct Answer {
 
 impl Answer {
     /// Writes the answer of a tool, and answers its status, or 3 where a stream fails.
-    pub fn write<O: Sink, E: Sink>(&self, frame: Frame, out: &mut O, err: &mut E) -> u8
+    pub fn write<O: Sink, E: Sink>(&self, frame: ToolFrame, out: &mut O, err: &mut E) -> u8
         requires { self.now.status ≤ 3 }
         ensures written { Written (cannot_write frame.name.now) self.now result
             (stream_of O.Sink out.old out.new) (stream_of E.Sink err.old err.new) }

@@ -8,11 +8,11 @@ use tt_outside::Sink;
 
 /// The name under which a tool tells what goes wrong. What every tool tells in the same words takes no memory.
 #[derive(Clone, Copy, Debug)]
-pub struct Frame {
+pub struct ToolFrame {
     pub name: &'static [u8],
 }
 
-impl Frame {
+impl ToolFrame {
     /// Tells that a stream can't be written, as far as `err` takes it, and answers 3.
     pub fn cannot_write<E: Sink>(self, err: &mut E) -> u8
         ensures status { result ≡ 3 }

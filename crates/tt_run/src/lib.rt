@@ -8,6 +8,6 @@ mod parts;
 mod reading;
 
 pub use answer::{Answer, answer_on};
-pub use frame::Frame;
+pub use frame::ToolFrame;
 pub use parts::answer_parts;
 pub use reading::{Reading, read_named, read_source};

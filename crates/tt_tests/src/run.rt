@@ -5,7 +5,7 @@ use crate::rows::limited;
 use std::alloc::Global;
 use tt_base::{Bytes, Items, NoMemory};
 use tt_outside::{MemFiles, MemSink, MemSource, Named};
-use tt_run::{Answer, Frame, Reading, read_named, read_source};
+use tt_run::{Answer, Reading, ToolFrame, read_named, read_source};
 
 /// What a reading is, in a word or its bytes.
 fn shown(reading: &Reading) -> &[u8] {
@@ -129,7 +129,7 @@ fn joined(alloc: Global, status: u8, out: &MemSink, err: &MemSink) -> Result<Byt
 }
 
 /// A tool of a short name.
-const TOOL: Frame = Frame { name: b"t" };
+const TOOL: ToolFrame = ToolFrame { name: b"t" };
 
 /// The status, the output and the errors of an answer, where there is so much room for them.
 fn ended(alloc: Global, out_room: usize, err_room: usize) -> Result<Bytes, NoMemory> {

@@ -1,6 +1,6 @@
 use Rattle.std.proofs.Common.{ap, length, subst, ◌∙◌}
 use Rattle.check_lines.specs.Decision.{MarkLies}
-use Rattle.check_lines.specs.declared.decision.Mark.TheVariants.{Check}
+use Rattle.check_lines.specs.declared.decision.LineMark.TheVariants.{Check}
 use Rattle.check_lines.specs.declared.suffix.Spelling.TheVariants.{Good}
 use Rattle.check_lines.proofs.line.read_line.Goals as goal
 

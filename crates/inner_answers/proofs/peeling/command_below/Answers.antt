@@ -5,13 +5,13 @@ use Rattle.std.specs.Str.{bytes_eq}
 use Rattle.std.specs.declared.alloc.Global.{Global}
 use Rattle.opt_words.specs.Step.{texts}
 use Rattle.not_count.specs.Command.{command_in}
-use Rattle.not_count.specs.declared.command.Command.{Command}
+use Rattle.not_count.specs.declared.command.NotCommand.{NotCommand}
 use Rattle.inner_answers.specs.Peeled.{accepted, command_below, placed}
 use Rattle.inner_answers.proofs.PeelLemmas.{below_is}
 use Rattle.inner_answers.proofs.peeling.command_below.Goals as goal
 
 -- what is found behind a `not` among texts
-found_below : (words : List (String Global)) (at : ℕ) (one : String Global) (short : Bool) (found : Option Command) → at < length words
+found_below : (words : List (String Global)) (at : ℕ) (one : String Global) (short : Bool) (found : Option NotCommand) → at < length words
     → one ≡ get_or words at one → short ≡ true → bytes_eq (string_bytes one) (codes "not") ≡ true
     → found ≡ accepted (command_in (texts (slice_range words (at + 1) (length words))))
     → placed (at + 1) found ≡ placed (at + 1) (command_below short (get_or (texts words) at []) (drop (at + 1) (texts words)))

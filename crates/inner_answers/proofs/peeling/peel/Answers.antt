@@ -2,7 +2,7 @@ use Rattle.std.proofs.Common.{◌<◌, List, length, subst, sym, arith}
 use Rattle.std.proofs.lemmas.List.{length-map}
 use Rattle.std.specs.Prelude.{string_bytes}
 use Rattle.opt_words.specs.Step.{texts}
-use Rattle.not_count.specs.declared.command.Command.{Command}
+use Rattle.not_count.specs.declared.command.NotCommand.{NotCommand}
 use Rattle.inner_answers.proofs.PeelLemmas.{Front, front_ends, front_grows}
 use Rattle.inner_answers.proofs.peeling.peel.Goals as goal
 
@@ -12,7 +12,7 @@ loop-command-preserved c =
     let command = c.in-Some.command in
     let within : command.first < length words =
     omega (arith, c.in-Some.ensures.within, length-map c.args.words.now string_bytes) in
-    subst (λ (done : List Command). Front c.args.short words done command.first) (sym c.in_ok-push.ensures.ok)
+    subst (λ (done : List NotCommand). Front c.args.short words done command.first) (sym c.in_ok-push.ensures.ok)
     (front_grows c.args.short words c.loop-command.levels c.loop-command.core command c.loop-command.invariant
     (sym c.in-Some.ensures.value) within)
 

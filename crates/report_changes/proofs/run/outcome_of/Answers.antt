@@ -2,7 +2,7 @@ use Rattle.std.proofs.Common.{Ok, Err, sym, ◌∙◌, ap}
 use Rattle.json_report.specs.Changes.{changes}
 use Rattle.opt_words.specs.Step.{texts}
 use Rattle.report_changes.specs.Run.{compared}
-use Rattle.report_changes.specs.declared.stop.Stop.TheVariants.{Report}
+use Rattle.report_changes.specs.declared.stop.ChangesStop.TheVariants.{Report}
 use Rattle.report_changes.proofs.RunLemmas.{new_read, old_refused}
 use Rattle.report_changes.proofs.run.outcome_of.Goals as goal
 

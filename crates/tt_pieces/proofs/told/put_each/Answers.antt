@@ -2,12 +2,12 @@ use Rattle.std.proofs.Common.{◌≡◌, [], ◌++◌, ◌+◌, ◌<◌, ℕ, Li
 use Rattle.std.proofs.lemmas.List.{flat_map_more, take_more}
 use Rattle.tt_pieces.specs.Pieces.{bytes_in, bytes_of}
 use Rattle.tt_pieces.specs.Telling.{state}
-use Rattle.tt_pieces.specs.declared.piece.Piece.{Piece}
+use Rattle.tt_pieces.specs.declared.piece.TextPiece.{TextPiece}
 use Rattle.tt_pieces.proofs.PenLemmas.{tells_same, tells_then}
 use Rattle.tt_pieces.proofs.told.put_each.Goals as goal
 
 -- one piece more
-one_more : (pieces : List Piece) (i : ℕ) (other : Piece) → i < length pieces
+one_more : (pieces : List TextPiece) (i : ℕ) (other : TextPiece) → i < length pieces
     → bytes_in (take i pieces) ++ bytes_of (get_or pieces i other) ≡ bytes_in (take (i + 1) pieces)
 one_more pieces i other inside =
     flat_map_more bytes_of [] (take i pieces) (get_or pieces i other) ∙ sym (ap bytes_in (take_more pieces i other inside))

@@ -2,7 +2,7 @@ use Rattle.std.proofs.Common.{◌≡◌, rules, sym, ap, ◌∙◌}
 use Rattle.lit_paths.specs.Paths.{text_of}
 use Rattle.lit_look.specs.Index.{number_at}
 use Rattle.lit_look.proofs.IndexLemmas.{number_found}
-use Rattle.lit_look.proofs.seen.Seen.number_of.Goals as goal
+use Rattle.lit_look.proofs.seen.SeenFolders.number_of.Goals as goal
 
 pub returns : goal.returns
 returns c =

@@ -3,7 +3,7 @@ use Rattle.lit_paths.specs.Paths.{text_of}
 use Rattle.lit_look.specs.Seen.{Has, count_items}
 use Rattle.lit_look.specs.declared.seen.Looked.{Looked}
 use Rattle.lit_look.proofs.IndexLemmas.{one_more}
-use Rattle.lit_look.proofs.seen.Seen.add.Goals as goal
+use Rattle.lit_look.proofs.seen.SeenFolders.add.Goals as goal
 
 pub invariant_of-self-in-Ok : goal.invariant_of-self-in-Ok
 invariant_of-self-in-Ok c =

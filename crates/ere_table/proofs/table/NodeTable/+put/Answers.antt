@@ -12,8 +12,8 @@ use Rattle.ere_table.specs.Node.{node_at}
 use Rattle.ere_table.specs.Stands.{Stands}
 use Rattle.ere_table.proofs.StandsLemmas.{grows_on}
 use Rattle.ere_table.proofs.PutLemmas.{all_more, one_more, no_deeper, none_has_refs, loop_first, loop_grows, loop_more, copy_more, choice_more, copies_from}
-use Rattle.ere_table.proofs.table.Table.+put.Goals as goal
-use Rattle.ere_table.proofs.table.Table.+put.Goals.{put_copies-then-most-least+in_ok-push, put_copies-else-most-least}
+use Rattle.ere_table.proofs.table.NodeTable.+put.Goals as goal
+use Rattle.ere_table.proofs.table.NodeTable.+put.Goals.{put_copies-then-most-least+in_ok-push, put_copies-else-most-least}
 
 pub put_all-put-requires : goal.put_all-put-requires
 put_all-put-requires t c =

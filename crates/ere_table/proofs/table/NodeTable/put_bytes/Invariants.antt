@@ -2,7 +2,7 @@ use Rattle.std.proofs.Common.{◌≤◌, length, drop}
 use Rattle.ere_table.specs.Node.{node_at}
 use Rattle.ere_table.specs.Stands.{PlainStands}
 use Rattle.ere_table.specs.Table.{Grows}
-use Rattle.ere_table.proofs.table.Table.put_bytes.Given as goal
+use Rattle.ere_table.proofs.table.NodeTable.put_bytes.Given as goal
 
 abbrev pub invariant-loop-left : goal.invariant-loop-left
 invariant-loop-left l = record {

@@ -4,7 +4,7 @@ use Rattle.ere_tree.specs.View.{view}
 use Rattle.ere_table.specs.Node.{node_at}
 use Rattle.ere_table.specs.Stands.{LoopStands, CopiesStand, Stands, AllStand, OneStands}
 use Rattle.ere_table.specs.Table.{Grows}
-use Rattle.ere_table.proofs.table.Table.+put.Given as goal
+use Rattle.ere_table.proofs.table.NodeTable.+put.Given as goal
 
 abbrev pub invariant-put_all-loop-left : goal.invariant-put_all-loop-left
 invariant-put_all-loop-left l = record {

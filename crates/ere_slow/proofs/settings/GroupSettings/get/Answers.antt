@@ -1,7 +1,7 @@
 use Rattle.std.proofs.Common.{sym, ◌∙◌}
 use Rattle.ere_slow.proofs.WayLemmas.{get_unset, get_settings_same, get_settings_other}
-use Rattle.ere_slow.proofs.settings.Settings.get.Goals as goal
-use Rattle.ere_slow.proofs.settings.Settings.get.Goals.{then-setting-number, else-setting-number}
+use Rattle.ere_slow.proofs.settings.GroupSettings.get.Goals as goal
+use Rattle.ere_slow.proofs.settings.GroupSettings.get.Goals.{then-setting-number, else-setting-number}
 
 pub loop-setting-init : goal.loop-setting-init
 loop-setting-init c = get_unset c.args.number

@@ -1,7 +1,7 @@
 use Rattle.std.proofs.Common.{arith}
 use Rattle.ere_table.proofs.StandsLemmas.{grows_on}
 use Rattle.ere_table.proofs.PutLemmas.{plain_more}
-use Rattle.ere_table.proofs.table.Table.put_bytes.Goals as goal
+use Rattle.ere_table.proofs.table.NodeTable.put_bytes.Goals as goal
 
 pub loop-left-preserved : goal.loop-left-preserved
 loop-left-preserved c = record {
