@@ -1,4 +1,4 @@
-//! Rows of tests: a line each, with arrows between the fields. In a text `~` stands for a newline.
+//! Rows of tests: a line each, with arrows between the fields. In a text `~` stands for a newline, and in a field with `\r` a `/`.
 use std::alloc::Global;
 use tt_base::{Bytes, NoMemory};
 
@@ -14,6 +14,19 @@ pub(crate) fn bytes_of(alloc: Global, field: &str) -> Result<Bytes, NoMemory> {
     let mut bytes = Bytes::with_capacity(alloc, field.len())?;
     for byte in field.bytes() {
         bytes.append(&[if byte == b'~' { b'\n' } else { byte }])?;
+    }
+    Ok(bytes)
+}
+
+/// The bytes of a field: newlines stand as `/`, and a `\r` as `%`.
+pub(crate) fn field_of(alloc: Global, field: &str) -> Result<Bytes, NoMemory> {
+    let mut bytes = Bytes::new(alloc);
+    for byte in field.bytes() {
+        bytes.append(&[match byte {
+            b'/' => b'\n',
+            b'%' => b'\r',
+            _ => byte,
+        }])?;
     }
     Ok(bytes)
 }

@@ -10,7 +10,7 @@ ghost use Rattle.tt_run.specs.Run.{IsShort};
 use crate::check_file::{CheckFile, check_file_read};
 use crate::start::Start;
 use check_group::Check;
-use check_program::{AcceptedFile as Patterns, CompileFail, CompileOpts, compile};
+use check_program::{CompileFail, CompileOpts, Program as Patterns, compile};
 use define_words::{Defined, defined_by, start_vars};
 use filecheck_messages::{Refusal, StepFail, behind, refuse};
 use pattern_parse::{Formats, Frame, PatFault};

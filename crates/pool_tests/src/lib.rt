@@ -1,7 +1,10 @@
-//! Tests of runs: reports, what comes to a desk of a run, the numbers that workers draw, tests that are run by one hand and by several
-//! workers, and whole runs of `lit`: of which a call fails, and by hands that answer FileCheck, `count` and `not` by themselves.
+//! Tests of runs: reports, also in JSON, and what changed between two; what comes to a desk of a run, the numbers that workers draw, tests
+//! that are run by one hand and by several workers, and whole runs of `lit`: of which a call fails, and by hands that answer FileCheck,
+//! `count` and `not` by themselves.
 #![tactic(auto)]
 
+#[cfg(test)]
+mod changes;
 #[cfg(test)]
 mod claimed;
 #[cfg(test)]
@@ -12,6 +15,8 @@ mod desks;
 mod gates;
 #[cfg(test)]
 mod inside;
+#[cfg(test)]
+mod json_reports;
 #[cfg(test)]
 mod pools;
 #[cfg(test)]
