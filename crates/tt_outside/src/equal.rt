@@ -1,5 +1,6 @@
 //! Equal tests, requests and replies: copies, and comparisons, which take no memory.
 ghost use Rattle.std.specs.Prelude.{◌≡◌, ◌++◌, ◌↔◌, IfOk, IsTrue, OnOk};
+ghost use Rattle.tt_outside.specs.declared.request.Request.TheVariants.{MakeDir, ReadFile, Spawn, WriteFile};
 
 use crate::request::{Entry, Pair, Reply, Request};
 use crate::shared::SharedBytes;
@@ -197,56 +198,88 @@ impl Request {
         }
     }
 
+    /// Whether this reads that file, up to this limit.
+    fn reads(&self, file: &Bytes, most: u64) -> bool
+        ensures { IsTrue result ↔ (self.now ≡ ReadFile file.now most) }
+    {
+        match self {
+            Request::ReadFile { path, limit } => same_text(path, file) && *limit == most,
+            _ => false,
+        }
+    }
+
+    /// Whether this makes that directory.
+    fn makes(&self, dir: &Bytes) -> bool
+        ensures { IsTrue result ↔ (self.now ≡ MakeDir dir.now) }
+    {
+        match self {
+            Request::MakeDir { path } => same_text(path, dir),
+            _ => false,
+        }
+    }
+
+    /// Whether this writes these bytes to that file.
+    fn writes(&self, file: &Bytes, written: &SharedBytes, behind: bool) -> bool
+        ensures { IsTrue result ↔ (self.now ≡ WriteFile file.now written.now behind) }
+    {
+        match self {
+            Request::WriteFile {
+                path,
+                bytes,
+                append,
+            } => { same_text(path, file) && same_bytes(bytes, written) && *append == behind }
+            _ => false,
+        }
+    }
+
+    /// Whether this runs that program, in the same way.
+    fn spawns(
+        &self,
+        program: &[Bytes],
+        place: &Bytes,
+        pairs: &[Pair],
+        read: &SharedBytes,
+        most: u64,
+    ) -> bool
+        ensures { IsTrue result ↔ (self.now ≡ Spawn program.now place.now pairs.now read.now most) }
+    {
+        match self {
+            Request::Spawn {
+                words,
+                dir,
+                env,
+                input,
+                limit,
+            } => {
+                same_texts(words.as_slice(), program)
+                    && same_text(dir, place)
+                    && same_pairs(env.as_slice(), pairs)
+                    && same_bytes(input, read)
+                    && *limit == most
+            }
+            _ => false,
+        }
+    }
+
     /// Whether two requests are equal.
     pub fn same(&self, other: &Request) -> bool
         ensures { IsTrue result ↔ (self.now ≡ other.now) }
     {
-        match (self, other) {
-            (
-                Request::ReadFile { path, limit },
-                Request::ReadFile {
-                    path: second,
-                    limit: most,
-                },
-            ) => same_text(path, second) && limit == most,
-            (Request::MakeDir { path }, Request::MakeDir { path: second }) => same_text(
-                path, second,
-            ),
-            (
-                Request::WriteFile {
-                    path,
-                    bytes,
-                    append,
-                },
-                Request::WriteFile {
-                    path: second,
-                    bytes: written,
-                    append: appended,
-                },
-            ) => same_text(path, second) && same_bytes(bytes, written) && append == appended,
-            (
-                Request::Spawn {
-                    words,
-                    dir,
-                    env,
-                    input,
-                    limit,
-                },
-                Request::Spawn {
-                    words: more,
-                    dir: second,
-                    env: pairs,
-                    input: read,
-                    limit: most,
-                },
-            ) => {
-                same_texts(words.as_slice(), more.as_slice())
-                    && same_text(dir, second)
-                    && same_pairs(env.as_slice(), pairs.as_slice())
-                    && same_bytes(input, read)
-                    && limit == most
-            }
-            _ => false,
+        match self {
+            Request::ReadFile { path, limit } => other.reads(path, *limit),
+            Request::MakeDir { path } => other.makes(path),
+            Request::WriteFile {
+                path,
+                bytes,
+                append,
+            } => other.writes(path, bytes, *append),
+            Request::Spawn {
+                words,
+                dir,
+                env,
+                input,
+                limit,
+            } => { other.spawns(words.as_slice(), dir, env.as_slice(), input, *limit) }
         }
     }
 }
