@@ -3,7 +3,7 @@ use crate::trees::refusal;
 use lit_find::discover;
 use std::alloc::Global;
 use tt_base::{Bytes, Items, NoMemory};
-use tt_outside::{Item, ItemKind, Tree, TreeFault};
+use tt_outside::{Counted, Item, ItemKind, Tree, TreeFault};
 
 /// What became of what `/w` lists: its suite file, and a directory.
 #[derive(Clone, Copy, PartialEq, Eq)]
@@ -58,6 +58,14 @@ impl Tree for LosingTree {
             Ok(items) => Ok(items),
             Err(NoMemory) => Err(TreeFault::NoMemory),
         }
+    }
+
+    fn count(&mut self, alloc: Global, dir: &[u8], _names: &[&str]) -> Result<Counted, TreeFault> {
+        let named = self.list(alloc, dir)?;
+        Ok(Counted {
+            count: named.len(),
+            named,
+        })
     }
 
     fn read_all(&mut self, alloc: Global, _name: &[u8], limit: u64) -> Result<Bytes, TreeFault> {

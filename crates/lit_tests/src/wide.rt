@@ -3,11 +3,12 @@ use lit_dirs::DiscoverFault;
 use lit_find::discover;
 use std::alloc::Global;
 use tt_base::{Bytes, Items, NoMemory};
-use tt_outside::{Item, ItemKind, Tree, TreeFault};
+use tt_outside::{Counted, Item, ItemKind, Tree, TreeFault};
 
-/// `/w` has a suite file and so many tests.
+/// `/w` has a suite file and so many tests. It had other ones when it was counted.
 #[derive(Drop)]
 struct WideTree {
+    counted: usize,
     tests: usize,
 }
 
@@ -61,6 +62,16 @@ impl Tree for WideTree {
         }
     }
 
+    fn count(&mut self, alloc: Global, _dir: &[u8], _names: &[&str]) -> Result<Counted, TreeFault> {
+        match items_of(alloc, 0) {
+            Ok(named) => Ok(Counted {
+                count: self.counted.saturating_add(1),
+                named,
+            }),
+            Err(NoMemory) => Err(TreeFault::NoMemory),
+        }
+    }
+
     fn read_all(&mut self, alloc: Global, _name: &[u8], limit: u64) -> Result<Bytes, TreeFault> {
         let text = b"version = 1\nname = \"w\"\nsuffixes = [\".txt\"]\n".as_slice();
         if text.len() as u64 > limit {
@@ -73,11 +84,11 @@ impl Tree for WideTree {
     }
 }
 
-/// How a discovery in a tree of so many tests ends.
-fn ended(alloc: Global, tests: usize) -> Result<&'static str, NoMemory> {
+/// How a discovery ends in a tree of so many tests, where so many were counted.
+fn ended_grown(alloc: Global, counted: usize, tests: usize) -> Result<&'static str, NoMemory> {
     let mut words = Items::new(alloc);
     words.push(Bytes::from_slice(alloc, b"/w".as_slice())?)?;
-    let mut tree = WideTree { tests };
+    let mut tree = WideTree { counted, tests };
     match discover(alloc, &mut tree, words.as_slice()) {
         Ok(found) => {
             if found.len() == tests {
@@ -90,6 +101,19 @@ fn ended(alloc: Global, tests: usize) -> Result<&'static str, NoMemory> {
         Err(DiscoverFault::TooManyItems) => Ok("too many files"),
         Err(_) => Ok("another refusal"),
     }
+}
+
+/// How a discovery in a tree of so many tests ends.
+fn ended(alloc: Global, tests: usize) -> Result<&'static str, NoMemory> {
+    ended_grown(alloc, tests, tests)
+}
+
+#[test]
+fn a_directory_may_have_more_than_when_it_was_counted(rt: HostRuntime) -> Result<(), NoMemory> {
+    assert!(rt; ended_grown(rt.alloc(), 2, 20)? == "all");
+    assert!(rt; ended_grown(rt.alloc(), 20, 2)? == "all");
+    assert!(rt; ended_grown(rt.alloc(), 2, 1_000_000)? == "too many files");
+    Ok(())
 }
 
 #[test]

@@ -3,11 +3,12 @@
 -- of which the first for a path counts, and each path above a node is a directory, whether a node names it or not.
 use Rattle.std.specs.Prelude.{◌≡◌, ◌≢◌, ◌==◌, ℕ, ◌<◌, nat_lt, Bool, true, false, ◌&&◌, ◌||◌, not, if◌then◌else◌, codes, ⊤}
 use Rattle.std.specs.Prelude.{List, [], ◌∷◌, ◌++◌, length, Option, None, Some, Result, Ok, Err}
-use Rattle.std.specs.List.{find, list_any, list_all}
+use Rattle.std.specs.List.{filter, find, list_any, list_all}
 use Rattle.std.specs.Option.{option_map}
 use Rattle.std.specs.Str.{bytes_eq}
 use Rattle.tt_base.specs.Occurrence.{begins_with}
 use Rattle.tt_outside.specs.declared.tree.Node.{Node}
+use Rattle.tt_outside.specs.declared.tree.Counted.{Counted}
 use Rattle.tt_outside.specs.declared.tree.Item.{Item}
 use Rattle.tt_outside.specs.declared.tree.ItemKind.{ItemKind}
 use Rattle.tt_outside.specs.declared.tree.ItemKind.TheVariants.{File, Dir, Other}
@@ -90,6 +91,20 @@ GivesItems (Some nodes) dir (Err NotDirectory) = kind_at nodes dir ≡ Some File
 GivesItems (Some nodes) dir (Err TooLarge) = ⊤
 GivesItems (Some nodes) dir (Err Failed) = ⊤
 GivesItems (Some nodes) dir (Err NoMemory) = ⊤
+
+-- an item has one of these names
+abbrev pub is_named : List (List ℕ) → Item → Bool
+is_named names item = list_any (λ name. bytes_eq item.name name) names
+
+-- how many items there are, and those of some names
+abbrev pub counted : List (List ℕ) → List Item → Counted
+counted names items = record { count = length items; named = filter (is_named names) items }
+
+-- The items that a directory lists are counted. The faults are those of a listing.
+abbrev pub GivesCount : Option (List Node) → List ℕ → List (List ℕ) → Result Counted TreeFault → Type 0
+GivesCount None dir names result = ⊤
+GivesCount (Some nodes) dir names (Ok few) = (items : List Item) × Lists nodes dir items × (few ≡ counted names items)
+GivesCount (Some nodes) dir names (Err fault) = GivesItems (Some nodes) dir (Err fault)
 
 -- the bytes of a node that is a file
 abbrev pub bytes_of_kind : ItemKind → List ℕ → Option (List ℕ)

@@ -44,4 +44,4 @@ pub use sink::Sink;
 pub use source::{Failed, Source};
 pub use test_data::Test;
 pub use transfer::{TakeFault, take_all, write_all};
-pub use tree::{Item, ItemKind, Node, Tree, TreeFault};
+pub use tree::{Counted, Item, ItemKind, Node, Tree, TreeFault};

@@ -1,8 +1,8 @@
 //! How a tree in memory looks at its nodes.
-ghost use Rattle.std.specs.Prelude.{◌≡◌, ◌==◌, IfOk, OnOk, position};
+ghost use Rattle.std.specs.Prelude.{◌≡◌, ◌==◌, IfOk, OnOk, filter, map, position};
 ghost use Rattle.std.specs.Option.{option_map};
 ghost use Rattle.tt_outside.specs.Listing.{first_part, has_name, item_named, item_of, listed, part_behind, with_item};
-ghost use Rattle.tt_outside.specs.TreeMap.{are_nested, front_of, goes_on, has_below, is_nested, kind_at, node_at};
+ghost use Rattle.tt_outside.specs.TreeMap.{are_nested, front_of, goes_on, has_below, is_named, is_nested, kind_at, node_at};
 
 use crate::tree::{Item, ItemKind, Node};
 use std::alloc::Global;
@@ -181,4 +181,25 @@ pub(crate) fn list_nodes(alloc: Global, nodes: &[Node], dir: &[u8]) -> Result<It
         add_item(&mut items, item)?;
     }
     Ok(items)
+}
+
+/// Whether an item has one of these names.
+fn is_named(names: &[&str], item: &Item) -> bool
+    ensures { result ≡ is_named (map (λ name. name.now) names.now) item.now }
+{
+    for name in names {
+        if item.name.as_slice() == name.as_bytes() {
+            return true;
+        }
+    }
+    false
+}
+
+/// Those of some items that have one of these names.
+pub(crate) fn keep_named(items: Items<Item>, names: &[&str]) -> Items<Item>
+    ensures { result ≡ filter (is_named (map (λ name. name.now) names.now)) items }
+{
+    let mut items = items.into_vec();
+    items.retain(|item| is_named(names, item));
+    Items::from_vec(items)
 }

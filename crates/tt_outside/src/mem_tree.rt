@@ -1,11 +1,11 @@
 //! A tree in memory.
-ghost use Rattle.std.specs.Prelude.{◌≡◌, ◌≢◌, ◌≤◌, ◌↔◌, IfOk, IfSome, Some, Err, IsTrue, length, true};
+ghost use Rattle.std.specs.Prelude.{◌≡◌, ◌≢◌, ◌≤◌, ◌↔◌, IfOk, IfSome, Some, Err, IsTrue, length, map, true};
 ghost use Rattle.tt_outside.specs.Faults.{Lasts, Rose};
-ghost use Rattle.tt_outside.specs.TreeMap.{GivesItems, GivesText, are_nested};
+ghost use Rattle.tt_outside.specs.TreeMap.{GivesCount, GivesItems, GivesText, are_nested};
 
-use crate::listing::{kind_at, list_nodes, node_at};
+use crate::listing::{keep_named, kind_at, list_nodes, node_at};
 use crate::plan::Plan;
-use crate::tree::{Item, ItemKind, Node, Tree, TreeFault};
+use crate::tree::{Counted, Item, ItemKind, Node, Tree, TreeFault};
 use std::alloc::Global;
 use tt_base::{Bytes, Items, NoMemory};
 
@@ -58,6 +58,26 @@ fn list_dir(alloc: Global, nodes: &[Node], dir: &[u8]) -> Result<Items<Item>, Tr
         Ok(Some(ItemKind::Other)) => Err(TreeFault::Missing),
         Ok(None) => Err(TreeFault::Missing),
         Err(NoMemory) => Err(TreeFault::NoMemory),
+    }
+}
+
+/// How many items a directory lists, and those of some names.
+fn count_dir(
+    alloc: Global,
+    nodes: &[Node],
+    dir: &[u8],
+    names: &[&str],
+) -> Result<Counted, TreeFault>
+    ensures gives { GivesCount (Some nodes.now) dir.now (map (λ name. name.now) names.now) result }
+    ensures small { result ≢ Err TreeFault.TooLarge }
+    ensures calm { result ≢ Err TreeFault.Failed }
+{
+    match list_dir(alloc, nodes, dir) {
+        Ok(items) => Ok(Counted {
+            count: items.len(),
+            named: keep_named(items, names),
+        }),
+        Err(fault) => Err(fault),
     }
 }
 
@@ -115,6 +135,24 @@ impl Tree for MemTree {
             return Err(TreeFault::Failed);
         }
         list_dir(alloc, self.nodes.as_slice(), dir)
+    }
+
+    fn count(&mut self, alloc: Global, dir: &[u8], names: &[&str]) -> Result<Counted, TreeFault>
+        ensures fails { result ≡ Err TreeFault.Failed ↔ IsTrue (fails_next (tree_plan self.old)) }
+        ensures counts { tree_plan self.new ≡ after_call (tree_plan self.old) }
+        ensures gives { GivesCount (Some (tree_nodes self.old)) dir.now (map (λ name. name.now) names.now) result }
+        ensures small { result ≢ Err TreeFault.TooLarge }
+        ensures nodes { Some (tree_nodes self.new) ≡ Some (tree_nodes self.old) }
+        ensures root { tree_base self.new ≡ tree_base self.old }
+        ensures later { tree_faults self.old ≤ tree_faults self.new }
+        ensures cause { result ≡ Err TreeFault.Failed → Rose (tree_faults self.old) (tree_faults self.new) }
+        ensures calm { result ≢ Err TreeFault.Failed → tree_faults self.new ≡ tree_faults self.old }
+        ensures steady { Lasts tree_steady tree_faults self.old self.new (result ≢ Err TreeFault.Failed) }
+    {
+        if self.plan.call() {
+            return Err(TreeFault::Failed);
+        }
+        count_dir(alloc, self.nodes.as_slice(), dir, names)
     }
 
     fn read_all(&mut self, alloc: Global, name: &[u8], limit: u64) -> Result<Bytes, TreeFault>

@@ -1,7 +1,7 @@
 //! A tree of directories.
-ghost use Rattle.std.specs.Prelude.{◌≡◌, ◌≢◌, ◌≤◌, Err, IfOk, IfSome, length, true};
+ghost use Rattle.std.specs.Prelude.{◌≡◌, ◌≢◌, ◌≤◌, Err, IfOk, IfSome, length, map, true};
 ghost use Rattle.tt_outside.specs.Faults.{Lasts, Rose};
-ghost use Rattle.tt_outside.specs.TreeMap.{GivesItems, GivesText, are_nested};
+ghost use Rattle.tt_outside.specs.TreeMap.{GivesCount, GivesItems, GivesText, are_nested};
 
 use std::alloc::Global;
 use thiserror::Error;
@@ -21,6 +21,13 @@ pub enum ItemKind {
 pub struct Item {
     pub name: Bytes,
     pub kind: ItemKind,
+}
+
+/// How many items stand in a directory, and those of some names.
+#[derive(Drop, Debug)]
+pub struct Counted {
+    pub count: usize,
+    pub named: Items<Item>,
 }
 
 /// What a tree is made of: a path, what stands there, and a file's bytes.
@@ -75,6 +82,18 @@ pub trait Tree {
     /// What stands in a directory, in no order. A link to a file is a file, and another link is neither.
     fn list(&mut self, alloc: Global, dir: &[u8]) -> Result<Items<Item>, TreeFault>
         ensures gives { GivesItems (nodes self.old) dir.now result }
+        ensures small { result ≢ Err TreeFault.TooLarge }
+        ensures nodes { nodes self.new ≡ nodes self.old }
+        ensures root { root self.new ≡ root self.old }
+        ensures later { faults self.old ≤ faults self.new }
+        ensures cause { result ≡ Err TreeFault.Failed → Rose (faults self.old) (faults self.new) }
+        ensures calm { result ≢ Err TreeFault.Failed → faults self.new ≡ faults self.old }
+        ensures steady { Lasts steady faults self.old self.new (result ≢ Err TreeFault.Failed) };
+
+    /// How many items `list` would give, and those of some names, in no order. Of no other is the kind asked for, so an
+    /// item that vanishes meanwhile may still count.
+    fn count(&mut self, alloc: Global, dir: &[u8], names: &[&str]) -> Result<Counted, TreeFault>
+        ensures gives { GivesCount (nodes self.old) dir.now (map (λ name. name.now) names.now) result }
         ensures small { result ≢ Err TreeFault.TooLarge }
         ensures nodes { nodes self.new ≡ nodes self.old }
         ensures root { root self.new ≡ root self.old }

@@ -9,7 +9,7 @@ use std::fs::{self, Metadata};
 use std::io::{Error, ErrorKind, Read};
 use std::{rt, str};
 use tt_base::{Bytes, Items, NoMemory};
-use tt_outside::{FilesFault, Item, ItemKind, Tree, TreeFault};
+use tt_outside::{Counted, FilesFault, Item, ItemKind, Tree, TreeFault};
 
 /// The folders of a runtime: `StdTree::new(rt, base)`, or `StdTree::current(rt, base)`.
 #[derive(Drop)]
@@ -104,6 +104,14 @@ impl<R: rt::Files> Tree for StdTree<R> {
         answer
     }
 
+    fn count(&mut self, alloc: Global, dir: &[u8], names: &[&str]) -> Result<Counted, TreeFault> {
+        let answer = count_folder(&self.rt, alloc, self.asked(dir), names);
+        if matches!(&answer, Err(TreeFault::Failed)) {
+            self.faults = self.faults.saturating_add(1);
+        }
+        answer
+    }
+
     fn read_all(&mut self, alloc: Global, name: &[u8], limit: u64) -> Result<Bytes, TreeFault> {
         let answer = read_file(&self.rt, alloc, self.asked(name), limit);
         if matches!(&answer, Err(TreeFault::Failed)) {
@@ -149,15 +157,52 @@ fn kind_of<R: rt::Files>(rt: &R, path: &str, here: &Metadata) -> ItemKind {
     }
 }
 
+/// What the names in a folder gave.
+#[derive(Drop)]
+struct Entries {
+    /// How many names there were.
+    count: usize,
+    /// The items that were asked for.
+    items: Vec<Fronted>,
+}
+
 /// Lists a folder. The links on the way to it are followed, the last part of its path is not.
 fn list_folder<R: rt::Files>(rt: &R, alloc: Global, dir: &[u8]) -> Result<Items<Item>, TreeFault>
+    ensures { result ≢ Err TreeFault.TooLarge }
+{
+    by_name(alloc, entries_in(rt, alloc, dir, None)?.items)
+}
+
+/// How many names a folder has, and the items of some. Its path is followed as in a listing.
+fn count_folder<R: rt::Files>(
+    rt: &R,
+    alloc: Global,
+    dir: &[u8],
+    names: &[&str],
+) -> Result<Counted, TreeFault>
+    ensures { result ≢ Err TreeFault.TooLarge }
+{
+    let Entries { count, items } = entries_in(rt, alloc, dir, Some(names))?;
+    Ok(Counted {
+        count,
+        named: by_name(alloc, items)?,
+    })
+}
+
+/// What a folder has: its items, or those of some names.
+fn entries_in<R: rt::Files>(
+    rt: &R,
+    alloc: Global,
+    dir: &[u8],
+    wanted: Option<&[&str]>,
+) -> Result<Entries, TreeFault>
     ensures { result ≢ Err TreeFault.TooLarge }
 {
     let Ok(path) = str::from_utf8(dir) else {
         return Err(TreeFault::Failed);
     };
     match rt.open_dir(path) {
-        Ok(mut folder) => list_entries(rt, alloc, path, &mut folder),
+        Ok(mut folder) => entries_of(rt, alloc, path, &mut folder, wanted),
         Err(error) => Err(unlisted(rt, path, &error)),
     }
 }
@@ -224,60 +269,72 @@ fn by_name(alloc: Global, mut fronted: Vec<Fronted>) -> Result<Items<Item>, Tree
     Ok(Items::from_vec(items))
 }
 
-/// The items of a folder. A name that isn't text is a fault; an item that vanished since its name was read is left out.
-fn list_entries<R: rt::Files, D: Read>(
+/// What a folder has: its items, or those of some names. A name that isn't text is a fault; an item that vanished since
+/// its name was read is left out.
+fn entries_of<R: rt::Files, D: Read>(
     rt: &R,
     alloc: Global,
     dir: &str,
     folder: &mut D,
-) -> Result<Items<Item>, TreeFault>
+    wanted: Option<&[&str]>,
+) -> Result<Entries, TreeFault>
     ensures { result ≢ Err TreeFault.TooLarge }
 {
     let Ok(front) = with_slash(alloc, dir) else {
         return Err(TreeFault::NoMemory);
     };
-    let Ok(mut items) = Vec::with_capacity(alloc, FIRST_ITEMS) else {
+    let Ok(items) = Vec::with_capacity(alloc, FIRST_ITEMS) else {
         return Err(TreeFault::NoMemory);
     };
-    add_all(rt, alloc, folder, front.as_str(), &mut items)?;
-    by_name(alloc, items)
+    let mut entries = Entries { count: 0, items };
+    add_all(rt, alloc, folder, front.as_str(), wanted, &mut entries)?;
+    Ok(entries)
 }
 
-/// Adds all items of a folder. `front` is its path, with a slash behind it.
+/// Adds what all names in a folder give. `front` is its path, with a slash behind it.
 fn add_all<R: rt::Files, D: Read>(
     rt: &R,
     alloc: Global,
     folder: &mut D,
     front: &str,
-    items: &mut Vec<Fronted>,
+    wanted: Option<&[&str]>,
+    entries: &mut Entries,
 ) -> Result<(), TreeFault>
     ensures { result ≢ Err TreeFault.TooLarge }
 {
     let mut names = [0u8; NAMES];
-    let Ok(mut path) = String::with_capacity(alloc, front.len().saturating_add(NAMES)) else {
-        return Err(TreeFault::NoMemory);
-    };
     for _ in 0..u64::MAX {
         match folder.read(&mut names) {
             Ok(0) => return Ok(()),
-            Ok(count) => add_items(rt, alloc, front, &mut path, &names[..count], items)?,
+            Ok(count) => add_items(rt, alloc, front, &names[..count], wanted, entries)?,
             Err(error) => return Err(fault_of(&error)),
         }
     }
     Err(TreeFault::Failed)
 }
 
-/// Adds the items of names, each of which ends in a NUL. `front` is as above, and `path` is where their paths are made.
+/// Whether the item of a name is asked for.
+fn is_wanted(wanted: Option<&[&str]>, name: &[u8]) -> bool {
+    match wanted {
+        Some(names) => names.iter().any(|one| one.as_bytes() == name),
+        None => true,
+    }
+}
+
+/// Adds what names give, each of which ends in a NUL. `front` is as above.
 fn add_items<R: rt::Files>(
     rt: &R,
     alloc: Global,
     front: &str,
-    path: &mut String,
     names: &[u8],
-    items: &mut Vec<Fronted>,
+    wanted: Option<&[&str]>,
+    entries: &mut Entries,
 ) -> Result<(), TreeFault>
     ensures { result ≢ Err TreeFault.TooLarge }
 {
+    let Ok(mut path) = String::with_capacity(alloc, front.len().saturating_add(NAMES)) else {
+        return Err(TreeFault::NoMemory);
+    };
     for name in names.split(|byte| *byte == 0) {
         if name.is_empty() || name == b".".as_slice() || name == b"..".as_slice() {
             continue;
@@ -285,6 +342,10 @@ fn add_items<R: rt::Files>(
         let Ok(text) = str::from_utf8(name) else {
             return Err(TreeFault::Failed);
         };
+        entries.count = entries.count.saturating_add(1);
+        if !is_wanted(wanted, name) {
+            continue;
+        }
         path.clear();
         if path.push_str(front).is_err() || path.push_str(text).is_err() {
             return Err(TreeFault::NoMemory);
@@ -292,7 +353,7 @@ fn add_items<R: rt::Files>(
         let Some(item) = kept_item(item_of(rt, alloc, name, path.as_str()))? else {
             continue;
         };
-        if items.push((front_of(name), item)).is_err() {
+        if entries.items.push((front_of(name), item)).is_err() {
             return Err(TreeFault::NoMemory);
         }
     }

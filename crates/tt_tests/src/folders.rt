@@ -40,7 +40,18 @@ fn lists_three<T: Tree>(alloc: Global, tree: &mut T, folder: &str) -> bool {
     }
 }
 
-/// Whether a path below the folder is neither listed nor read up to two bytes, for these reasons.
+/// Whether a folder has three items, and of these names those two, of their kinds.
+fn counts_three<T: Tree>(alloc: Global, tree: &mut T, folder: &str) -> bool {
+    match tree.count(alloc, folder.as_bytes(), &["link", "b", "a", "."]) {
+        Ok(few) => match few.named.as_slice() {
+            [one, other] => few.count == 3 && has_its_kind(one) && has_its_kind(other),
+            _ => false,
+        },
+        Err(_) => false,
+    }
+}
+
+/// Whether a path below the folder is neither listed and counted nor read up to two bytes, for these reasons.
 fn is_refused<T: Tree>(
     alloc: Global,
     tree: &mut T,
@@ -52,8 +63,9 @@ fn is_refused<T: Tree>(
     };
     let path = format!(in alloc; "{folder}{rest}")?;
     let listed = tree.list(alloc, path.as_str().as_bytes()).err();
+    let counted = tree.count(alloc, path.as_str().as_bytes(), &["a"]).err();
     let read = tree.read_all(alloc, path.as_str().as_bytes(), 2).err();
-    Ok(format!(in alloc; "{listed:?} {read:?}")?.as_str() == due)
+    Ok(counted == listed && format!(in alloc; "{listed:?} {read:?}")?.as_str() == due)
 }
 
 /// Whether a file has three bytes, which are read up to a limit of as many.
@@ -86,6 +98,7 @@ fn see<T: Tree>(
 ) -> Result<(), AllocError> {
     assert!(rt; tree.base() == folder.as_bytes());
     assert!(rt; lists_three(alloc, tree, folder));
+    assert!(rt; counts_three(alloc, tree, folder));
     for row in REFUSED.lines() {
         assert!(rt; is_refused(alloc, tree, folder, row)?, "{row:?}");
     }

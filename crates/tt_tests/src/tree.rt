@@ -2,7 +2,7 @@
 use crate::rows::three;
 use std::alloc::Global;
 use tt_base::{Bytes, Items, NoMemory};
-use tt_outside::{ItemKind, MemTree, Node, Tree, TreeFault, are_nested};
+use tt_outside::{Counted, Item, ItemKind, MemTree, Node, Tree, TreeFault, are_nested};
 
 fn node(alloc: Global, path: &str, kind: ItemKind, text: &str) -> Result<Node, NoMemory> {
     Ok(Node {
@@ -52,18 +52,30 @@ fn mark(kind: ItemKind) -> &'static [u8] {
     }
 }
 
-/// The names in a directory, a directory's with `/` and those of neither kind with `@`; or the refusal.
-fn listed(alloc: Global, tree: &mut MemTree, path: &str) -> Result<Bytes, NoMemory> {
-    let items = match tree.list(alloc, path.as_bytes()) {
-        Ok(items) => items,
-        Err(fault) => return told(alloc, fault),
-    };
+/// Some items in a line, a directory's with `/` and those of neither kind with `@`.
+fn line_of(alloc: Global, items: &[Item]) -> Result<Bytes, NoMemory> {
     let mut text = Bytes::new(alloc);
-    for item in items.as_slice() {
+    for item in items {
         text.append(item.name.as_slice())?;
         text.append(mark(item.kind))?;
     }
     Ok(text)
+}
+
+/// What a directory lists, or the refusal.
+fn listed(alloc: Global, tree: &mut MemTree, path: &str) -> Result<Bytes, NoMemory> {
+    match tree.list(alloc, path.as_bytes()) {
+        Ok(items) => line_of(alloc, items.as_slice()),
+        Err(fault) => told(alloc, fault),
+    }
+}
+
+/// How many items a directory has, and in a line those called `b`, `b/c`, `link` and `none`; or the refusal.
+fn counted(alloc: Global, tree: &mut MemTree, path: &str) -> Result<(usize, Bytes), NoMemory> {
+    match tree.count(alloc, path.as_bytes(), &["b", "b/c", "link", "none"]) {
+        Ok(Counted { count, named }) => Ok((count, line_of(alloc, named.as_slice())?)),
+        Err(fault) => Ok((0, told(alloc, fault)?)),
+    }
 }
 
 /// The bytes of a file of up to three bytes, or the refusal.
@@ -88,6 +100,31 @@ fn a_directory_lists_each_name_once(rt: HostRuntime) -> Result<(), NoMemory> {
     let mut tree = small_tree(alloc, &[])?;
     for (path, due) in [("/w", "b/ a.txt link@ "), ("/", "w/ ")] {
         assert!(rt; lists(alloc, &mut tree, path, due)?, "{path}");
+    }
+    Ok(())
+}
+
+/// A directory, how many items it has, and those of some names; or a path that is none, and the refusal. The fifth
+/// call fails.
+const COUNTED: [(&str, usize, &str); 6] = [
+    ("/w", 3, "b/ link@ "),
+    ("/w/b", 1, ""),
+    ("/w/a.txt", 0, "no directory"),
+    ("/w/none", 0, "missing"),
+    ("/w", 0, "failed"),
+    ("/", 1, ""),
+];
+
+#[test]
+fn all_items_count_and_some_are_told(rt: HostRuntime) -> Result<(), NoMemory> {
+    let alloc = rt.alloc();
+    let mut tree = small_tree(alloc, &[4])?;
+    for (path, count, due) in COUNTED {
+        let (found, line) = counted(alloc, &mut tree, path)?;
+        assert!(rt;
+            found == count && line.as_slice() == due.as_bytes(),
+            "{path}"
+        );
     }
     Ok(())
 }
