@@ -19,10 +19,10 @@ use Rattle.lit_pool.specs.declared.stop.PoolWhy.TheVariants.{NoMemory}
 abbrev pub nothing_left : Left
 nothing_left = record { begun = []; asked = 0; faults = 0 }
 
--- Hands were hired, so many: they began and asked nothing, have room for so many tests each, and give what the crew gives.
-pub record AreHired {H : Type 0} (runner : OfRunner H) (gave : Gave) (count tests : ℕ) (hands : List H) : Type 0 where
-  pub fresh : all_left runner hands ≡ replicate count nothing_left
-  pub rooms : rooms_of runner hands ≡ replicate count tests
+-- Hands were hired: they began and asked nothing, have room for so many tests each, and give what the crew gives.
+pub record AreHired {H : Type 0} (runner : OfRunner H) (gave : Gave) (tests : ℕ) (hands : List H) : Type 0 where
+  pub fresh : all_left runner hands ≡ replicate (length hands) nothing_left
+  pub rooms : rooms_of runner hands ≡ replicate (length hands) tests
   pub own : All (IsHandOf runner gave) hands
 
 -- at most so many hands were dismissed that began and asked nothing
@@ -69,6 +69,10 @@ pub record LeftAtStop (workers tests : ℕ) (stop : PoolStop) (hands : List Left
 abbrev pub AllLeft : ℕ → ℕ → Result (List Trial) PoolStop → List Left → Type 0
 AllLeft workers tests (Ok trials) hands = LeftAtEnd workers tests trials hands
 AllLeft workers tests (Err stop) hands = LeftAtStop workers tests stop hands
+
+-- the same of hands behind the rounds of so many tests, as many as before them
+abbrev pub HandsLeave : {H : Type 0} → OfRunner H → ℕ → Result (List Trial) PoolStop → List H → List H → Type 0
+HandsLeave runner tests ended old new = AllLeft (length old) tests ended (all_left runner new)
 
 -- the hands that were dismissed in a run of so many tests
 pub record LeavesHands (workers tests : ℕ) (ended : Result (List Trial) PoolStop) (old new : List Left) : Type 0 where

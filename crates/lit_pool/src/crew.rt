@@ -17,7 +17,8 @@ pub(crate) fn hire_all<C: Crew>(
     crew: &mut C,
 ) -> Result<Vec<C::Hand>, NoMemory>
     requires ready { C.ready crew.old }
-    ensures hired { IfOk result (λ hands. AreHired C.Hand.Runner (C.gave crew.old) workers room hands.items) }
+    ensures hired { IfOk result (λ hands. AreHired C.Hand.Runner (C.gave crew.old) room hands.items) }
+    ensures count { IfOk result (λ hands. length hands.items ≡ workers) }
     ensures hands { OnOk result (C.hands crew.new ≡ C.hands crew.old) }
     ensures seats { OnOk result (C.seats crew.new ≡ C.seats crew.old + workers) }
     ensures refused { OnErr result (LeavesFresh workers (C.hands crew.old) (C.hands crew.new)) }

@@ -2,10 +2,10 @@
 ghost use Rattle.std.specs.Prelude.{◌≡◌, ◌+◌, ◌<◌, ◌≤◌, IfErr, IfOk, OnOk, length};
 ghost use Rattle.std.specs.List.{All};
 ghost use Rattle.lit_claims.specs.Claimed.{SHARES};
-ghost use Rattle.lit_round.specs.Hands.{IsHandOf, all_left};
+ghost use Rattle.lit_round.specs.Hands.{IsHandOf};
 ghost use Rattle.lit_round.specs.Trials.{AreTrials};
 ghost use Rattle.lit_desk.specs.Desk.{PutFrom};
-ghost use Rattle.lit_pool.specs.Crew.{AllLeft, AreHired};
+ghost use Rattle.lit_pool.specs.Crew.{AreHired, HandsLeave};
 ghost use Rattle.lit_pool.specs.Pool.{IsStopped, RefusesNext, stop_at};
 
 use crate::desk::Desk;
@@ -73,13 +73,13 @@ pub(crate) fn run_rounds<R: Threads + Sync, C: Crew, D: Desk>(
 ) -> (Vec<C::Hand>, Result<Items<Trial>, PoolStop>)
     requires few { length tests.now ≤ 100000 }
     requires workers { (0 < length hands.items) × (length hands.items ≤ SHARES) }
-    requires hired { AreHired C.Hand.Runner (C.gave crew.now) (length hands.items) (length tests.now) hands.items }
+    requires hired { AreHired C.Hand.Runner (C.gave crew.now) (length tests.now) hands.items }
     ensures own { All (IsHandOf C.Hand.Runner (C.gave crew.now)) result.0.items }
     ensures count { length result.0.items ≡ length hands.items }
     ensures trials { IfOk result.1 (AreTrials (C.gave crew.now) 0 tests.now) }
     ensures put { IfOk result.1 (λ trials. PutFrom D.took desk.old 0 trials desk.new) }
     ensures stopped { IfErr result.1 (IsStopped D.took D.kept (C.gave crew.now) tests.now desk.old desk.new) }
-    ensures left { AllLeft (length hands.items) (length tests.now) result.1 (all_left C.Hand.Runner result.0.items) }
+    ensures left { HandsLeave C.Hand.Runner (length tests.now) result.1 hands.items result.0.items }
 {
     let mut trials = Vec::new(alloc);
     let mut first = 0;
