@@ -1,8 +1,8 @@
 //! What words of `filecheck` ask for. Words stand between `|`.
+use crate::fields::{Tells, each_is_told};
 use crate::objects::words_of;
 use filecheck_words::{Asked, Dump, Input, Job, Making, When, WordsFail, asked_by};
 use std::alloc::Global;
-use std::test::Fail;
 use tt_base::{Bytes, NoMemory};
 
 fn add_list(text: &mut Bytes, items: &[Bytes]) -> Result<(), NoMemory> {
@@ -118,16 +118,16 @@ t.txt|--dump-input-filter=all => t.txt <stdin>  [CHECK,] [COM,RUN,] [] []
 --make-lead=x => refused
 --make-checks|t.txt => refused";
 
-/// Whether the words before the arrow of a row ask for what stands behind it.
-fn is_asked(alloc: Global, row: &str) -> Result<bool, Fail> {
-    let (line, due) = row.split_once(" => ").ok_or("a row without an arrow")?;
-    Ok(told(alloc, line)?.as_slice() == due.as_bytes())
+/// What words ask for.
+struct Words;
+
+impl Tells for Words {
+    fn told(&self, alloc: Global, given: &str) -> Result<Bytes, NoMemory> {
+        told(alloc, given)
+    }
 }
 
 #[test]
-fn each_option_asks_for_something(rt: HostRuntime) -> Result<(), Fail> {
-    for row in ASKED.lines() {
-        assert!(rt; is_asked(rt.alloc(), row)?, "{row}");
-    }
-    Ok(())
+fn each_option_asks_for_something(rt: HostRuntime) -> Result<(), NoMemory> {
+    each_is_told(&rt, rt.alloc(), ASKED, &Words)
 }

@@ -1,8 +1,8 @@
 //! What values of `-D` define. They stand between `|`.
+use crate::fields::{Tells, each_is_told, in_bytes};
 use define_words::{Defined, defined_by, start_vars};
 use pattern_vars::Vars;
 use std::alloc::Global;
-use std::test::Fail;
 use tt_base::{Bytes, Items, NoMemory};
 
 fn list(alloc: Global, line: &str) -> Result<Items<Bytes>, NoMemory> {
@@ -28,36 +28,38 @@ const KINDS: &str = "#%x,N=1 => Some(LowerHex)
 #%x,N=1|#N===3 => Some(LowerHex)
 #%x,N=|#%x,N=@LINE|#%x,N===1|N=1 => None";
 
-/// Whether `N` has the kind of format that a row says.
-fn has_its_kind(alloc: Global, row: &str) -> Result<bool, Fail> {
-    let (line, due) = row.split_once(" => ").ok_or("a row without an arrow")?;
-    let kind = defined(alloc, line)?
-        .known
-        .get(b"N")
-        .map(|format| format.kind);
-    Ok(format!(in alloc; "{kind:?}")?.as_str() == due)
+/// The kind of format that `N` has.
+struct Kinds;
+
+impl Tells for Kinds {
+    fn told(&self, alloc: Global, given: &str) -> Result<Bytes, NoMemory> {
+        let defined = defined(alloc, given)?;
+        kind_told(alloc, &defined)
+    }
+}
+
+fn kind_told(alloc: Global, defined: &Defined) -> Result<Bytes, NoMemory> {
+    let kind = defined.known.get(b"N").map(|format| format.kind);
+    in_bytes(alloc, format!(in alloc; "{kind:?}"))
 }
 
 #[test]
-fn formats_are_known_behind_a_bad_value(rt: HostRuntime) -> Result<(), Fail> {
-    for row in KINDS.lines() {
-        assert!(rt; has_its_kind(rt.alloc(), row)?, "{row}");
-    }
-    Ok(())
+fn formats_are_known_behind_a_bad_value(rt: HostRuntime) -> Result<(), NoMemory> {
+    each_is_told(&rt, rt.alloc(), KINDS, &Kinds)
 }
 
-/// The variables that these values start with, and places under these names.
-fn started(alloc: Global, line: &str, names: &str) -> Result<Option<Vars>, NoMemory> {
+/// The variables that these values start with, and places under these names. A refused value counts as want of memory.
+fn started(alloc: Global, line: &str, names: &str) -> Result<Vars, NoMemory> {
     let Defined { fresh, .. } = defined(alloc, line)?;
     match fresh {
-        Ok(bindings) => Ok(Some(start_vars(alloc, list(alloc, names)?, bindings)?)),
-        Err(_) => Ok(None),
+        Ok(bindings) => start_vars(alloc, list(alloc, names)?, bindings),
+        Err(_) => Err(NoMemory),
     }
 }
 
 #[test]
-fn variables_start_with_what_is_defined(rt: HostRuntime) -> Result<(), Fail> {
-    let vars = started(rt.alloc(), "X=a|#N=3|X=b", "N|Z")?.ok_or("refused")?;
+fn variables_start_with_what_is_defined(rt: HostRuntime) -> Result<(), NoMemory> {
+    let vars = started(rt.alloc(), "X=a|#N=3|X=b", "N|Z")?;
     assert!(rt; vars.has_place(b"Z") && !vars.has_place(b"Y"), "places");
     assert!(rt; vars.number(b"N") == Some(3), "number");
     let text = vars.text(b"X").map(|text| text.as_slice());

@@ -1,5 +1,5 @@
 //! Cases of the public calls with ample memory.
-use crate::fields::{bytes_of, three};
+use crate::fields::{Tells, are_bytes, bytes_of, each_is_told, in_bytes, no_row, three};
 use crate::prefixes::list_of;
 use check_lines::{
     CheckFail, CheckFault, CheckKind, Directive, FileRules, canon, canon_owned, read_checks,
@@ -22,7 +22,7 @@ a \r~\t\tb => a ~ b => a ~\t\tb
 /// Whether this is the canonical form of a text.
 fn is_canon(alloc: Global, text: &[u8], strict: bool, due: &str) -> Result<bool, NoMemory> {
     let due = bytes_of(alloc, due)?;
-    Ok(canon(alloc, text, strict)?.as_slice() == due.as_slice())
+    are_bytes(canon(alloc, text, strict), due.as_slice())
 }
 
 /// Whether a row has the canonical forms of its text.
@@ -120,33 +120,34 @@ CHECK-NOTE: CHECK: a => 1 13 20 19 20
 RUN CHECK: a => 1 5 12 11 12
 x CHECK-COUNT-2: y => 1 3 18 17 18";
 
-/// Whether the numbers of one directive are these, where there is one.
-fn is_one_at(alloc: Global, text: &[u8], due: &str) -> Result<bool, CheckFail> {
-    let directives = read(alloc, text)?;
-    match directives.as_slice() {
-        [one] => match numbers_of(alloc, one) {
-            Ok(numbers) => Ok(numbers.as_str() == due),
-            Err(AllocError) => Err(CheckFail::NoMemory),
-        },
-        _ => Ok(false),
+/// The numbers of the one directive of a text.
+fn numbers_told(alloc: Global, text: &[u8]) -> Result<Bytes, NoMemory> {
+    match read(alloc, text) {
+        Ok(directives) => one_told(alloc, directives.as_slice()),
+        Err(_) => no_row(alloc),
     }
 }
 
-/// Whether the text of a row has one directive, with these numbers.
-fn is_at(alloc: Global, row: &str) -> Result<bool, CheckFail> {
-    let Some((text, due)) = row.split_once(" => ") else {
-        return Ok(false);
-    };
-    let text = bytes_of(alloc, text)?;
-    is_one_at(alloc, text.as_slice(), due)
+fn one_told(alloc: Global, directives: &[Directive]) -> Result<Bytes, NoMemory> {
+    match directives {
+        [one] => in_bytes(alloc, numbers_of(alloc, one)),
+        _ => no_row(alloc),
+    }
+}
+
+/// The numbers of the one directive of a text.
+struct Places;
+
+impl Tells for Places {
+    fn told(&self, alloc: Global, given: &str) -> Result<Bytes, NoMemory> {
+        let text = bytes_of(alloc, given)?;
+        numbers_told(alloc, text.as_slice())
+    }
 }
 
 #[test]
-fn a_directive_has_the_rest_of_its_line(rt: HostRuntime) -> Result<(), CheckFail> {
-    for row in PLACES.lines() {
-        assert!(rt; is_at(rt.alloc(), row)?, "{row}");
-    }
-    Ok(())
+fn a_directive_has_the_rest_of_its_line(rt: HostRuntime) -> Result<(), NoMemory> {
+    each_is_told(&rt, rt.alloc(), PLACES, &Places)
 }
 
 /// Lines behind a first one; the kind of their directive, and whether it is literal.
@@ -177,21 +178,24 @@ fn kind_of(alloc: Global, text: &[u8]) -> Result<String, AllocError> {
     }
 }
 
-/// Whether the line before the arrow of a row is what is behind it.
-fn is_of_kind(alloc: Global, row: &str) -> Result<bool, AllocError> {
-    let Some((line, due)) = row.split_once(" => ") else {
-        return Ok(false);
-    };
+/// The kind of a line behind a first directive.
+fn second_kind(alloc: Global, line: &str) -> Result<String, AllocError> {
     let text = format!(in alloc; "CHECK: first\n{line}")?;
-    Ok(kind_of(alloc, text.as_bytes())?.as_str() == due)
+    kind_of(alloc, text.as_bytes())
+}
+
+/// The kind of a line.
+struct Kinds;
+
+impl Tells for Kinds {
+    fn told(&self, alloc: Global, given: &str) -> Result<Bytes, NoMemory> {
+        in_bytes(alloc, second_kind(alloc, given))
+    }
 }
 
 #[test]
-fn a_suffix_gives_the_kind(rt: HostRuntime) -> Result<(), AllocError> {
-    for row in KINDS.lines() {
-        assert!(rt; is_of_kind(rt.alloc(), row)?, "{row}");
-    }
-    Ok(())
+fn a_suffix_gives_the_kind(rt: HostRuntime) -> Result<(), NoMemory> {
+    each_is_told(&rt, rt.alloc(), KINDS, &Kinds)
 }
 
 /// Texts, and where and why they are refused.
@@ -239,21 +243,19 @@ fn refusal_of(alloc: Global, text: &[u8]) -> Result<String, AllocError> {
     }
 }
 
-/// Whether the text of a row is refused so.
-fn is_refused(alloc: Global, row: &str) -> Result<bool, AllocError> {
-    let Some((text, due)) = row.split_once(" => ") else {
-        return Ok(false);
-    };
-    let text = bytes_of(alloc, text).or(Err(AllocError))?;
-    Ok(refusal_of(alloc, text.as_slice())?.as_str() == due)
+/// Where and why a text is refused.
+struct Refusals;
+
+impl Tells for Refusals {
+    fn told(&self, alloc: Global, given: &str) -> Result<Bytes, NoMemory> {
+        let text = bytes_of(alloc, given)?;
+        in_bytes(alloc, refusal_of(alloc, text.as_slice()))
+    }
 }
 
 #[test]
-fn the_first_refused_line_refuses_the_file(rt: HostRuntime) -> Result<(), AllocError> {
-    for row in REFUSED.lines() {
-        assert!(rt; is_refused(rt.alloc(), row)?, "{row}");
-    }
-    Ok(())
+fn the_first_refused_line_refuses_the_file(rt: HostRuntime) -> Result<(), NoMemory> {
+    each_is_told(&rt, rt.alloc(), REFUSED, &Refusals)
 }
 
 /// The numbers of the directives' prefixes.
@@ -274,13 +276,20 @@ fn told(alloc: Global, prefixes: &str, unused: bool, text: &[u8]) -> Result<Stri
     }
 }
 
-/// Whether this is told of a row, by whose prefixes its text is read.
-fn is_told(alloc: Global, unused: bool, row: &str) -> Result<bool, AllocError> {
-    let Some((prefixes, text, due)) = three(row) else {
-        return Ok(false);
-    };
-    let text = bytes_of(alloc, text).or(Err(AllocError))?;
-    Ok(told(alloc, prefixes, unused, text.as_slice())?.as_str() == due)
+/// The prefixes of a text's directives, where prefixes may be unused or not.
+struct ByPrefixes {
+    unused: bool,
+}
+
+impl Tells for ByPrefixes {
+    fn told(&self, alloc: Global, given: &str) -> Result<Bytes, NoMemory> {
+        let Some((prefixes, text)) = given.split_once(" => ") else {
+            return no_row(alloc);
+        };
+        let text = bytes_of(alloc, text)?;
+        let told = told(alloc, prefixes, self.unused, text.as_slice());
+        in_bytes(alloc, told)
+    }
 }
 
 const LONGEST: &str = "A,AB,A-B => A: x => 0
@@ -293,11 +302,8 @@ A,AB,A-B => RUN-X: A: x => 0
 A,AB,A-B => COMA: x => NoChecks";
 
 #[test]
-fn the_longest_prefix_counts(rt: HostRuntime) -> Result<(), AllocError> {
-    for row in LONGEST.lines() {
-        assert!(rt; is_told(rt.alloc(), true, row)?, "{row}");
-    }
-    Ok(())
+fn the_longest_prefix_counts(rt: HostRuntime) -> Result<(), NoMemory> {
+    each_is_told(&rt, rt.alloc(), LONGEST, &ByPrefixes { unused: true })
 }
 
 const UNUSED: &str = "A,B => B: x => UnusedPrefix(0)
@@ -306,11 +312,8 @@ A,B => A: x~B: y => 01
 A => A: x => 0";
 
 #[test]
-fn an_unused_prefix_is_refused(rt: HostRuntime) -> Result<(), AllocError> {
-    for row in UNUSED.lines() {
-        assert!(rt; is_told(rt.alloc(), false, row)?, "{row}");
-    }
-    Ok(())
+fn an_unused_prefix_is_refused(rt: HostRuntime) -> Result<(), NoMemory> {
+    each_is_told(&rt, rt.alloc(), UNUSED, &ByPrefixes { unused: false })
 }
 
 /// The directives of a short text, where blanks are kept or there may be none.

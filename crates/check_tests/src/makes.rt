@@ -1,6 +1,6 @@
 //! Check files that are made from outputs. A row is a line with fields between `~`: an old check file, an output, a lead, and the check file
 //! that is due, or `bad lead`, `line N` or `large`.
-use crate::fields::field_of;
+use crate::fields::{are_bytes, field_of};
 use make_checks::{
     MadeFile, MakeFail, MakeFault, make_checks, make_file, put_file, refresh, refresh_file,
 };
@@ -47,7 +47,7 @@ fn told_of(alloc: Global, made: Result<Bytes, MakeFail>) -> Result<Bytes, NoMemo
 
 /// Whether an answer is due.
 fn is_told(alloc: Global, made: Result<Bytes, MakeFail>, due: &[u8]) -> Result<bool, NoMemory> {
-    Ok(told_of(alloc, made)?.as_slice() == due)
+    are_bytes(told_of(alloc, made), due)
 }
 
 /// Whether both calls make what is due: that which answers bytes, and that whose file is written.

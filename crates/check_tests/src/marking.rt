@@ -1,4 +1,5 @@
 //! Marks of faults.
+use crate::fields::are_bytes;
 use check_group::{Fault, FaultKind};
 use input_dump::marks;
 use std::alloc::Global;
@@ -24,7 +25,7 @@ fn mark_of(alloc: Global, kind: FaultKind) -> Result<Bytes, NoMemory> {
 }
 
 fn is_marked(alloc: Global, kind: FaultKind, due: &str) -> Result<bool, NoMemory> {
-    Ok(mark_of(alloc, kind)?.as_slice() == due.as_bytes())
+    are_bytes(mark_of(alloc, kind), due.as_bytes())
 }
 
 /// A match that is found at 4, behind one that ended at 2.

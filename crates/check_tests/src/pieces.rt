@@ -1,7 +1,7 @@
 //! Runs whose input and whose messages move a byte at a time.
+use crate::fields::are_bytes;
 use crate::objects::{NEVER, NOT_FOUND, files_of, told_of};
 use std::alloc::Global;
-use std::test::Fail;
 use tt_base::NoMemory;
 use tt_outside::{MemSink, MemSource};
 
@@ -20,8 +20,8 @@ fn tells(alloc: Global, checks: &str, input: &str, due: &str) -> Result<bool, No
     let mut input = MemSource::in_pieces(alloc, input.as_bytes(), 1)?;
     let mut out = MemSink::in_pieces(alloc, 1, 100)?;
     let mut err = MemSink::in_pieces(alloc, 1, 1000)?;
-    let told = told_of(alloc, "t.txt", &mut files, &mut input, &mut out, &mut err)?;
-    Ok(told.as_slice() == due.as_bytes())
+    let told = told_of(alloc, "t.txt", &mut files, &mut input, &mut out, &mut err);
+    are_bytes(told, due.as_bytes())
 }
 
 const FOUND: &str = "main:\n\tmov r4, #1\n\tadd r4, r4, #22\n\tret\n";
@@ -37,7 +37,7 @@ const CALL: &str = "1 t.txt:5:14: error: CHECK-NOT: excluded string found in inp
 ";
 
 #[test]
-fn a_byte_at_a_time_tells_the_same(rt: HostRuntime) -> Result<(), Fail> {
+fn a_byte_at_a_time_tells_the_same(rt: HostRuntime) -> Result<(), NoMemory> {
     for (checks, input, due) in [
         ("CHECK: foo", "foo\n", "0 "),
         ("CHECK: foo\n", "bar\n", NOT_FOUND),

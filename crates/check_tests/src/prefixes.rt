@@ -1,5 +1,5 @@
 //! Which prefix is meant, with ample memory.
-use crate::fields::three;
+use crate::fields::{Tells, each_is_told, in_bytes, no_row};
 use prefix_tree::{PrefixTree, Standing};
 use std::alloc::Global;
 use tt_base::{Bytes, Items, NoMemory};
@@ -23,20 +23,20 @@ fn longest(alloc: Global, names: &str, text: &str) -> Result<Option<Standing>, N
     Ok(tree.longest(text.as_bytes()))
 }
 
-/// The number and the length of a prefix.
-fn numbers_of(field: &str) -> Option<(usize, usize)> {
-    let (index, length) = field.split_once(' ')?;
-    Some((index.parse().ok()?, length.parse().ok()?))
-}
+/// The number and the length of the longest prefix that a text begins with, or `none`.
+struct Longest;
 
-/// Whether the longest prefix of a row is this, or none.
-fn is_longest(alloc: Global, row: &str) -> Result<bool, NoMemory> {
-    let Some((names, text, due)) = three(row) else {
-        return Ok(false);
-    };
-    match longest(alloc, names, text)? {
-        Some(Standing { index, length }) => Ok(numbers_of(due) == Some((index, length))),
-        None => Ok(due == "none"),
+impl Tells for Longest {
+    fn told(&self, alloc: Global, given: &str) -> Result<Bytes, NoMemory> {
+        let Some((names, text)) = given.split_once(" => ") else {
+            return no_row(alloc);
+        };
+        match longest(alloc, names, text)? {
+            Some(Standing { index, length }) => {
+                in_bytes(alloc, format!(in alloc; "{index} {length}"))
+            }
+            None => Bytes::from_slice(alloc, b"none"),
+        }
     }
 }
 
@@ -59,8 +59,5 @@ B,,C,D,E => A => 1 0";
 
 #[test]
 fn the_longest_prefix_is_meant(rt: HostRuntime) -> Result<(), NoMemory> {
-    for row in LONGEST.lines() {
-        assert!(rt; is_longest(rt.alloc(), row)?, "{row}");
-    }
-    Ok(())
+    each_is_told(&rt, rt.alloc(), LONGEST, &Longest)
 }

@@ -6,6 +6,7 @@ ghost use Rattle.check_group.specs.Changes.{IsReady};
 ghost use Rattle.check_program.specs.Compiled.{EndsBy};
 ghost use Rattle.check_program.specs.Ready.{IsScannable};
 
+use crate::fields::{are_bytes, in_bytes};
 use check_group::{Check, Fault, FaultKind};
 use check_lines::{Directive, FileRules, read_checks};
 use check_program::{CompileFail, CompileOpts, Program, compile};
@@ -16,6 +17,7 @@ use pattern_parse::{Formats, Frame};
 use pattern_vars::{Binding, Bindings, Vars};
 use std::alloc::{AllocError, Global};
 use std::marker::Brand;
+use std::process::Abort;
 use std::sync::ledger::{Blank, Ledger};
 use tt_base::{Bytes, Items, NoMemory};
 
@@ -246,10 +248,7 @@ fn shown(
 
 /// Where a program is refused, in words.
 fn refusal(alloc: Global, directive: usize, at: usize) -> Result<Bytes, NoMemory> {
-    match format!(in alloc; "{directive} refused at {at}") {
-        Ok(text) => Bytes::from_slice(alloc, text.as_bytes()),
-        Err(AllocError) => Err(NoMemory),
-    }
+    in_bytes(alloc, format!(in alloc; "{directive} refused at {at}"))
 }
 
 /// What a program tells of an input.
@@ -295,10 +294,18 @@ fn fields(row: &str) -> Option<(&str, &str, &str, &str, &str, &str)> {
 }
 
 /// Whether a row tells what it says.
-pub(crate) fn row_holds(alloc: Global, row: &str) -> Result<bool, NoMemory> {
+fn row_holds(alloc: Global, row: &str) -> Result<bool, NoMemory> {
     let Some((options, defined, implicit, checks, input, due)) = fields(row) else {
         return Ok(false);
     };
-    let told = told(alloc, options, defined, implicit, checks, input)?;
-    Ok(told.as_slice() == due.as_bytes())
+    let told = told(alloc, options, defined, implicit, checks, input);
+    are_bytes(told, due.as_bytes())
+}
+
+/// Sees that each row tells what it says.
+pub(crate) fn each_row_holds(rt: &impl Abort, alloc: Global, rows: &str) -> Result<(), NoMemory> {
+    for row in rows.lines() {
+        assert!(rt; row_holds(alloc, row)?, "{row}");
+    }
+    Ok(())
 }

@@ -1,5 +1,5 @@
 //! What check files find amiss in inputs, and what they leave of the variables.
-use crate::rows::row_holds;
+use crate::rows::each_row_holds;
 use tt_base::NoMemory;
 
 const IN_ORDER: &str = "~~~CHECK: a/CHECK: {{b~~1 refused at 0
@@ -17,10 +17,7 @@ t~~~CHECK: a/CHECK-NOT: b~a/xbx~1 excluded 3; ";
 
 #[test]
 fn bodies_are_read_in_order(rt: HostRuntime) -> Result<(), NoMemory> {
-    for row in IN_ORDER.lines() {
-        assert!(rt; row_holds(rt.alloc(), row)?, "{row}");
-    }
-    Ok(())
+    each_row_holds(&rt, rt.alloc(), IN_ORDER)
 }
 
 const BEHIND: &str = "~~~CHECK: a/CHECK-NEXT: b/CHECK-SAME: c/CHECK-EMPTY:/CHECK: d~a/b c//d~
@@ -41,10 +38,7 @@ const BEHIND: &str = "~~~CHECK: a/CHECK-NEXT: b/CHECK-SAME: c/CHECK-EMPTY:/CHECK
 
 #[test]
 fn directives_are_met_one_behind_the_other(rt: HostRuntime) -> Result<(), NoMemory> {
-    for row in BEHIND.lines() {
-        assert!(rt; row_holds(rt.alloc(), row)?, "{row}");
-    }
-    Ok(())
+    each_row_holds(&rt, rt.alloc(), BEHIND)
 }
 
 const GROUPS: &str =
@@ -60,10 +54,7 @@ const GROUPS: &str =
 
 #[test]
 fn groups_share_no_bytes_and_bind_as_they_match(rt: HostRuntime) -> Result<(), NoMemory> {
-    for row in GROUPS.lines() {
-        assert!(rt; row_holds(rt.alloc(), row)?, "{row}");
-    }
-    Ok(())
+    each_row_holds(&rt, rt.alloc(), GROUPS)
 }
 
 const REGIONS: &str = "~X=q~~CHECK: s/CHECK-NOT: [[X]]/CHECK: <[[X:x]]>~s x <x>~1 excluded 2; X=x 
@@ -77,10 +68,7 @@ const REGIONS: &str = "~X=q~~CHECK: s/CHECK-NOT: [[X]]/CHECK: <[[X:x]]>~s x <x>~
 
 #[test]
 fn regions_are_tested_behind_the_match_that_closes_them(rt: HostRuntime) -> Result<(), NoMemory> {
-    for row in REGIONS.lines() {
-        assert!(rt; row_holds(rt.alloc(), row)?, "{row}");
-    }
-    Ok(())
+    each_row_holds(&rt, rt.alloc(), REGIONS)
 }
 
 const BLOCKS: &str = "~~~CHECK-LABEL: f/CHECK: b/CHECK-NOT: x/CHECK-LABEL: {{^}}x/CHECK: y~f bx/x y~
@@ -91,8 +79,5 @@ s~~~CHECK-LABEL: f/CHECK: [[X:a]] [[$G:b]]/CHECK-LABEL: g/CHECK: [[$G]]/CHECK: [
 
 #[test]
 fn labels_cut_the_input_into_blocks(rt: HostRuntime) -> Result<(), NoMemory> {
-    for row in BLOCKS.lines() {
-        assert!(rt; row_holds(rt.alloc(), row)?, "{row}");
-    }
-    Ok(())
+    each_row_holds(&rt, rt.alloc(), BLOCKS)
 }

@@ -1,7 +1,7 @@
 //! What the automaton finds, and how far it is shown the slice.
 ghost use Rattle.std.specs.Prelude.{◌≡◌, ◌<◌};
 
-use crate::rows::{bytes_of, four};
+use crate::rows::{Tells, bytes_of, each_is_told, four, no_row, numbered};
 use crate::shown::ends_of;
 use ere_auto::{Auto, Steps};
 use ere_tree::{Cap, parse};
@@ -42,15 +42,19 @@ fn search(alloc: Global, pattern: &str, text: &[u8], begin: usize) -> Option<(Op
     shown::<Brand>(alloc, pattern.as_bytes(), text, begin, Blank::new(1))
 }
 
-/// Whether the expression of a row has this span in its text from its place on.
-fn is_found(alloc: Global, row: &str) -> Result<bool, AllocError> {
-    let Some((pattern, text, begin, due)) = four(row) else {
-        return Ok(false);
-    };
-    let text = bytes_of(alloc, text)?;
-    match search(alloc, pattern, text.as_slice(), begin) {
-        Some((span, _)) => Ok(ends_of(alloc, span)?.as_str() == due),
-        None => Ok(false),
+/// The span of an expression in a text from a place on.
+struct Spans;
+
+impl Tells for Spans {
+    fn told(&self, alloc: Global, given: &str) -> Result<String, AllocError> {
+        let Some((pattern, text, begin)) = numbered(given) else {
+            return no_row(alloc);
+        };
+        let text = bytes_of(alloc, text)?;
+        match search(alloc, pattern, text.as_slice(), begin) {
+            Some((span, _)) => ends_of(alloc, span),
+            None => no_row(alloc),
+        }
     }
 }
 
@@ -77,10 +81,7 @@ a{0}b => ab => 0 => 1-2
 
 #[test]
 fn the_leftmost_longest_span_is_found(rt: HostRuntime) -> Result<(), AllocError> {
-    for row in SPANS.lines() {
-        assert!(rt; is_found(rt.alloc(), row)?, "{row}");
-    }
-    Ok(())
+    each_is_told(&rt, rt.alloc(), SPANS, &Spans)
 }
 
 /// An expression, a text, where a match may begin, and how many bytes and ends are shown.
@@ -117,8 +118,5 @@ b => ab => 3 => none";
 
 #[test]
 fn starts_before_the_place_do_not_count(rt: HostRuntime) -> Result<(), AllocError> {
-    for row in STARTS.lines() {
-        assert!(rt; is_found(rt.alloc(), row)?, "{row}");
-    }
-    Ok(())
+    each_is_told(&rt, rt.alloc(), STARTS, &Spans)
 }

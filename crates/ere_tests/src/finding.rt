@@ -1,7 +1,7 @@
 //! Hits with their captures: rows by hand, and small expressions beside the list of all derivations.
 ghost use Rattle.std.specs.Prelude.{◌≡◌, ◌<◌, ◌≤◌, length};
 
-use crate::rows::{bytes_of, four, three};
+use crate::rows::{Tells, bytes_of, each_is_told, is_text, no_row, numbered, three};
 use crate::shown::{are_same, in_words};
 use ere_auto::Steps;
 use ere_match::find;
@@ -42,6 +42,12 @@ pub(crate) fn found(
     found_by::<Brand>(alloc, ere, text, from, Blank::new(1)).or(Err(AllocError))
 }
 
+/// The hit of an expression in a text, in words.
+pub(crate) fn told_of(alloc: Global, ere: &Ere, text: &[u8]) -> Result<String, AllocError> {
+    let hit = found(alloc, ere, text, 0)?;
+    in_words(alloc, &hit)
+}
+
 /// What is found in the text from a place on, in words.
 pub(crate) fn told(
     alloc: Global,
@@ -56,13 +62,17 @@ pub(crate) fn told(
     in_words(alloc, &hit)
 }
 
-/// Whether a row has the hit of its expression in its text.
-fn is_found(alloc: Global, row: &str) -> Result<bool, AllocError> {
-    let Some((pattern, text, from, due)) = four(row) else {
-        return Ok(false);
-    };
-    let text = bytes_of(alloc, text)?;
-    Ok(told(alloc, pattern, text.as_slice(), from)?.as_str() == due)
+/// The hit of an expression in a text from a place on.
+struct Hits;
+
+impl Tells for Hits {
+    fn told(&self, alloc: Global, given: &str) -> Result<String, AllocError> {
+        let Some((pattern, text, from)) = numbered(given) else {
+            return no_row(alloc);
+        };
+        let text = bytes_of(alloc, text)?;
+        told(alloc, pattern, text.as_slice(), from)
+    }
 }
 
 /// An expression, a text, where the search begins, and the hit with its groups.
@@ -83,10 +93,7 @@ x((a*)(a*))b\3 => xaabaa => 0 => 0-6 1-3 1-1 1-3
 
 #[test]
 fn groups_hold_what_the_preferred_way_sets(rt: HostRuntime) -> Result<(), AllocError> {
-    for row in HITS.lines() {
-        assert!(rt; is_found(rt.alloc(), row)?, "{row}");
-    }
-    Ok(())
+    each_is_told(&rt, rt.alloc(), HITS, &Hits)
 }
 
 /// The same of expressions that have to be tried behind the first place at which one without references would match: in
@@ -98,10 +105,7 @@ const BEHIND: &str = r"([ab])\1 => abb => 0 => 1-3 1-2
 
 #[test]
 fn a_reference_may_match_behind_the_first_place(rt: HostRuntime) -> Result<(), AllocError> {
-    for row in BEHIND.lines() {
-        assert!(rt; is_found(rt.alloc(), row)?, "{row}");
-    }
-    Ok(())
+    each_is_told(&rt, rt.alloc(), BEHIND, &Hits)
 }
 
 /// Whether an expression is found nowhere in so many of a letter between two texts.
@@ -109,10 +113,29 @@ fn is_nowhere(alloc: Global, row: &str, count: usize) -> Result<bool, AllocError
     let Some((pattern, front, end)) = three(row) else {
         return Ok(false);
     };
+    is_text(told_behind(alloc, pattern, front, count, end), "none")
+}
+
+/// So many `a` between two texts.
+fn surrounded(alloc: Global, front: &str, count: usize, end: &str) -> Result<Vec<u8>, AllocError> {
     let mut text = Vec::from_slice(alloc, front.as_bytes())?;
-    text.append(&mut vec![in alloc; b'a'; count]?)?;
+    for _ in 0..count {
+        text.push(b'a')?;
+    }
     text.extend_from_slice(end.as_bytes())?;
-    Ok(told(alloc, pattern, text.as_slice(), 0)?.as_str() == "none")
+    Ok(text)
+}
+
+/// What is found in so many `a` between two texts, in words.
+pub(crate) fn told_behind(
+    alloc: Global,
+    pattern: &str,
+    front: &str,
+    count: usize,
+    end: &str,
+) -> Result<String, AllocError> {
+    let text = surrounded(alloc, front, count, end)?;
+    told(alloc, pattern, text.as_slice(), 0)
 }
 
 #[test]
@@ -207,8 +230,7 @@ pub(crate) fn is_found_among(
     due: &str,
 ) -> Result<bool, AllocError> {
     let letters = vec![in alloc; letter; count]?;
-    let hit = found(alloc, ere, letters.as_slice(), 0)?;
-    Ok(in_words(alloc, &hit)?.as_str() == due)
+    is_text(told_of(alloc, ere, letters.as_slice()), due)
 }
 
 /// So many alternatives of one letter.

@@ -1,7 +1,7 @@
 //! What a search finds, and how many steps it takes.
 ghost use Rattle.std.specs.Prelude.{◌≡◌, ◌<◌, ◌≤◌, length};
 
-use crate::rows::{bytes_of, four};
+use crate::rows::{Tells, bytes_of, each_is_told, no_row, numbered};
 use crate::shown::ends_of;
 use ere_auto::Steps;
 use ere_match::Search;
@@ -45,28 +45,32 @@ fn spans(
     searched::<Brand>(alloc, pattern, text, from, Blank::new(1))
 }
 
-/// Whether a search finds this span, and then finds it again.
-fn finds_twice(
+/// The span that a search finds, and then finds again.
+fn found_twice(
     alloc: Global,
     pattern: &[u8],
     text: &[u8],
     from: usize,
-    due: &str,
-) -> Result<bool, AllocError> {
+) -> Result<String, AllocError> {
     match spans(alloc, pattern, text, from) {
-        Some((first, second)) => { Ok(first == second && ends_of(alloc, first)?.as_str() == due) }
-        None => Ok(false),
+        Some((first, second)) if first == second => ends_of(alloc, first),
+        Some(_) => String::from_str(alloc, "two spans"),
+        None => no_row(alloc),
     }
 }
 
-/// Whether the span of a row is found twice.
-fn is_found_twice(alloc: Global, row: &str) -> Result<bool, AllocError> {
-    let Some((pattern, text, from, due)) = four(row) else {
-        return Ok(false);
-    };
-    let pattern = bytes_of(alloc, pattern)?;
-    let text = bytes_of(alloc, text)?;
-    finds_twice(alloc, pattern.as_slice(), text.as_slice(), from, due)
+/// The span of an expression in a text from a place on, which is found twice.
+struct SpansTwice;
+
+impl Tells for SpansTwice {
+    fn told(&self, alloc: Global, given: &str) -> Result<String, AllocError> {
+        let Some((pattern, text, from)) = numbered(given) else {
+            return no_row(alloc);
+        };
+        let pattern = bytes_of(alloc, pattern)?;
+        let text = bytes_of(alloc, text)?;
+        found_twice(alloc, pattern.as_slice(), text.as_slice(), from)
+    }
 }
 
 /// An expression, a text, where the search begins, and the span that is found in the slice from there on.
@@ -90,8 +94,5 @@ c$ => abc => 1 => 1-2
 
 #[test]
 fn a_kept_search_finds_the_span_again(rt: HostRuntime) -> Result<(), AllocError> {
-    for row in SPANS.lines() {
-        assert!(rt; is_found_twice(rt.alloc(), row)?, "{row}");
-    }
-    Ok(())
+    each_is_told(&rt, rt.alloc(), SPANS, &SpansTwice)
 }

@@ -1,23 +1,32 @@
 //! Texts with their trees or their faults, and hostile texts.
+use crate::rows::{Tells, each_is_told, is_text};
 use ere_tree::{ByteSet, Ere, EreFail, EreFault, EreList, parse};
 use std::alloc::{AllocError, Global};
 
-/// The bytes of the set, or how many there are of more than 13.
-fn show_set(alloc: Global, set: &ByteSet, out: &mut String) -> Result<(), AllocError> {
-    let mut bytes = String::new(alloc);
+/// How many bytes the set has.
+fn count_of(set: &ByteSet) -> u32 {
     let mut count: u32 = 0;
     for byte in 0..=255 {
-        if set.has(byte) && count < 256 {
-            bytes.push(char::from(byte))?;
-            count += 1;
+        if set.has(byte) {
+            count = count.saturating_add(1);
         }
     }
-    if count <= 13 {
-        out.push_str(format!(in alloc; "[{bytes}]")?.as_str())?;
-    } else {
-        out.push_str(format!(in alloc; "[{count}]")?.as_str())?;
+    count
+}
+
+/// The bytes of the set, or how many there are of more than 13.
+fn show_set(alloc: Global, set: &ByteSet, out: &mut String) -> Result<(), AllocError> {
+    let count = count_of(set);
+    if count > 13 {
+        return put_number(alloc, "[", count, "]", out);
     }
-    Ok(())
+    put(out, "[")?;
+    for byte in 0..=255 {
+        if set.has(byte) {
+            out.push(char::from(byte))?;
+        }
+    }
+    put(out, "]")
 }
 
 fn put(out: &mut String, text: &str) -> Result<(), AllocError> {
@@ -40,8 +49,15 @@ fn put_bounds(
     put(out, format!(in alloc; "{least}-{most:?}")?.as_str())
 }
 
-fn put_group(alloc: Global, number: u32, out: &mut String) -> Result<(), AllocError> {
-    put(out, format!(in alloc; "#{number}")?.as_str())
+/// A number between two texts.
+fn put_number(
+    alloc: Global,
+    front: &str,
+    number: u32,
+    end: &str,
+    out: &mut String,
+) -> Result<(), AllocError> {
+    put(out, format!(in alloc; "{front}{number}{end}")?.as_str())
 }
 
 fn put_ref(alloc: Global, number: u32, fold: bool, out: &mut String) -> Result<(), AllocError> {
@@ -63,7 +79,7 @@ fn show(alloc: Global, ere: &Ere, out: &mut String) -> Result<(), AllocError> {
             show_inner(alloc, inner, out)
         }
         Ere::Group { number, inner } => {
-            put_group(alloc, *number, out)?;
+            put_number(alloc, "#", *number, "", out)?;
             show_inner(alloc, inner, out)
         }
         Ere::Ref { number, fold } => put_ref(alloc, *number, *fold, out),
@@ -191,11 +207,14 @@ a[b => UnclosedBracket 1
 ((a{255}){255}){255} => TooLarge 0
 ((a{255}){255}){255}( => UnclosedGroup 20";
 
-/// Whether the text before the arrow of a row is read as what is behind it.
-fn is_read(alloc: Global, row: &str, fold: bool) -> Result<bool, AllocError> {
-    match row.split_once(" => ") {
-        Some((text, due)) => Ok(told(alloc, text.as_bytes(), fold)?.as_str() == due),
-        None => Ok(false),
+/// The tree of a text, or its fault; in it letters may match in either case.
+struct Read {
+    fold: bool,
+}
+
+impl Tells for Read {
+    fn told(&self, alloc: Global, given: &str) -> Result<String, AllocError> {
+        told(alloc, given.as_bytes(), self.fold)
     }
 }
 
@@ -214,34 +233,24 @@ a{2,1} => BadBound 1";
 
 #[test]
 fn texts_are_read_as_their_trees(rt: HostRuntime) -> Result<(), AllocError> {
-    for row in READ.lines() {
-        assert!(rt; is_read(rt.alloc(), row, false)?, "{row}");
-    }
-    Ok(())
+    each_is_told(&rt, rt.alloc(), READ, &Read { fold: false })
 }
 
 #[test]
 fn letters_are_read_in_either_case(rt: HostRuntime) -> Result<(), AllocError> {
-    for row in READ_IN_EITHER_CASE.lines() {
-        assert!(rt; is_read(rt.alloc(), row, true)?, "{row}");
-    }
-    Ok(())
+    each_is_told(&rt, rt.alloc(), READ_IN_EITHER_CASE, &Read { fold: true })
 }
 
 /// The tree of a text, changed so that letters match in either case.
-fn folded(alloc: Global, text: &str) -> Result<String, AllocError> {
-    let Ok(ere) = parse(alloc, text.as_bytes(), false) else {
-        return String::from_str(alloc, "refused");
-    };
-    let folded = ere.folded(alloc)?;
-    shown(alloc, &folded)
-}
+struct Folded;
 
-/// Whether the text before the arrow of a row is changed into what is behind it.
-fn is_folded(alloc: Global, row: &str) -> Result<bool, AllocError> {
-    match row.split_once(" => ") {
-        Some((text, due)) => Ok(folded(alloc, text)?.as_str() == due),
-        None => Ok(false),
+impl Tells for Folded {
+    fn told(&self, alloc: Global, given: &str) -> Result<String, AllocError> {
+        let Ok(ere) = parse(alloc, given.as_bytes(), false) else {
+            return String::from_str(alloc, "refused");
+        };
+        let folded = ere.folded(alloc)?;
+        shown(alloc, &folded)
     }
 }
 
@@ -256,10 +265,7 @@ ab-1 => cat( [Aa] [Bb] -1 )
 
 #[test]
 fn an_expression_is_changed_to_either_case(rt: HostRuntime) -> Result<(), AllocError> {
-    for row in FOLDED.lines() {
-        assert!(rt; is_folded(rt.alloc(), row)?, "{row}");
-    }
-    Ok(())
+    each_is_told(&rt, rt.alloc(), FOLDED, &Folded)
 }
 
 /// So many copies of a piece of text.
@@ -271,67 +277,76 @@ fn repeated(alloc: Global, piece: &str, count: usize) -> Result<String, AllocErr
     Ok(text)
 }
 
-/// The number of groups of so many copies of a text; nothing of one that is refused.
-fn groups_of(alloc: Global, piece: &str, count: usize) -> Result<Option<u32>, AllocError> {
-    let text = repeated(alloc, piece, count)?;
-    match parse(alloc, text.as_bytes(), false) {
-        Ok(ere) => Ok(Some(ere.groups())),
-        Err(_) => Ok(None),
-    }
+/// The number of groups of a text, and its size; nothing of one that is refused.
+fn measured(alloc: Global, text: &[u8], fold: bool) -> Option<(u32, u64)> {
+    let ere = parse(alloc, text, fold).ok()?;
+    Some((ere.groups(), ere.size()))
 }
 
-/// The size of so many copies of a text, with another text behind them; nothing of one that is refused.
-fn size_of(
-    alloc: Global,
-    piece: &str,
-    count: usize,
-    end: &str,
-    fold: bool,
-) -> Result<Option<u64>, AllocError> {
-    let mut text = repeated(alloc, piece, count)?;
-    text.push_str(end)?;
-    match parse(alloc, text.as_bytes(), fold) {
-        Ok(ere) => Ok(Some(ere.size())),
-        Err(_) => Ok(None),
-    }
+/// The number of groups of so many copies of a text.
+fn groups_of(alloc: Global, piece: &str, count: usize) -> Option<u32> {
+    let text = repeated(alloc, piece, count).ok()?;
+    let (groups, _) = measured(alloc, text.as_bytes(), false)?;
+    Some(groups)
+}
+
+/// The size of so many copies of a text, with another text behind them.
+fn size_of(alloc: Global, piece: &str, count: usize, end: &str, fold: bool) -> Option<u64> {
+    let mut text = repeated(alloc, piece, count).ok()?;
+    text.push_str(end).ok()?;
+    let (_, size) = measured(alloc, text.as_bytes(), fold)?;
+    Some(size)
 }
 
 #[test]
-fn long_expressions_are_read(rt: HostRuntime) -> Result<(), AllocError> {
+fn long_expressions_are_read(rt: HostRuntime) {
     let alloc = rt.alloc();
-    assert!(rt; groups_of(alloc, "(a)", 1_000)? == Some(1_000));
-    assert!(rt; size_of(alloc, "a*", 2_000, "", true)? == Some(4_000));
-    assert!(rt; size_of(alloc, "ab|", 2_000, "c", false)? == Some(4_002));
-    Ok(())
+    assert!(rt; groups_of(alloc, "(a)", 1_000) == Some(1_000));
+    assert!(rt; size_of(alloc, "a*", 2_000, "", true) == Some(4_000));
+    assert!(rt; size_of(alloc, "ab|", 2_000, "c", false) == Some(4_002));
 }
 
 #[test]
 fn the_first_fault_is_told_with_its_place(rt: HostRuntime) -> Result<(), AllocError> {
-    for row in REFUSED.lines() {
-        assert!(rt; is_read(rt.alloc(), row, false)?, "{row}");
-    }
-    Ok(())
+    each_is_told(&rt, rt.alloc(), REFUSED, &Read { fold: false })
 }
 
 /// Whether this is told of so many copies of a text.
 fn is_told_of(alloc: Global, piece: &str, count: usize, due: &str) -> Result<bool, AllocError> {
+    is_text(told_of(alloc, piece, count), due)
+}
+
+/// The tree of so many copies of a text, or its fault.
+fn told_of(alloc: Global, piece: &str, count: usize) -> Result<String, AllocError> {
     let text = repeated(alloc, piece, count)?;
-    Ok(told(alloc, text.as_bytes(), false)?.as_str() == due)
+    told(alloc, text.as_bytes(), false)
+}
+
+/// A letter in so many groups.
+fn nest(alloc: Global, depth: usize) -> Result<String, AllocError> {
+    let mut text = repeated(alloc, "(", depth)?;
+    text.push('a')?;
+    for _ in 0..depth {
+        text.push(')')?;
+    }
+    Ok(text)
 }
 
 /// Whether a letter in so many groups is read.
 fn nest_is_read(alloc: Global, depth: usize) -> Result<bool, AllocError> {
-    let mut text = repeated(alloc, "(", depth)?;
-    text.push('a')?;
-    text.push_str(repeated(alloc, ")", depth)?.as_str())?;
-    Ok(parse(alloc, text.as_bytes(), false).is_ok())
+    let text = nest(alloc, depth)?;
+    Ok(is_read(alloc, text.as_bytes()))
+}
+
+fn is_read(alloc: Global, text: &[u8]) -> bool {
+    parse(alloc, text, false).is_ok()
 }
 
 /// Reads a byte, and each pair of bytes that begins with it.
 fn read_pairs(alloc: Global, first: u8) {
-    let _one = parse(alloc, &[first], false);
+    let _one = is_read(alloc, &[first]);
     for second in 0..=255 {
-        let _pair = parse(alloc, &[first, second], false);
+        let _pair = is_read(alloc, &[first, second]);
     }
 }
 

@@ -1,5 +1,5 @@
 //! Which places an expression leads to, ahead and back.
-use crate::rows::{bytes_of, four};
+use crate::rows::{Tells, bytes_of, each_is_told, no_row, numbered};
 use ere_places::{Direction, Window, image};
 use ere_tree::parse;
 use std::alloc::{AllocError, Global};
@@ -27,15 +27,19 @@ fn led(
     Some(found)
 }
 
-/// Whether the expression of a row leads from its place to these.
-fn is_led(alloc: Global, row: &str, direction: Direction) -> Result<bool, AllocError> {
-    let Some((expression, text, place, due)) = four(row) else {
-        return Ok(false);
-    };
-    let text = bytes_of(alloc, text)?;
-    match led(alloc, expression, text.as_slice(), direction, place) {
-        Some(places) => Ok(format!(in alloc; "{places:?}")?.as_str() == due),
-        None => Ok(false),
+/// The places that an expression leads to from a place in a text.
+struct Leads(Direction);
+
+impl Tells for Leads {
+    fn told(&self, alloc: Global, given: &str) -> Result<String, AllocError> {
+        let Some((expression, text, place)) = numbered(given) else {
+            return no_row(alloc);
+        };
+        let text = bytes_of(alloc, text)?;
+        match led(alloc, expression, text.as_slice(), self.0, place) {
+            Some(places) => format!(in alloc; "{places:?}"),
+            None => no_row(alloc),
+        }
     }
 }
 
@@ -65,16 +69,10 @@ x{0} => x => 1 => [1]
 
 #[test]
 fn spans_are_told_by_their_ends(rt: HostRuntime) -> Result<(), AllocError> {
-    for row in AHEAD.lines() {
-        assert!(rt; is_led(rt.alloc(), row, Direction::Ahead)?, "{row}");
-    }
-    Ok(())
+    each_is_told(&rt, rt.alloc(), AHEAD, &Leads(Direction::Ahead))
 }
 
 #[test]
 fn spans_are_told_by_their_starts(rt: HostRuntime) -> Result<(), AllocError> {
-    for row in BACK.lines() {
-        assert!(rt; is_led(rt.alloc(), row, Direction::Back)?, "{row}");
-    }
-    Ok(())
+    each_is_told(&rt, rt.alloc(), BACK, &Leads(Direction::Back))
 }

@@ -1,20 +1,18 @@
 //! Expressions with references: the span of each part tells what later parts refer to, or all ways are listed.
-use crate::finding::told;
-use crate::rows::four;
+use crate::finding::{told, told_behind};
+use crate::rows::{Tells, each_is_told, four, no_row};
 use std::alloc::{AllocError, Global};
 
-/// Whether an expression has this hit in a front, so many `a`, and an end.
-fn is_found_behind(alloc: Global, row: &str) -> Result<bool, AllocError> {
-    let Some((pattern, front, count, rest)) = four(row) else {
-        return Ok(false);
-    };
-    let Some((end, due)) = rest.split_once(" => ") else {
-        return Ok(false);
-    };
-    let mut text = Vec::from_slice(alloc, front.as_bytes())?;
-    text.append(&mut vec![in alloc; b'a'; count]?)?;
-    text.extend_from_slice(end.as_bytes())?;
-    Ok(told(alloc, pattern, text.as_slice(), 0)?.as_str() == due)
+/// The hit of an expression in a front, so many `a`, and an end.
+struct Behind;
+
+impl Tells for Behind {
+    fn told(&self, alloc: Global, given: &str) -> Result<String, AllocError> {
+        match four(given) {
+            Some((pattern, front, count, end)) => told_behind(alloc, pattern, front, count, end),
+            None => no_row(alloc),
+        }
+    }
 }
 
 /// An expression, a front, how many `a` stand behind it, an end, and the hit with its groups.
@@ -32,10 +30,7 @@ x(a*)(b|ba)(a*)\1$ => x => 3 => baaa => 0-8 1-4 4-5 5-5
 
 #[test]
 fn a_span_tells_what_is_referred_to(rt: HostRuntime) -> Result<(), AllocError> {
-    for row in MATCHED.lines() {
-        assert!(rt; is_found_behind(rt.alloc(), row)?, "{row}");
-    }
-    Ok(())
+    each_is_told(&rt, rt.alloc(), MATCHED, &Behind)
 }
 
 /// An expression, how many `a` stand before a `b`, and the hit.
@@ -45,18 +40,19 @@ const AMONG: &str = r"((a*))\2b => 3162 => 0-3163 0-1581 0-1581
 (a*)*\1b => 200 => 0-201 198-199
 ((a*))*\2b => 100 => 0-101 98-99 98-99";
 
-/// Whether that is found in words of the row.
-fn is_told_among(alloc: Global, row: &str) -> Result<bool, AllocError> {
-    let Some((pattern, rest)) = row.split_once(" => ") else {
-        return Ok(false);
-    };
-    let Some((count, due)) = rest.split_once(" => ") else {
-        return Ok(false);
-    };
-    let Ok(count) = count.parse::<usize>() else {
-        return Ok(false);
-    };
-    Ok(told_among(alloc, pattern, count)?.as_str() == due)
+/// The hit of an expression in so many `a` and a `b`.
+struct Among;
+
+impl Tells for Among {
+    fn told(&self, alloc: Global, given: &str) -> Result<String, AllocError> {
+        let Some((pattern, count)) = given.split_once(" => ") else {
+            return no_row(alloc);
+        };
+        match count.parse::<usize>() {
+            Ok(count) => told_among(alloc, pattern, count),
+            Err(_) => no_row(alloc),
+        }
+    }
 }
 
 /// What is found of an expression in so many `a` and a `b`, in words. Want of memory is told as such.
@@ -71,17 +67,14 @@ fn told_among(alloc: Global, pattern: &str, count: usize) -> Result<String, Allo
 
 #[test]
 fn ways_that_agree_are_one(rt: HostRuntime) -> Result<(), AllocError> {
-    for row in AMONG.lines() {
-        assert!(rt; is_told_among(rt.alloc(), row)?, "{row}");
-    }
-    Ok(())
+    each_is_told(&rt, rt.alloc(), AMONG, &Among)
 }
+
+/// The same below the limit of tries, and above it.
+const LIMITS: &str = r"(a*)*\1b => 2000 => 0-2001 1998-1999
+(a*)*\1b => 3200 => no memory";
 
 #[test]
 fn tries_end_at_their_limit(rt: HostRuntime) -> Result<(), AllocError> {
-    let below = told_among(rt.alloc(), r"(a*)*\1b", 2_000)?;
-    assert!(rt; below.as_str() == "0-2001 1998-1999", "{below}");
-    let above = told_among(rt.alloc(), r"(a*)*\1b", 3_200)?;
-    assert!(rt; above.as_str() == "no memory", "{above}");
-    Ok(())
+    each_is_told(&rt, rt.alloc(), LIMITS, &Among)
 }

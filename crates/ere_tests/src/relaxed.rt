@@ -1,8 +1,7 @@
 //! Expressions in which each reference gave way to the expression of its group.
-use crate::finding::{found, is_found_among};
+use crate::finding::{is_found_among, told_of};
 use crate::parsing::shown;
-use crate::rows::three;
-use crate::shown::in_words;
+use crate::rows::{Tells, each_is_told, no_row};
 use ere_relaxed::relaxed;
 use ere_tree::{Ere, EreList, parse};
 use std::alloc::{AllocError, Global};
@@ -37,24 +36,28 @@ fn told(alloc: Global, ere: &Ere) -> Result<String, AllocError> {
     shown(alloc, &relaxed(alloc, ere)?)
 }
 
-/// Whether an expression, read as a whole, has the tree of its row.
-fn is_told(alloc: Global, row: &str, fold: bool) -> Result<bool, AllocError> {
-    let Some((pattern, due)) = row.split_once(" => ") else {
-        return Ok(false);
-    };
-    match parse(alloc, pattern.as_bytes(), fold) {
-        Ok(ere) => Ok(told(alloc, &ere)?.as_str() == due),
-        Err(_) => Ok(false),
+/// The tree of an expression that is read as a whole; in it letters may match in either case.
+struct Whole {
+    fold: bool,
+}
+
+impl Tells for Whole {
+    fn told(&self, alloc: Global, given: &str) -> Result<String, AllocError> {
+        match parse(alloc, given.as_bytes(), self.fold) {
+            Ok(ere) => told(alloc, &ere),
+            Err(_) => no_row(alloc),
+        }
     }
 }
 
-/// Whether pieces have the tree of their row.
-fn are_told(alloc: Global, row: &str) -> Result<bool, AllocError> {
-    let Some((pieces, due)) = row.split_once(" => ") else {
-        return Ok(false);
-    };
-    let ere = joined(alloc, pieces)?;
-    Ok(told(alloc, &ere)?.as_str() == due)
+/// The tree of pieces.
+struct Pieces;
+
+impl Tells for Pieces {
+    fn told(&self, alloc: Global, given: &str) -> Result<String, AllocError> {
+        let ere = joined(alloc, given)?;
+        told(alloc, &ere)
+    }
 }
 
 /// An expression and what it becomes: references in a group to one before it, groups in repeats, groups in groups,
@@ -84,28 +87,37 @@ const IN_EITHER_CASE: &str = r"(a)\1 => cat( [Aa] alt( [Aa] ) )
 
 #[test]
 fn a_reference_gives_way_to_the_expression_of_its_group(rt: HostRuntime) -> Result<(), AllocError> {
-    for row in WHOLE.lines() {
-        assert!(rt; is_told(rt.alloc(), row, false)?, "{row}");
-    }
-    for row in IN_EITHER_CASE.lines() {
-        assert!(rt; is_told(rt.alloc(), row, true)?, "{row}");
-    }
-    for row in PIECES.lines() {
-        assert!(rt; are_told(rt.alloc(), row)?, "{row}");
-    }
-    Ok(())
+    each_is_told(&rt, rt.alloc(), WHOLE, &Whole { fold: false })?;
+    each_is_told(&rt, rt.alloc(), IN_EITHER_CASE, &Whole { fold: true })?;
+    each_is_told(&rt, rt.alloc(), PIECES, &Pieces)
 }
 
-/// Whether a text has the span of a row for an expression without its references.
-fn is_let_through(alloc: Global, row: &str) -> Result<bool, AllocError> {
-    let Some((pattern, text, due)) = three(row) else {
-        return Ok(false);
-    };
-    let Ok(ere) = parse(alloc, pattern.as_bytes(), false) else {
-        return Ok(false);
-    };
-    let hit = found(alloc, &relaxed(alloc, &ere)?, text.as_bytes(), 0)?;
-    Ok(in_words(alloc, &hit)?.as_str() == due)
+/// The hit in a text of an expression without its references.
+struct LetThrough;
+
+impl Tells for LetThrough {
+    fn told(&self, alloc: Global, given: &str) -> Result<String, AllocError> {
+        let Some((pattern, text)) = given.split_once(" => ") else {
+            return no_row(alloc);
+        };
+        match parse(alloc, pattern.as_bytes(), false) {
+            Ok(ere) => let_through(alloc, &ere, text.as_bytes()),
+            Err(_) => no_row(alloc),
+        }
+    }
+}
+
+/// The hit in a text of an expression without its references, in words.
+fn let_through(alloc: Global, ere: &Ere, text: &[u8]) -> Result<String, AllocError> {
+    let free = relaxed(alloc, ere)?;
+    told_of(alloc, &free, text)
+}
+
+/// Whether an expression without its references is found nowhere in so many `a`.
+fn is_shut_out(alloc: Global, pattern: &str, count: usize) -> Result<bool, AllocError> {
+    let ere = piece_of(alloc, pattern)?;
+    let free = relaxed(alloc, &ere)?;
+    is_found_among(alloc, &free, b'a', count, "none")
 }
 
 /// An expression with references, a text, and where it is found once they have given way.
@@ -117,11 +129,7 @@ const SPANS: &str = r"(x)(aa?)+\1b => xaaaaaaaaaaaaaaaaaaaaaaaaaaaaaaaaaaaaaaaaa
 
 #[test]
 fn what_cannot_match_is_not_let_through(rt: HostRuntime) -> Result<(), AllocError> {
-    for row in SPANS.lines() {
-        assert!(rt; is_let_through(rt.alloc(), row)?, "{row}");
-    }
-    let ere = piece_of(rt.alloc(), r"(a+)\1b")?;
-    let free = relaxed(rt.alloc(), &ere)?;
-    assert!(rt; is_found_among(rt.alloc(), &free, b'a', 2_000, "none")?);
+    each_is_told(&rt, rt.alloc(), SPANS, &LetThrough)?;
+    assert!(rt; is_shut_out(rt.alloc(), r"(a+)\1b", 2_000)?);
     Ok(())
 }

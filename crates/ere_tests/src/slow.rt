@@ -1,5 +1,5 @@
 //! Worked examples of what is found where, and in how many ways.
-use crate::rows::{bytes_of, four, three};
+use crate::rows::{Tells, bytes_of, each_is_told, no_row, numbered};
 use crate::shown::in_words;
 use ere_slow::{Limit, derivations, slow_hit};
 use ere_tree::{ByteRun, Ere, EreList, parse};
@@ -8,21 +8,28 @@ use std::alloc::{AllocError, Global};
 /// How many derivations there are in the text from its start on, and the hit in words.
 fn told(alloc: Global, ere: &Ere, text: &[u8]) -> Result<String, AllocError> {
     let ways = derivations(alloc, ere, text, 0, &mut Limit::new())?.len();
-    let hit = slow_hit(alloc, ere, text, 0)?;
-    let words = in_words(alloc, &hit)?;
+    let words = hit_told(alloc, ere, text, 0)?;
     format!(in alloc; "{ways} ways, {words}")
 }
 
-/// Whether this is told of the expression and the text of a row.
-fn is_told(alloc: Global, row: &str) -> Result<bool, AllocError> {
-    let Some((expression, text, due)) = three(row) else {
-        return Ok(false);
-    };
-    let Ok(ere) = parse(alloc, expression.as_bytes(), false) else {
-        return Ok(false);
-    };
-    let text = bytes_of(alloc, text)?;
-    Ok(told(alloc, &ere, text.as_slice())?.as_str() == due)
+/// What is told of an expression and a text.
+struct Ways;
+
+impl Tells for Ways {
+    fn told(&self, alloc: Global, given: &str) -> Result<String, AllocError> {
+        let Some((expression, text)) = given.split_once(" => ") else {
+            return no_row(alloc);
+        };
+        let text = bytes_of(alloc, text)?;
+        told_by(alloc, expression, text.as_slice())
+    }
+}
+
+fn told_by(alloc: Global, expression: &str, text: &[u8]) -> Result<String, AllocError> {
+    match parse(alloc, expression.as_bytes(), false) {
+        Ok(ere) => told(alloc, &ere, text),
+        Err(_) => no_row(alloc),
+    }
 }
 
 /// An expression, a text, the number of derivations at its start, and the hit with its groups.
@@ -40,10 +47,7 @@ $ => a~b => 0 ways, 1-1
 
 #[test]
 fn the_whole_way_is_chosen_together(rt: HostRuntime) -> Result<(), AllocError> {
-    for row in WAYS.lines() {
-        assert!(rt; is_told(rt.alloc(), row)?, "{row}");
-    }
-    Ok(())
+    each_is_told(&rt, rt.alloc(), WAYS, &Ways)
 }
 
 /// `(a)\1`, where letters match in either case
@@ -72,16 +76,24 @@ fn a_reference_may_match_in_either_case(rt: HostRuntime) -> Result<(), AllocErro
     Ok(())
 }
 
-/// Whether the hit of a row is found from its place on.
-fn is_found(alloc: Global, row: &str) -> Result<bool, AllocError> {
-    let Some((expression, text, from, due)) = four(row) else {
-        return Ok(false);
-    };
-    let Ok(ere) = parse(alloc, expression.as_bytes(), false) else {
-        return Ok(false);
-    };
-    let hit = slow_hit(alloc, &ere, text.as_bytes(), from)?;
-    Ok(in_words(alloc, &hit)?.as_str() == due)
+/// The hit of an expression in a text from a place on.
+struct Hits;
+
+impl Tells for Hits {
+    fn told(&self, alloc: Global, given: &str) -> Result<String, AllocError> {
+        let Some((expression, text, from)) = numbered(given) else {
+            return no_row(alloc);
+        };
+        match parse(alloc, expression.as_bytes(), false) {
+            Ok(ere) => hit_told(alloc, &ere, text.as_bytes(), from),
+            Err(_) => no_row(alloc),
+        }
+    }
+}
+
+fn hit_told(alloc: Global, ere: &Ere, text: &[u8], from: usize) -> Result<String, AllocError> {
+    let hit = slow_hit(alloc, ere, text, from)?;
+    in_words(alloc, &hit)
 }
 
 /// An expression, a text, where the search begins, and the hit with its groups.
@@ -93,8 +105,5 @@ a => ab => 1 => none";
 
 #[test]
 fn a_search_speaks_of_the_slice_that_begins_there(rt: HostRuntime) -> Result<(), AllocError> {
-    for row in HITS.lines() {
-        assert!(rt; is_found(rt.alloc(), row)?, "{row}");
-    }
-    Ok(())
+    each_is_told(&rt, rt.alloc(), HITS, &Hits)
 }

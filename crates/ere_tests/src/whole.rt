@@ -1,5 +1,5 @@
 //! Which texts an expression matches as a whole.
-use crate::rows::{bytes_of, four, three};
+use crate::rows::{Tells, bytes_of, each_is_told, four, no_row};
 use ere_places::{Direction, Window, image};
 use ere_tree::{Ere, parse};
 use ere_whole::matches_whole;
@@ -21,22 +21,33 @@ fn told(alloc: Global, ere: &Ere, text: &[u8]) -> Result<Option<(bool, bool)>, A
     Ok(Some((matches_whole(ere, text), ends.contains(&text.len()))))
 }
 
-/// Whether both tell of an expression over a text that it matches, or that it doesn't.
-fn tells(alloc: Global, expression: &str, text: &[u8], due: &str) -> Result<bool, AllocError> {
-    let Ok(ere) = parse(alloc, expression.as_bytes(), false) else {
-        return Ok(false);
-    };
-    let matches = due == "yes";
-    Ok(told(alloc, &ere, text)? == Some((matches, matches)))
+/// What both tell of an expression over a text, in a word.
+fn word_of(alloc: Global, ere: &Ere, text: &[u8]) -> Result<&'static str, AllocError> {
+    Ok(match told(alloc, ere, text)? {
+        Some((true, true)) => "yes",
+        Some((false, false)) => "no",
+        _ => "two answers",
+    })
 }
 
-/// Whether it is as a row says.
-fn is_told(alloc: Global, row: &str) -> Result<bool, AllocError> {
-    let Some((expression, text, due)) = three(row) else {
-        return Ok(false);
-    };
-    let text = bytes_of(alloc, text)?;
-    tells(alloc, expression, text.as_slice(), due)
+fn tells(alloc: Global, expression: &str, text: &[u8]) -> Result<String, AllocError> {
+    match parse(alloc, expression.as_bytes(), false) {
+        Ok(ere) => String::from_str(alloc, word_of(alloc, &ere, text)?),
+        Err(_) => no_row(alloc),
+    }
+}
+
+/// Whether an expression matches a text as a whole.
+struct Short;
+
+impl Tells for Short {
+    fn told(&self, alloc: Global, given: &str) -> Result<String, AllocError> {
+        let Some((expression, text)) = given.split_once(" => ") else {
+            return no_row(alloc);
+        };
+        let text = bytes_of(alloc, text)?;
+        tells(alloc, expression, text.as_slice())
+    }
 }
 
 /// An expression, a text, and whether it matches the text as a whole.
@@ -68,10 +79,7 @@ x{0} => x => no";
 
 #[test]
 fn short_texts_match_as_a_whole_or_not(rt: HostRuntime) -> Result<(), AllocError> {
-    for row in SHORT.lines() {
-        assert!(rt; is_told(rt.alloc(), row)?, "{row}");
-    }
-    Ok(())
+    each_is_told(&rt, rt.alloc(), SHORT, &Short)
 }
 
 /// The same of texts that are a piece so many times, and an end. 256 is the first length of two blocks, and 512 of three.
@@ -108,24 +116,22 @@ fn repeated(alloc: Global, piece: &str, times: usize, end: &str) -> Result<Vec<u
     Ok(text)
 }
 
-/// Whether it is as a row of a long text says.
-fn is_told_of_long(alloc: Global, row: &str) -> Result<bool, AllocError> {
-    let Some((expression, piece, times, rest)) = four(row) else {
-        return Ok(false);
-    };
-    let Some((end, due)) = rest.split_once(" => ") else {
-        return Ok(false);
-    };
-    let text = repeated(alloc, piece, times, end)?;
-    tells(alloc, expression, text.as_slice(), due)
+/// Whether an expression matches so many pieces and an end as a whole.
+struct Long;
+
+impl Tells for Long {
+    fn told(&self, alloc: Global, given: &str) -> Result<String, AllocError> {
+        let Some((expression, piece, times, end)) = four(given) else {
+            return no_row(alloc);
+        };
+        let text = repeated(alloc, piece, times, end)?;
+        tells(alloc, expression, text.as_slice())
+    }
 }
 
 #[test]
 fn long_texts_match_as_a_whole_or_not(rt: HostRuntime) -> Result<(), AllocError> {
-    for row in LONG.lines() {
-        assert!(rt; is_told_of_long(rt.alloc(), row)?, "{row}");
-    }
-    Ok(())
+    each_is_told(&rt, rt.alloc(), LONG, &Long)
 }
 
 fn letter(number: usize) -> u8 {

@@ -1,8 +1,10 @@
 //! Which files are tests, and what refuses a discovery.
+use crate::rows::{Tells, are_bytes, each_is_told};
 use crate::trees::{refusal, tree_of};
 use lit_find::{Discovery, discover};
 use std::alloc::Global;
 use tt_base::{Bytes, Items, NoMemory};
+use tt_outside::MemTree;
 
 /// The words of a line.
 fn words_of(alloc: Global, line: &str) -> Result<Items<Bytes>, NoMemory> {
@@ -39,27 +41,35 @@ fn are_named(alloc: Global, found: Discovery, names: &[Bytes]) -> Result<bool, N
 
 /// The names of the tests that the words of a line find in a tree, or the refusal. These calls of the tree fail.
 fn found(alloc: Global, files: &str, fails: &[u64], line: &str) -> Result<Bytes, NoMemory> {
-    let mut tree = tree_of(alloc, files, fails)?;
     let words = words_of(alloc, line)?;
-    match discover(alloc, &mut tree, words.as_slice()) {
-        Ok(found) => {
-            let names = found.names(alloc)?;
-            let text = told(alloc, names.as_slice())?;
-            if are_named(alloc, found, names.as_slice())? {
-                Ok(text)
-            } else {
-                Bytes::from_slice(alloc, b"other names".as_slice())
-            }
-        }
+    let mut tree = tree_of(alloc, files, fails)?;
+    found_in(alloc, &mut tree, words.as_slice())
+}
+
+/// The same in this tree.
+fn found_in(alloc: Global, tree: &mut MemTree, words: &[Bytes]) -> Result<Bytes, NoMemory> {
+    match discover(alloc, tree, words) {
+        Ok(found) => names_told(alloc, found),
         Err(fault) => refusal(alloc, &fault),
     }
 }
 
-/// Whether the words before the arrow of a row find what is behind it, where these calls of the tree fail.
-fn finds(alloc: Global, files: &str, fails: &[u64], row: &str) -> Result<bool, NoMemory> {
-    match row.split_once(" => ") {
-        Some((line, due)) => Ok(found(alloc, files, fails, line)?.as_slice() == due.as_bytes()),
-        None => Ok(false),
+/// The names that a discovery tells, where its tests have them.
+fn names_told(alloc: Global, found: Discovery) -> Result<Bytes, NoMemory> {
+    let names = found.names(alloc)?;
+    if are_named(alloc, found, names.as_slice())? {
+        told(alloc, names.as_slice())
+    } else {
+        Bytes::from_slice(alloc, b"other names".as_slice())
+    }
+}
+
+/// What the words of a line find in a tree of these files.
+struct Found(&'static str);
+
+impl Tells for Found {
+    fn told(&self, alloc: Global, given: &str) -> Result<Bytes, NoMemory> {
+        found(alloc, self.0, &[], given)
     }
 }
 
@@ -91,10 +101,7 @@ demo/a/../z => missing /w/demo/z
 
 #[test]
 fn each_file_is_one_test_in_byte_order(rt: HostRuntime) -> Result<(), NoMemory> {
-    for row in FOUND.lines() {
-        assert!(rt; finds(rt.alloc(), FILES, &[], row)?, "{row}");
-    }
-    Ok(())
+    each_is_told(&rt, rt.alloc(), FOUND, &Found(FILES))
 }
 
 const FAULTY_FILES: &str = r#"/w/p/lit.suite.toml => version = 1~name = "demo"~suffixes = [".txt"]~
@@ -121,9 +128,12 @@ e q/a => demo :: a/a.txt";
 
 #[test]
 fn the_first_refusal_is_told(rt: HostRuntime) -> Result<(), NoMemory> {
-    for row in REFUSED.lines() {
-        assert!(rt; finds(rt.alloc(), FAULTY_FILES, &[], row)?, "{row}");
-    }
-    assert!(rt; finds(rt.alloc(), FAULTY_FILES, &[1], "e => fault")?);
+    each_is_told(&rt, rt.alloc(), REFUSED, &Found(FAULTY_FILES))
+}
+
+#[test]
+fn a_tree_that_fails_is_told(rt: HostRuntime) -> Result<(), NoMemory> {
+    let told = found(rt.alloc(), FAULTY_FILES, &[1], "e");
+    assert!(rt; are_bytes(told, b"fault".as_slice())?);
     Ok(())
 }

@@ -1,7 +1,7 @@
 //! Which tests are kept.
 ghost use Rattle.std.specs.Prelude.{◌≡◌, IfOk, []};
 
-use crate::rows::three;
+use crate::rows::{Tells, each_is_told, no_row};
 use ere_tree::{Ere, parse};
 use lit_select::select;
 use std::alloc::Global;
@@ -17,6 +17,10 @@ fn none<T: Drop>(alloc: Global) -> Result<SharedItems<T>, NoMemory>
 
 /// A test of this name.
 fn named(alloc: Global, name: &[u8]) -> Result<Test, NoMemory> {
+    let features = none(alloc)?;
+    let substitutions = none(alloc)?;
+    let tools = none(alloc)?;
+    let environment = none(alloc)?;
     Ok(Test {
         name: Bytes::from_slice(alloc, name)?,
         path: Bytes::new(alloc),
@@ -24,10 +28,10 @@ fn named(alloc: Global, name: &[u8]) -> Result<Test, NoMemory> {
         work_dir: Bytes::new(alloc),
         temp_dir: Bytes::new(alloc),
         temp: Bytes::new(alloc),
-        features: none(alloc)?,
-        substitutions: none(alloc)?,
-        tools: none(alloc)?,
-        environment: none(alloc)?,
+        features,
+        substitutions,
+        tools,
+        environment,
     })
 }
 
@@ -74,12 +78,16 @@ fn kept(alloc: Global, keep: &str, drop: &str) -> Result<Bytes, NoMemory> {
     names_of(alloc, kept.as_slice())
 }
 
-/// Whether those of a row are kept.
-fn are_kept(alloc: Global, row: &str) -> Result<bool, NoMemory> {
-    let Some((keep, drop, due)) = three(row) else {
-        return Ok(false);
-    };
-    Ok(kept(alloc, keep, drop)?.as_slice() == due.as_bytes())
+/// The names that are kept where some tests are asked for, and others dropped.
+struct Kept;
+
+impl Tells for Kept {
+    fn told(&self, alloc: Global, given: &str) -> Result<Bytes, NoMemory> {
+        match given.split_once(" => ") {
+            Some((keep, drop)) => kept(alloc, keep, drop),
+            None => no_row(alloc),
+        }
+    }
 }
 
 /// Which tests are kept, which are dropped, and the names that are left.
@@ -92,8 +100,5 @@ zz =>  => ";
 
 #[test]
 fn tests_are_kept_and_then_dropped(rt: HostRuntime) -> Result<(), NoMemory> {
-    for row in KEPT.lines() {
-        assert!(rt; are_kept(rt.alloc(), row)?, "{row}");
-    }
-    Ok(())
+    each_is_told(&rt, rt.alloc(), KEPT, &Kept)
 }

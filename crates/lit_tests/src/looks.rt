@@ -1,4 +1,5 @@
 //! What a directory tells.
+use crate::rows::{Tells, are_bytes, each_is_told};
 use crate::trees::{refusal, tree_of};
 use lit_dirs::{list_dir, look_in};
 use lit_paths::read_path;
@@ -30,13 +31,19 @@ const FILES: &str = r#"/w/p/lit.suite.toml => version = 1~name = "demo"~suffixes
 /w/e/lit.suite.toml/a
 /lit.local.cfg"#;
 
-/// Whether the directory of a row tells what is behind the arrow, where these calls of the tree fail.
-fn tells(alloc: Global, fails: &[u64], row: &str) -> Result<bool, NoMemory> {
-    let Some((dir, due)) = row.split_once(" => ") else {
-        return Ok(false);
-    };
+/// What a directory tells, where these calls of the tree fail.
+fn told(alloc: Global, fails: &[u64], dir: &str) -> Result<Bytes, NoMemory> {
     let mut tree = tree_of(alloc, FILES, fails)?;
-    Ok(looked(alloc, &mut tree, dir)?.as_slice() == due.as_bytes())
+    looked(alloc, &mut tree, dir)
+}
+
+/// What a directory tells.
+struct Looks;
+
+impl Tells for Looks {
+    fn told(&self, alloc: Global, given: &str) -> Result<Bytes, NoMemory> {
+        told(alloc, &[], given)
+    }
 }
 
 /// Directories, and what they tell.
@@ -51,16 +58,14 @@ const TOLD: &str = "/w/p => Python /w/p/lit.cfg.py
 
 #[test]
 fn a_directory_tells_its_suite_or_its_refusal(rt: HostRuntime) -> Result<(), NoMemory> {
-    for row in TOLD.lines() {
-        assert!(rt; tells(rt.alloc(), &[], row)?, "{row}");
-    }
-    Ok(())
+    each_is_told(&rt, rt.alloc(), TOLD, &Looks)
 }
 
 #[test]
 fn a_tree_that_fails_is_told(rt: HostRuntime) -> Result<(), NoMemory> {
     for call in [0, 1] {
-        assert!(rt; tells(rt.alloc(), &[call], "/w/q => fault")?, "call {call}");
+        let told = told(rt.alloc(), &[call], "/w/q");
+        assert!(rt; are_bytes(told, b"fault".as_slice())?, "call {call}");
     }
     Ok(())
 }

@@ -1,4 +1,5 @@
 //! A tree that loses what it listed, and tells nothing of what it holds.
+use crate::rows::{Tells, each_is_told, no_row};
 use crate::trees::refusal;
 use lit_find::discover;
 use std::alloc::Global;
@@ -97,20 +98,24 @@ fn told(alloc: Global, name: &str, loss: Loss) -> Result<Bytes, NoMemory> {
     }
 }
 
-/// Whether the loss of a row tells what is behind its last arrow.
-fn is_told(alloc: Global, row: &str) -> Result<bool, NoMemory> {
-    let Some((name, rest)) = row.split_once(" => ") else {
-        return Ok(false);
-    };
-    let Some((loss, due)) = rest.split_once(" => ") else {
-        return Ok(false);
-    };
-    let loss = match loss {
+fn loss_of(word: &str) -> Loss {
+    match word {
         "is gone" => Loss::Directory,
         "is a file" => Loss::DirectoryIsAFile,
         _ => Loss::SuiteFile,
-    };
-    Ok(told(alloc, name, loss)?.as_slice() == due.as_bytes())
+    }
+}
+
+/// What is told of a name and a loss.
+struct Lost;
+
+impl Tells for Lost {
+    fn told(&self, alloc: Global, given: &str) -> Result<Bytes, NoMemory> {
+        match given.split_once(" => ") {
+            Some((name, loss)) => told(alloc, name, loss_of(loss)),
+            None => no_row(alloc),
+        }
+    }
 }
 
 /// The name of a listed directory, what is lost, and what is told. Under a name with a slash nothing stands.
@@ -122,8 +127,5 @@ d => no suite file => missing /w/lit.suite.toml";
 
 #[test]
 fn what_vanished_is_missing(rt: HostRuntime) -> Result<(), NoMemory> {
-    for row in LOST.lines() {
-        assert!(rt; is_told(rt.alloc(), row)?, "{row}");
-    }
-    Ok(())
+    each_is_told(&rt, rt.alloc(), LOST, &Lost)
 }

@@ -1,5 +1,5 @@
 //! How texts read as paths.
-use crate::rows::three;
+use crate::rows::{Tells, each_is_told, no_row};
 use lit_paths::{is_above, joined, read_path, text_of};
 use std::alloc::Global;
 use tt_base::{Bytes, NoMemory};
@@ -11,12 +11,16 @@ fn shown(alloc: Global, dir: &str, text: &str) -> Result<Bytes, NoMemory> {
     text_of(alloc, path.as_slice())
 }
 
-/// Whether the text of a row is this path.
-fn is_read(alloc: Global, row: &str) -> Result<bool, NoMemory> {
-    let Some((dir, text, due)) = three(row) else {
-        return Ok(false);
-    };
-    Ok(shown(alloc, dir, text)?.as_slice() == due.as_bytes())
+/// The path that a text is, joined to a directory.
+struct Paths;
+
+impl Tells for Paths {
+    fn told(&self, alloc: Global, given: &str) -> Result<Bytes, NoMemory> {
+        match given.split_once(" => ") {
+            Some((dir, text)) => shown(alloc, dir, text),
+            None => no_row(alloc),
+        }
+    }
 }
 
 /// A directory, a text, and the path that it is.
@@ -29,10 +33,7 @@ const READ: &str = "/w => a//b/./c => /w/a/b/c
 
 #[test]
 fn texts_read_as_normal_paths(rt: HostRuntime) -> Result<(), NoMemory> {
-    for row in READ.lines() {
-        assert!(rt; is_read(rt.alloc(), row)?, "{row}");
-    }
-    Ok(())
+    each_is_told(&rt, rt.alloc(), READ, &Paths)
 }
 
 /// `yes` where a path lies below another, else `no`.
@@ -46,11 +47,15 @@ fn lies_below(alloc: Global, dir: &str, path: &str) -> Result<&'static str, NoMe
     })
 }
 
-/// Whether the second path of a row lies below the first one, or doesn't.
-fn is_below(alloc: Global, row: &str) -> Result<bool, NoMemory> {
-    match three(row) {
-        Some((dir, path, due)) => Ok(lies_below(alloc, dir, path)? == due),
-        None => Ok(false),
+/// Whether the second path lies below the first one.
+struct Below;
+
+impl Tells for Below {
+    fn told(&self, alloc: Global, given: &str) -> Result<Bytes, NoMemory> {
+        match given.split_once(" => ") {
+            Some((dir, path)) => Bytes::from_slice(alloc, lies_below(alloc, dir, path)?.as_bytes()),
+            None => no_row(alloc),
+        }
     }
 }
 
@@ -62,8 +67,5 @@ const BELOW: &str = "/a => /a/b => yes
 
 #[test]
 fn a_path_lies_below_the_directories_above_it(rt: HostRuntime) -> Result<(), NoMemory> {
-    for row in BELOW.lines() {
-        assert!(rt; is_below(rt.alloc(), row)?, "{row}");
-    }
-    Ok(())
+    each_is_told(&rt, rt.alloc(), BELOW, &Below)
 }

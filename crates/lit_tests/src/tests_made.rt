@@ -31,12 +31,17 @@ fn suite_of(alloc: Global) -> Result<Suite, NoMemory>
     }
 }
 
-/// The test of a path below `/w/s`, and behind another where there is one.
-fn made_behind(alloc: Global, below: &str, last: Option<&Test>) -> Result<Test, NoMemory> {
-    let suite = suite_of(alloc)?;
-    let root = read_path(alloc, b"/w/s".as_slice())?;
+fn path_of(alloc: Global, below: &str) -> Result<Bytes, NoMemory> {
     let mut path = Bytes::from_slice(alloc, b"/w/s/".as_slice())?;
     path.append(below.as_bytes())?;
+    Ok(path)
+}
+
+/// The test of a path below `/w/s`, and behind another where there is one.
+fn made_behind(alloc: Global, below: &str, last: Option<&Test>) -> Result<Test, NoMemory> {
+    let root = read_path(alloc, b"/w/s".as_slice())?;
+    let path = path_of(alloc, below)?;
+    let suite = suite_of(alloc)?;
     let tools = tools_of(alloc, root.as_slice(), suite.tools.as_slice())?;
     test_of(alloc, root.as_slice(), &suite, &tools, path, last)
 }

@@ -1,4 +1,5 @@
 //! Numeric blocks with what is read of them or their faults, values of expressions, and hostile blocks.
+use crate::rows::{Tells, each_is_told, is_text};
 use num_base::{Expr, Format, Numbers, Op, eval};
 use num_exprs::{NumBlock, NumFail, PlacedName, parse_block, read_block};
 use std::alloc::{AllocError, Global};
@@ -87,11 +88,12 @@ fn told(alloc: Global, bytes: &[u8]) -> Result<String, AllocError> {
     }
 }
 
-/// Whether the block before the arrow of a row is what is behind it.
-fn is_told(alloc: Global, row: &str) -> Result<bool, AllocError> {
-    match row.split_once(" => ") {
-        Some((text, due)) => Ok(told(alloc, text.as_bytes())?.as_str() == due),
-        None => Ok(false),
+/// What a text is as a block.
+struct Blocks;
+
+impl Tells for Blocks {
+    fn told(&self, alloc: Global, given: &str) -> Result<String, AllocError> {
+        told(alloc, given.as_bytes())
     }
 }
 
@@ -124,10 +126,7 @@ sub(1,2)-$_a9 => Sub(Sub(1 2) $_a9)
 
 #[test]
 fn blocks_are_read(rt: HostRuntime) -> Result<(), AllocError> {
-    for row in BLOCKS.lines() {
-        assert!(rt; is_told(rt.alloc(), row)?, "{row}");
-    }
-    Ok(())
+    each_is_told(&rt, rt.alloc(), BLOCKS, &Blocks)
 }
 
 /// Blocks, and their first faults.
@@ -175,10 +174,7 @@ N=1 => BadExpr 1
 
 #[test]
 fn the_first_fault_is_told_with_its_place(rt: HostRuntime) -> Result<(), AllocError> {
-    for row in FAULTS.lines() {
-        assert!(rt; is_told(rt.alloc(), row)?, "{row}");
-    }
-    Ok(())
+    each_is_told(&rt, rt.alloc(), FAULTS, &Blocks)
 }
 
 /// A name behind its offset.
@@ -231,20 +227,18 @@ A+B+ =>  0 A 2 B fault 4
 A:1+A => [0 A] 4 A
 A: => [0 A]";
 
-/// Whether the block before the arrow of a row tells the names behind it.
-fn has_names(alloc: Global, row: &str) -> Result<bool, AllocError> {
-    match row.split_once(" => ") {
-        Some((text, due)) => Ok(names_told(alloc, text.as_bytes())?.as_str() == due),
-        None => Ok(false),
+/// The names that a block tells.
+struct Names;
+
+impl Tells for Names {
+    fn told(&self, alloc: Global, given: &str) -> Result<String, AllocError> {
+        names_told(alloc, given.as_bytes())
     }
 }
 
 #[test]
 fn names_before_a_fault_are_told(rt: HostRuntime) -> Result<(), AllocError> {
-    for row in NAMES.lines() {
-        assert!(rt; has_names(rt.alloc(), row)?, "{row}");
-    }
-    Ok(())
+    each_is_told(&rt, rt.alloc(), NAMES, &Names)
 }
 
 /// Numbers where N is 1.
@@ -264,10 +258,18 @@ fn value_of(alloc: Global, expr: &Expr) -> Result<String, AllocError> {
 }
 
 /// The value of a text, or its fault.
-fn valued(alloc: Global, text: &str) -> Result<String, AllocError> {
-    let Ok(block) = parse_block(alloc, text.as_bytes()) else {
-        return String::from_str(alloc, "refused");
-    };
+struct Values;
+
+impl Tells for Values {
+    fn told(&self, alloc: Global, given: &str) -> Result<String, AllocError> {
+        match parse_block(alloc, given.as_bytes()) {
+            Ok(block) => valued(alloc, &block),
+            Err(_) => String::from_str(alloc, "refused"),
+        }
+    }
+}
+
+fn valued(alloc: Global, block: &NumBlock) -> Result<String, AllocError> {
     match &block.expr {
         Some(expr) => value_of(alloc, expr),
         None => String::from_str(alloc, "no expression"),
@@ -285,20 +287,9 @@ div(1,0)+M => Undefined
 @LINE+max(2,min(3,9)) => 10
 mul(sub(1,3),add(2,2)) => -8";
 
-/// Whether the text before the arrow of a row has the value behind it.
-fn has_value(alloc: Global, row: &str) -> Result<bool, AllocError> {
-    match row.split_once(" => ") {
-        Some((text, due)) => Ok(valued(alloc, text)?.as_str() == due),
-        None => Ok(false),
-    }
-}
-
 #[test]
 fn expressions_have_values_or_faults(rt: HostRuntime) -> Result<(), AllocError> {
-    for row in VALUES.lines() {
-        assert!(rt; has_value(rt.alloc(), row)?, "{row}");
-    }
-    Ok(())
+    each_is_told(&rt, rt.alloc(), VALUES, &Values)
 }
 
 /// A front, so many copies of a text, a middle, and so many copies of another text.
@@ -322,16 +313,21 @@ fn nested(
 /// Whether this is told of a nest of `add(` behind a front.
 fn nest_is_told(alloc: Global, front: &str, depth: usize, due: &str) -> Result<bool, AllocError> {
     let text = nested(alloc, front, depth, ("add(", "1", ",1)"))?;
-    match parse_block(alloc, text.as_slice()) {
-        Ok(_) => Ok(due == "read"),
-        Err(fault) => Ok(fault_told(alloc, fault)?.as_str() == due),
+    is_text(read_told(alloc, text.as_slice()), due)
+}
+
+/// Whether a block is read, or its fault.
+fn read_told(alloc: Global, text: &[u8]) -> Result<String, AllocError> {
+    match parse_block(alloc, text) {
+        Ok(_) => String::from_str(alloc, "read"),
+        Err(fault) => fault_told(alloc, fault),
     }
 }
 
 /// Whether a sum of so many ones behind a first one is read.
 fn sum_is_read(alloc: Global, count: usize) -> Result<bool, AllocError> {
     let text = nested(alloc, "1", count, ("+1", "", ""))?;
-    Ok(parse_block(alloc, text.as_slice()).is_ok())
+    is_text(read_told(alloc, text.as_slice()), "read")
 }
 
 #[test]
@@ -359,7 +355,7 @@ fn is_answered(alloc: Global, text: &[u8]) -> bool {
 /// Whether this is told of so many copies of a digit.
 fn is_told_of(alloc: Global, digit: &str, count: usize, due: &str) -> Result<bool, AllocError> {
     let text = nested(alloc, "", count, (digit, "", ""))?;
-    Ok(told(alloc, text.as_slice())?.as_str() == due)
+    is_text(told(alloc, text.as_slice()), due)
 }
 
 #[test]

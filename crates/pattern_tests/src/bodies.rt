@@ -1,4 +1,5 @@
 //! Bodies with their pieces or first refusals, what they make known, and hostile bodies.
+use crate::rows::{Tells, each_is_told, is_text, is_told, no_row};
 use num_base::{Format, FormatKind};
 use pattern_parse::{
     BodyRules, Demand, Formats, Frame, LineRule, PatFail, PatFault, PatKind, Pattern, Piece, Role,
@@ -133,16 +134,13 @@ fn told(alloc: Global, body: &[u8], rules: &BodyRules) -> Result<String, AllocEr
     told_of(alloc, body, rules, &mut known)
 }
 
-/// Whether the body before the arrow of a row is read as what is behind it.
-fn is_told(alloc: Global, row: &str) -> Result<bool, AllocError> {
-    is_told_by_rules(alloc, &plain_rules(), row)
-}
+/// What a body is read as by these rules.
+#[derive(Drop)]
+struct Bodies(BodyRules);
 
-/// The same by these rules.
-fn is_told_by_rules(alloc: Global, rules: &BodyRules, row: &str) -> Result<bool, AllocError> {
-    match row.split_once(" => ") {
-        Some((body, due)) => { Ok(told(alloc, body.as_bytes(), rules)?.as_str() == due) }
-        None => Ok(false),
+impl Tells for Bodies {
+    fn told(&self, alloc: Global, given: &str) -> Result<String, AllocError> {
+        told(alloc, given.as_bytes(), &self.0)
     }
 }
 
@@ -171,10 +169,7 @@ a{{b}}c => a;regex 0;c;
 
 #[test]
 fn bodies_are_read_as_pieces(rt: HostRuntime) -> Result<(), AllocError> {
-    for row in PIECES.lines() {
-        assert!(rt; is_told(rt.alloc(), row)?, "{row}");
-    }
-    Ok(())
+    each_is_told(&rt, rt.alloc(), PIECES, &Bodies(plain_rules()))
 }
 
 /// Bodies and their first refusals.
@@ -212,10 +207,7 @@ ab[[X:(|a)]] => BadRegex 7
 
 #[test]
 fn the_first_refusal_is_told_with_its_place(rt: HostRuntime) -> Result<(), AllocError> {
-    for row in REFUSALS.lines() {
-        assert!(rt; is_told(rt.alloc(), row)?, "{row}");
-    }
-    Ok(())
+    each_is_told(&rt, rt.alloc(), REFUSALS, &Bodies(plain_rules()))
 }
 
 /// The frame that an empty body gets, and whether letters match in either case in it.
@@ -227,29 +219,27 @@ fn frame_of(alloc: Global, rules: &BodyRules) -> Option<(Frame, bool)> {
     }
 }
 
+/// Bodies of labels.
+const LABELS: &str = "[[X]] => VariableInLabel 0
+a[[X => VariableInLabel 1
+a{{b}} => a;regex 0;";
+
 #[test]
 fn roles_and_line_rules_decide_what_a_body_may_hold(rt: HostRuntime) -> Result<(), AllocError> {
-    let label = rules_of(Role::Label, LineRule::Any, false);
-    for row in [
-        "[[X]] => VariableInLabel 0",
-        "a[[X => VariableInLabel 1",
-        "a{{b}} => a;regex 0;",
-    ] {
-        assert!(rt; is_told_by_rules(rt.alloc(), &label, row)?, "{row}");
-    }
+    let label = Bodies(rules_of(Role::Label, LineRule::Any, false));
+    each_is_told(&rt, rt.alloc(), LABELS, &label)?;
     for (role, rule, literal, row) in [
         (Role::Sought, LineRule::Any, true, "{{a[[X => {{a[[X;"),
         (Role::Label, LineRule::Any, true, "[[X]] => [[X]];"),
         (Role::Sought, LineRule::Empty, false, " => ;"),
         (Role::Excluded, LineRule::Any, false, "{{a => NoRegexEnd 0"),
     ] {
-        let rules = rules_of(role, rule, literal);
-        assert!(rt; is_told_by_rules(rt.alloc(), &rules, row)?, "{row}");
+        let bodies = Bodies(rules_of(role, rule, literal));
+        assert!(rt; is_told(rt.alloc(), row, &bodies)?, "{row}");
     }
     let mut twice = plain_rules();
     twice.demand.times = 2;
-    assert!(rt; is_told_by_rules(rt.alloc(), &twice, "[[X]] => recall X;")?);
-    Ok(())
+    each_is_told(&rt, rt.alloc(), "[[X]] => recall X;", &Bodies(twice))
 }
 
 #[test]
@@ -279,8 +269,7 @@ fn has(known: &Formats, name: &[u8], kind: FormatKind) -> bool {
 fn is_told_by(alloc: Global, known: &mut Formats, row: &str) -> Result<bool, AllocError> {
     match row.split_once(" => ") {
         Some((body, due)) => {
-            let told = told_of(alloc, body.as_bytes(), &plain_rules(), known)?;
-            Ok(told.as_str() == due)
+            is_text(told_of(alloc, body.as_bytes(), &plain_rules(), known), due)
         }
         None => Ok(false),
     }
@@ -312,13 +301,12 @@ fn formats_are_known_from_then_on(rt: HostRuntime) -> Result<(), AllocError> {
     Ok(())
 }
 
-/// The fields of a row: a text between two others, how often it stands there, and what is told.
-fn fields(row: &str) -> Option<(&str, &str, &str, usize, &str)> {
-    let (front, rest) = row.split_once(" => ")?;
+/// The given fields of a row: a text between two others, and how often it stands there.
+fn fields(given: &str) -> Option<(&str, &str, &str, usize)> {
+    let (front, rest) = given.split_once(" => ")?;
     let (text, rest) = rest.split_once(" => ")?;
-    let (end, rest) = rest.split_once(" => ")?;
-    let (count, due) = rest.split_once(" => ")?;
-    Some((front, text, end, count.parse().ok()?, due))
+    let (end, count) = rest.split_once(" => ")?;
+    Some((front, text, end, count.parse().ok()?))
 }
 
 /// So many copies of a text between two others.
@@ -350,13 +338,17 @@ fn counted(alloc: Global, body: &[u8]) -> Result<String, AllocError> {
     }
 }
 
-/// Whether the body that a row spells is counted so.
-fn is_counted(alloc: Global, row: &str) -> Result<bool, AllocError> {
-    let Some((front, text, end, count, due)) = fields(row) else {
-        return Ok(false);
-    };
-    let body = repeated(alloc, front, text, count, end)?;
-    Ok(counted(alloc, body.as_slice())?.as_str() == due)
+/// How many pieces the body has that a row spells, or its first refusal.
+struct Counted;
+
+impl Tells for Counted {
+    fn told(&self, alloc: Global, given: &str) -> Result<String, AllocError> {
+        let Some((front, text, end, count)) = fields(given) else {
+            return no_row(alloc);
+        };
+        let body = repeated(alloc, front, text, count, end)?;
+        counted(alloc, body.as_slice())
+    }
 }
 
 /// A front, a text that is repeated, an end, how often, and the pieces or the refusal.
@@ -366,10 +358,7 @@ const RECALLED: &str = " => [[X:a]][[X]] => [[X]][[Y]][[X:a]] => 9 => 21 pieces
 
 #[test]
 fn at_most_nine_definitions_are_recalled(rt: HostRuntime) -> Result<(), AllocError> {
-    for row in RECALLED.lines() {
-        assert!(rt; is_counted(rt.alloc(), row)?, "{row}");
-    }
-    Ok(())
+    each_is_told(&rt, rt.alloc(), RECALLED, &Counted)
 }
 
 const HOSTILE: &str = " => [[ =>  => 32768 => NoBlockEnd 65534
@@ -387,10 +376,7 @@ const HOSTILE: &str = " => [[ =>  => 32768 => NoBlockEnd 65534
 
 #[test]
 fn hostile_bodies_are_answered(rt: HostRuntime) -> Result<(), AllocError> {
-    for row in HOSTILE.lines() {
-        assert!(rt; is_counted(rt.alloc(), row)?, "{row}");
-    }
-    Ok(())
+    each_is_told(&rt, rt.alloc(), HOSTILE, &Counted)
 }
 
 /// Whether a body is read.

@@ -8,6 +8,8 @@ mod bodies;
 #[cfg(test)]
 mod numbers;
 #[cfg(test)]
+mod rows;
+#[cfg(test)]
 mod seeking;
 #[cfg(test)]
 mod spelling;

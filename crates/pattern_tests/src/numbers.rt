@@ -1,4 +1,5 @@
 //! Values of expressions.
+use crate::rows::{Tells, each_is_told, no_row};
 use num_base::{EvalFault, Expr, Numbers, Op, eval, law_of_undefined};
 use std::alloc::{AllocError, Global};
 use tt_base::{Bytes, NoMemory};
@@ -44,19 +45,22 @@ fn op_of(name: &str) -> Option<Op> {
     }
 }
 
-/// The fields of a row.
-fn fields(row: &str) -> Option<(Op, i128, i128, &str)> {
-    let (asked, due) = row.split_once(" => ")?;
-    let (op, numbers) = asked.split_once(' ')?;
+/// An operation and its two numbers.
+fn asked(given: &str) -> Option<(Op, i128, i128)> {
+    let (op, numbers) = given.split_once(' ')?;
     let (left, right) = numbers.split_once(' ')?;
-    Some((op_of(op)?, left.parse().ok()?, right.parse().ok()?, due))
+    Some((op_of(op)?, left.parse().ok()?, right.parse().ok()?))
 }
 
-/// Whether the operation of a row has this value or fault.
-fn has_value(alloc: Global, row: &str) -> Result<bool, AllocError> {
-    match fields(row) {
-        Some((op, left, right, due)) => Ok(value_of(alloc, op, left, right)?.as_str() == due),
-        None => Ok(false),
+/// The value of an operation, or its fault.
+struct Values;
+
+impl Tells for Values {
+    fn told(&self, alloc: Global, given: &str) -> Result<String, AllocError> {
+        match asked(given) {
+            Some((op, left, right)) => value_of(alloc, op, left, right),
+            None => no_row(alloc),
+        }
     }
 }
 
@@ -76,10 +80,7 @@ Min -3 5 => -3";
 #[test]
 fn operations_keep_the_range(rt: HostRuntime) -> Result<(), AllocError> {
     law_of_undefined();
-    for row in VALUES.lines() {
-        assert!(rt; has_value(rt.alloc(), row)?, "{row}");
-    }
-    Ok(())
+    each_is_told(&rt, rt.alloc(), VALUES, &Values)
 }
 
 /// `N+1`.

@@ -9,6 +9,7 @@ use pattern_scan::{Context, Sought, seek};
 use pattern_vars::{Binding, Bindings, Vars};
 use std::alloc::Global;
 use std::marker::Brand;
+use std::process::Abort;
 use std::sync::ledger::{Blank, Ledger};
 use tt_base::{Bytes, Items, NoMemory, Span};
 
@@ -174,7 +175,25 @@ fn is_told(alloc: Global, row: &str, fold: bool, frame: Frame) -> Result<bool, N
         return Ok(false);
     };
     let pattern = pattern_of(alloc, body, fold, frame)?;
-    Ok(answer(alloc, &pattern, text.as_bytes())?.as_slice() == due.as_bytes())
+    is_due(answer(alloc, &pattern, text.as_bytes()), due)
+}
+
+fn is_due(told: Result<Bytes, NoMemory>, due: &str) -> Result<bool, NoMemory> {
+    Ok(told?.as_slice() == due.as_bytes())
+}
+
+/// Sees that the body of each row, read so, has its answer in its text.
+fn each_is_told(
+    rt: &impl Abort,
+    alloc: Global,
+    rows: &str,
+    fold: bool,
+    frame: Frame,
+) -> Result<(), NoMemory> {
+    for row in rows.lines() {
+        assert!(rt; is_told(alloc, row, fold, frame)?, "{row}");
+    }
+    Ok(())
 }
 
 /// Bodies, texts and answers, with `~` between.
@@ -213,18 +232,12 @@ const REFUSED: &str = r"[[X]]~x~ undefined X
 
 #[test]
 fn patterns_are_found_with_what_they_give(rt: HostRuntime) -> Result<(), NoMemory> {
-    for row in FOUND.lines() {
-        assert!(rt; is_told(rt.alloc(), row, false, Frame::Open)?, "{row}");
-    }
-    Ok(())
+    each_is_told(&rt, rt.alloc(), FOUND, false, Frame::Open)
 }
 
 #[test]
 fn what_stands_in_the_way_is_told(rt: HostRuntime) -> Result<(), NoMemory> {
-    for row in REFUSED.lines() {
-        assert!(rt; is_told(rt.alloc(), row, false, Frame::Open)?, "{row}");
-    }
-    Ok(())
+    each_is_told(&rt, rt.alloc(), REFUSED, false, Frame::Open)
 }
 
 const FOLDED: &str = r"{{[^a]}}B~Ab~ absent
@@ -236,10 +249,7 @@ const FOLDED: &str = r"{{[^a]}}B~Ab~ absent
 
 #[test]
 fn letters_match_in_either_case(rt: HostRuntime) -> Result<(), NoMemory> {
-    for row in FOLDED.lines() {
-        assert!(rt; is_told(rt.alloc(), row, true, Frame::Open)?, "{row}");
-    }
-    Ok(())
+    each_is_told(&rt, rt.alloc(), FOLDED, true, Frame::Open)
 }
 
 const SPACED: &str = "foo~ foo ~ 0 5
@@ -247,10 +257,7 @@ foo~foo bar~ absent";
 
 #[test]
 fn a_line_is_matched_but_for_spaces_at_its_ends(rt: HostRuntime) -> Result<(), NoMemory> {
-    for row in SPACED.lines() {
-        assert!(rt; is_told(rt.alloc(), row, false, Frame::Spaced)?, "{row}");
-    }
-    Ok(())
+    each_is_told(&rt, rt.alloc(), SPACED, false, Frame::Spaced)
 }
 
 const TIGHT: &str = "foo~ foo~ absent
@@ -258,8 +265,5 @@ foo~foo~ 0 3";
 
 #[test]
 fn a_line_is_matched_with_its_blanks(rt: HostRuntime) -> Result<(), NoMemory> {
-    for row in TIGHT.lines() {
-        assert!(rt; is_told(rt.alloc(), row, false, Frame::Tight)?, "{row}");
-    }
-    Ok(())
+    each_is_told(&rt, rt.alloc(), TIGHT, false, Frame::Tight)
 }

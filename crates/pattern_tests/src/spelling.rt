@@ -1,4 +1,5 @@
 //! Numbers and their spellings.
+use crate::rows::{Tells, each_is_told, is_text, no_row};
 use ere_tree::{Ere, parse};
 use num_base::{Format, FormatKind};
 use num_spell::{print_value, read_value, wild};
@@ -37,26 +38,39 @@ fn fields(row: &str) -> Option<(Format, &str, &str)> {
     Some((format_of(format)?, second, third))
 }
 
-/// Whether a text was printed, and is this; `none` stands for no text.
-fn is_text(printed: &Option<Bytes>, due: &str) -> bool {
-    match printed {
-        Some(bytes) => bytes.as_slice() == due.as_bytes(),
-        None => due == "none",
+/// The text that is printed, or `none`.
+fn printed(alloc: Global, format: Format, value: i128) -> Result<String, AllocError> {
+    match print_value(alloc, format, value) {
+        Ok(Some(bytes)) => text_of(alloc, &bytes),
+        Ok(None) => String::from_str(alloc, "none"),
+        Err(_) => Err(AllocError),
     }
 }
 
-/// Whether the number of a row is printed so.
-fn is_printed(alloc: Global, row: &str) -> Result<bool, AllocError> {
-    let Some((format, value, due)) = fields(row) else {
-        return Ok(false);
-    };
-    let Ok(value) = value.parse::<i128>() else {
-        return Ok(false);
-    };
-    match print_value(alloc, format, value) {
-        Ok(printed) => Ok(is_text(&printed, due)),
-        Err(_) => Err(AllocError),
+fn text_of(alloc: Global, bytes: &Bytes) -> Result<String, AllocError> {
+    let mut text = String::new(alloc);
+    for byte in bytes.as_slice() {
+        text.push(char::from(*byte))?;
     }
+    Ok(text)
+}
+
+/// What a number is printed as in a format.
+struct Printed;
+
+impl Tells for Printed {
+    fn told(&self, alloc: Global, given: &str) -> Result<String, AllocError> {
+        match asked(given) {
+            Some((format, value)) => printed(alloc, format, value),
+            None => no_row(alloc),
+        }
+    }
+}
+
+/// A format and a number.
+fn asked(given: &str) -> Option<(Format, i128)> {
+    let (format, value) = given.split_once(" => ")?;
+    Some((format_of(format)?, value.parse::<i128>().ok()?))
 }
 
 /// A format, a number, and what is printed.
@@ -72,10 +86,7 @@ d => -170141183460469231731687303715884105728 => -170141183460469231731687303715
 
 #[test]
 fn numbers_are_printed_in_their_least_digits(rt: HostRuntime) -> Result<(), AllocError> {
-    for row in PRINTED.lines() {
-        assert!(rt; is_printed(rt.alloc(), row)?, "{row}");
-    }
-    Ok(())
+    each_is_told(&rt, rt.alloc(), PRINTED, &Printed)
 }
 
 /// Whether the text of a row is read as this number, or as none.
@@ -142,8 +153,12 @@ fn a_number_of_many_digits_is_no_value(rt: HostRuntime) -> Result<(), AllocError
 
 /// Whether two trees are written alike.
 fn are_alike(alloc: Global, one: &Ere, other: &Ere) -> Result<bool, AllocError> {
-    let text = format!(in alloc; "{one:?}")?;
-    Ok(format!(in alloc; "{other:?}")?.as_str() == text.as_str())
+    let text = in_words(alloc, one)?;
+    is_text(in_words(alloc, other), text.as_str())
+}
+
+fn in_words(alloc: Global, ere: &Ere) -> Result<String, AllocError> {
+    format!(in alloc; "{ere:?}")
 }
 
 /// Whether the expression of a row's format is the one behind the arrow.

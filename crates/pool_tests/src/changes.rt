@@ -1,5 +1,6 @@
 //! Runs of `lit_changes` over files in memory, of which a call fails or a stream has little room.
 
+use crate::rows::are_bytes;
 use report_changes::changes_run;
 use std::alloc::{AllocError, Global};
 use tt_base::{Bytes, Items, NoMemory};
@@ -105,7 +106,7 @@ fn is_told(alloc: Global, row: &str) -> Result<bool, NoMemory> {
     let Ok(due) = text_of(alloc, due) else {
         return Err(NoMemory);
     };
-    Ok(told_of(alloc, line, call, room as usize)?.as_slice() == due.as_bytes())
+    are_bytes(told_of(alloc, line, call, room as usize), due.as_bytes())
 }
 
 #[test]

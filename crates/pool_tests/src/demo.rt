@@ -38,6 +38,10 @@ fn none<T: Drop>(alloc: Global) -> Result<SharedItems<T>, NoMemory>
 
 /// The test of a file.
 fn test_of(alloc: Global, file: &str) -> Result<Test, NoMemory> {
+    let features = none(alloc)?;
+    let substitutions = none(alloc)?;
+    let tools = none(alloc)?;
+    let environment = none(alloc)?;
     let (name, path, temp) = paths(alloc, file)?;
     let (source_dir, work_dir, temp_dir) = dirs(alloc)?;
     Ok(Test {
@@ -47,10 +51,10 @@ fn test_of(alloc: Global, file: &str) -> Result<Test, NoMemory> {
         work_dir,
         temp_dir,
         temp,
-        features: none(alloc)?,
-        substitutions: none(alloc)?,
-        tools: none(alloc)?,
-        environment: none(alloc)?,
+        features,
+        substitutions,
+        tools,
+        environment,
     })
 }
 

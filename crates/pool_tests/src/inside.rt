@@ -1,5 +1,5 @@
 //! Runs of `lit` whose hands answer FileCheck, `count` and `not` by themselves.
-use crate::rows::{add_number, both, three};
+use crate::rows::{add_number, are_both, both, three};
 use crate::whole::{REPORT, SUITE, Streams, crew_of, node, sinks_of, tree_of, words};
 use lit_inproc::InCrew;
 use lit_tool::lit_run;
@@ -145,7 +145,7 @@ fn is_told<R: Threads + Wait + Sync>(rt: &R, alloc: Global, row: &str) -> Result
     let mut tree = one_test(alloc)?;
     let told = told_by(rt, alloc, line, &mut tree, crew);
     drop(tree);
-    Ok(told?.as_slice() == both(alloc, due, "")?.as_slice())
+    are_both(alloc, told, due, "")
 }
 
 #[test]
@@ -167,7 +167,7 @@ fn is_report<R: Threads + Wait + Sync>(
     let crew = crew_of(alloc)?;
     let told = told_by(rt, alloc, line, &mut tree, crew);
     drop(tree);
-    Ok(told?.as_slice() == both(alloc, head, REPORT)?.as_slice())
+    are_both(alloc, told, head, REPORT)
 }
 
 #[test]

@@ -1,5 +1,6 @@
 //! Reports that are read, and what changed between two. In a row `/` stands for a newline.
 
+use crate::rows::are_bytes;
 use json_report::{Line, ReportFail, ReportFault, changes, read_report};
 use std::alloc::Global;
 use test_outcome::Outcome;
@@ -103,7 +104,7 @@ fn read_text(alloc: Global, text: &str) -> Result<Bytes, NoMemory> {
 
 fn is_read(alloc: Global, row: &str) -> Result<bool, NoMemory> {
     match row.split_once(" => ") {
-        Some((text, due)) => Ok(read_text(alloc, text)?.as_slice() == due.as_bytes()),
+        Some((text, due)) => are_bytes(read_text(alloc, text), due.as_bytes()),
         None => Ok(false),
     }
 }
@@ -181,7 +182,8 @@ fn is_change(alloc: Global, row: &str) -> Result<bool, NoMemory> {
     };
     let old = lines_of(alloc, old)?;
     let new = lines_of(alloc, new)?;
-    Ok(changed_text(alloc, old.as_slice(), new.as_slice())?.as_slice() == due.as_bytes())
+    let told = changed_text(alloc, old.as_slice(), new.as_slice());
+    are_bytes(told, due.as_bytes())
 }
 
 #[test]

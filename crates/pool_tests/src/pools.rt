@@ -1,6 +1,6 @@
 //! Tests that are run by several workers.
 use crate::demo::{Demo, demo_of};
-use crate::rows::{add, add_number, both};
+use crate::rows::{add, add_number, are_both};
 use crate::shown::end_text;
 use lit_desk::LitDesk;
 use lit_pool::run_all;
@@ -146,8 +146,7 @@ fn is_told<R: Threads + Wait + Sync>(
     row: &str,
 ) -> Result<bool, NoMemory> {
     let (line, due) = row.split_once(" => ").unwrap_or((row, ""));
-    let told = told(rt, alloc, workers, 1000, line)?;
-    Ok(told.as_slice() == both(alloc, due, "")?.as_slice())
+    are_both(alloc, told(rt, alloc, workers, 1000, line), due, "")
 }
 
 #[test]

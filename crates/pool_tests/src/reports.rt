@@ -1,5 +1,5 @@
 //! What a report says of the results of tests, and what a desk writes of it.
-use crate::rows::{both, three};
+use crate::rows::{are_both, both, three};
 use lit_desk::{DeskStop, LitDesk, MAX_KEPT};
 use lit_report::{Reported, end_of, header, part_of, status_of};
 use lit_words::Detail;
@@ -109,10 +109,14 @@ fn is_reported(alloc: Global, row: &str) -> Result<bool, NoMemory> {
     };
     let tests = all_ended(alloc, line)?;
     let status_due = if status == "1" { 1 } else { 0 };
-    let told = report(alloc, detail_of(option), tests.as_slice())?;
-    Ok(
-        status_of(tests.as_slice()) == status_due
-            && told.as_slice() == both(alloc, due, "")?.as_slice(),
+    if status_of(tests.as_slice()) != status_due {
+        return Ok(false);
+    }
+    are_both(
+        alloc,
+        report(alloc, detail_of(option), tests.as_slice()),
+        due,
+        "",
     )
 }
 

@@ -26,6 +26,22 @@ pub(crate) fn both(alloc: Global, first: &str, second: &str) -> Result<Bytes, No
     Ok(bytes)
 }
 
+/// Whether bytes were made, and are those that are due.
+pub(crate) fn are_bytes(made: Result<Bytes, NoMemory>, due: &[u8]) -> Result<bool, NoMemory> {
+    Ok(made?.as_slice() == due)
+}
+
+/// Whether bytes were made, and are those of two texts.
+pub(crate) fn are_both(
+    alloc: Global,
+    made: Result<Bytes, NoMemory>,
+    first: &str,
+    second: &str,
+) -> Result<bool, NoMemory> {
+    let due = both(alloc, first, second)?;
+    are_bytes(made, due.as_slice())
+}
+
 /// Adds a number of two digits; a greater one ends so.
 pub(crate) fn add_number(bytes: &mut Bytes, number: u64) -> Result<(), NoMemory> {
     if number >= 10 {

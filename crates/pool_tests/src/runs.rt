@@ -1,7 +1,7 @@
 //! Tests that are run by one hand.
 use crate::demo::{Demo, demo_of};
 use crate::desks::Noted;
-use crate::rows::{add_number, both, three};
+use crate::rows::{add_number, are_both, three};
 use crate::shown::{add_left, add_status, end_text};
 use lit_desk::{LitDesk, MAX_KEPT};
 use lit_pool::{Desk, PoolStop, run_serial};
@@ -93,8 +93,7 @@ fn is_told_on_desk(alloc: Global, row: &str) -> Result<bool, NoMemory> {
     let (capacity, left) = setting.split_once(" ").unwrap_or(("", ""));
     let capacity = capacity.parse::<usize>().unwrap_or(0);
     let left = left.parse::<u64>().unwrap_or(0);
-    let told = told_on_desk(alloc, capacity, left, line)?;
-    Ok(told.as_slice() == both(alloc, due, "")?.as_slice())
+    are_both(alloc, told_on_desk(alloc, capacity, left, line), due, "")
 }
 
 /// How many bytes the sink takes and the tests may keep; the tests, each with the code of its program; and the trials, the
@@ -135,8 +134,8 @@ fn is_told_of_most(alloc: Global, row: &str) -> Result<bool, NoMemory> {
     let Some((most, line, due)) = three(row) else {
         return Ok(false);
     };
-    let told = told_of_most(alloc, most.parse::<u64>().unwrap_or(0), line)?;
-    Ok(told.as_slice() == both(alloc, due, "")?.as_slice())
+    let most = most.parse::<u64>().unwrap_or(0);
+    are_both(alloc, told_of_most(alloc, most, line), due, "")
 }
 
 /// How many trials a desk takes; the tests; and the trials, the status or the stop, what the hand did, and the numbers that were put.

@@ -1,8 +1,9 @@
 //! Runs of `lit` on a tree, a crew and streams in memory: by any number of workers, and where a call fails.
 use crate::demo::{Demo, demo_of};
-use crate::rows::{add_number, both, three};
+use crate::rows::{add_number, are_both, are_bytes, both, three};
 use lit_tool::lit_run;
 use std::alloc::Global;
+use std::process::Abort;
 use std::sync::Wait;
 use std::thread::Threads;
 use tt_base::{Bytes, Items, NoMemory};
@@ -198,9 +199,8 @@ fn is_cut<R: Threads + Wait + Sync>(
     room: usize,
     head: &str,
 ) -> Result<bool, NoMemory> {
-    let told = told_by(rt, alloc, line, NEVER, room)?;
-    let due = both(alloc, head, REPORT.get(..room).unwrap_or(REPORT))?;
-    Ok(told.as_slice() == due.as_slice())
+    let told = told_by(rt, alloc, line, NEVER, room);
+    are_both(alloc, told, head, REPORT.get(..room).unwrap_or(REPORT))
 }
 
 #[test]
@@ -244,16 +244,24 @@ fn is_told<R: Threads + Wait + Sync>(rt: &R, alloc: Global, row: &str) -> Result
     let (call, room) = setting.split_once(" ").unwrap_or(("", ""));
     let call = call.parse::<u64>().unwrap_or(NEVER);
     let room = room.parse::<usize>().unwrap_or(0);
-    let told = told_by(rt, alloc, line, call, room)?;
-    Ok(told.as_slice() == both(alloc, due, "")?.as_slice())
+    are_both(alloc, told_by(rt, alloc, line, call, room), due, "")
+}
+
+/// Sees that this is told of each row.
+fn each_is_told<R: Threads + Wait + Sync + Abort>(
+    rt: &R,
+    alloc: Global,
+    rows: &str,
+) -> Result<(), NoMemory> {
+    for row in rows.lines() {
+        assert!(rt; is_told(rt, alloc, row)?, "{row}");
+    }
+    Ok(())
 }
 
 #[test]
 fn faults_have_status_3(rt: HostRuntime) -> Result<(), NoMemory> {
-    for row in FAULTS.lines() {
-        assert!(rt; is_told(&rt, rt.alloc(), row)?, "{row}");
-    }
-    Ok(())
+    each_is_told(&rt, rt.alloc(), FAULTS)
 }
 
 /// The same of reports in JSON, each whole or as far as there is room.
@@ -266,10 +274,7 @@ const IN_JSON: &str =
 
 #[test]
 fn a_report_in_json_is_written_at_the_end(rt: HostRuntime) -> Result<(), NoMemory> {
-    for row in IN_JSON.lines() {
-        assert!(rt; is_told(&rt, rt.alloc(), row)?, "{row}");
-    }
-    Ok(())
+    each_is_told(&rt, rt.alloc(), IN_JSON)
 }
 
 /// The tree of the suite, with a test more, whose name isn't text.
@@ -295,8 +300,7 @@ fn is_odd<R: Threads + Wait + Sync>(
 ) -> Result<bool, NoMemory> {
     let words = words(alloc, line)?;
     let mut tree = odd_tree(alloc)?;
-    let told = told_on(rt, alloc, words.as_slice(), &mut tree, AMPLE)?;
-    Ok(told.as_slice() == due)
+    are_bytes(told_on(rt, alloc, words.as_slice(), &mut tree, AMPLE), due)
 }
 
 #[test]

@@ -51,6 +51,7 @@ fn given(
 
 /// The test `/w/p.txt`, whose commands run in `/w`.
 pub(crate) fn test_at_w(alloc: Global) -> Result<Test, NoMemory> {
+    let substitutions = SharedItems::new(alloc, Items::new(alloc))?;
     let (path, source_dir) = sources(alloc)?;
     let (work_dir, temp_dir, temp) = places(alloc)?;
     let (features, tools, environment) = given(alloc)?;
@@ -62,7 +63,7 @@ pub(crate) fn test_at_w(alloc: Global) -> Result<Test, NoMemory> {
         temp_dir,
         temp,
         features,
-        substitutions: SharedItems::new(alloc, Items::new(alloc))?,
+        substitutions,
         tools,
         environment,
     })

@@ -1,5 +1,5 @@
 //! Cases of the public calls with ample memory.
-use crate::rows::three;
+use crate::rows::{Tells, each_is_told, no_row};
 use bool_exprs::{BoolExpr, has_refs, holds, read_list};
 use std::alloc::Global;
 use tt_base::{Bytes, Items, NoMemory};
@@ -33,14 +33,19 @@ fn shown(alloc: Global, xfail: bool, text: &[u8], features: &[Bytes]) -> Result<
     Ok(shown)
 }
 
-/// Whether the expressions of a row's list hold so.
-fn hold_so(alloc: Global, xfail: bool, row: &str) -> Result<bool, NoMemory> {
-    let Some((text, features, due)) = three(row) else {
-        return Ok(false);
-    };
-    let features = features_of(alloc, features)?;
-    let shown = shown(alloc, xfail, text.as_bytes(), features.as_slice())?;
-    Ok(shown.as_slice() == due.as_bytes())
+/// Which expressions of a list hold over features.
+struct Lists {
+    xfail: bool,
+}
+
+impl Tells for Lists {
+    fn told(&self, alloc: Global, given: &str) -> Result<Bytes, NoMemory> {
+        let Some((text, features)) = given.split_once(" => ") else {
+            return no_row(alloc);
+        };
+        let features = features_of(alloc, features)?;
+        shown(alloc, self.xfail, text.as_bytes(), features.as_slice())
+    }
 }
 
 /// A list, the features that are there, and which expressions hold.
@@ -73,13 +78,8 @@ const XFAILS: &str = "*, linux => linux => 11
 
 #[test]
 fn expressions_hold_over_features(rt: HostRuntime) -> Result<(), NoMemory> {
-    for row in LISTS.lines() {
-        assert!(rt; hold_so(rt.alloc(), false, row)?, "{row}");
-    }
-    for row in XFAILS.lines() {
-        assert!(rt; hold_so(rt.alloc(), true, row)?, "XFAIL: {row}");
-    }
-    Ok(())
+    each_is_told(&rt, rt.alloc(), LISTS, &Lists { xfail: false })?;
+    each_is_told(&rt, rt.alloc(), XFAILS, &Lists { xfail: true })
 }
 
 /// How many texts of one byte and of two are lists.
@@ -117,13 +117,29 @@ fn is_list(alloc: Global, part: &str, times: usize) -> Result<bool, NoMemory> {
     Ok(read_list(alloc, false, text.as_slice())?.is_some())
 }
 
-/// Whether the list of a row is one, or is none.
-fn is_so(alloc: Global, row: &str) -> Result<bool, NoMemory> {
-    let Some((part, times, due)) = three(row) else {
-        return Ok(false);
+/// Whether so many times a part, and an `a`, are a list, in words.
+fn list_told(alloc: Global, part: &str, times: usize) -> Result<Bytes, NoMemory> {
+    let told = if is_list(alloc, part, times)? {
+        "a list"
+    } else {
+        "none"
     };
-    let times = times.parse::<usize>().or(Err(NoMemory))?;
-    Ok(is_list(alloc, part, times)? == (due == "a list"))
+    Bytes::from_slice(alloc, told.as_bytes())
+}
+
+/// Whether a part that stands so often before an `a` is a list.
+struct Repeated;
+
+impl Tells for Repeated {
+    fn told(&self, alloc: Global, given: &str) -> Result<Bytes, NoMemory> {
+        let Some((part, times)) = given.split_once(" => ") else {
+            return no_row(alloc);
+        };
+        match times.parse::<usize>() {
+            Ok(times) => list_told(alloc, part, times),
+            Err(_) => no_row(alloc),
+        }
+    }
 }
 
 /// A part, how often it stands before an `a`, and whether that is a list.
@@ -138,8 +154,5 @@ a|| => 251 => none
 fn the_251st_operator_is_refused_and_hostile_texts_are_read(
     rt: HostRuntime,
 ) -> Result<(), NoMemory> {
-    for row in REPEATED.lines() {
-        assert!(rt; is_so(rt.alloc(), row)?, "{row}");
-    }
-    Ok(())
+    each_is_told(&rt, rt.alloc(), REPEATED, &Repeated)
 }

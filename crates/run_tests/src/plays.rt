@@ -1,6 +1,6 @@
 //! The play of lines over planned replies: what is asked, and what is told.
 use crate::crews::{asked, crew_of, test_at_w};
-use crate::rows::three;
+use crate::rows::{Tells, each_is_told, in_bytes, no_row};
 use mini_shell::{Line, parse_line};
 use shell_play::{LackNote, Told};
 use std::alloc::{AllocError, Global};
@@ -54,10 +54,7 @@ fn show_told(alloc: Global, out: &mut Bytes, told: &Told) -> Result<(), NoMemory
 
 /// How many attempts and lines began.
 fn counts(alloc: Global, attempts: u32, began: u32) -> Result<Bytes, NoMemory> {
-    match format!(in alloc; "({attempts}, {began}); ") {
-        Ok(text) => Bytes::from_slice(alloc, text.as_bytes()),
-        Err(AllocError) => Err(NoMemory),
-    }
+    in_bytes(alloc, format!(in alloc; "({attempts}, {began}); "))
 }
 
 fn show_stop(alloc: Global, out: &mut Bytes, stop: AttemptStop) -> Result<(), NoMemory> {
@@ -118,13 +115,21 @@ fn shown(
     }
 }
 
-/// Whether this is shown of a row's lines and replies.
-fn is_shown(alloc: Global, what: Part, row: &str, retries: u32) -> Result<bool, NoMemory> {
-    let Some((lines, words, due)) = three(row) else {
-        return Ok(false);
-    };
-    let lines = lines_of(alloc, lines)?;
-    Ok(shown(alloc, what, lines.as_slice(), words, retries)?.as_slice() == due.as_bytes())
+/// What is shown of lines and replies, where lines may be played again so often.
+#[derive(Drop)]
+struct Plays {
+    what: Part,
+    retries: u32,
+}
+
+impl Tells for Plays {
+    fn told(&self, alloc: Global, given: &str) -> Result<Bytes, NoMemory> {
+        let Some((lines, words)) = given.split_once(" => ") else {
+            return no_row(alloc);
+        };
+        let lines = lines_of(alloc, lines)?;
+        shown(alloc, self.what, lines.as_slice(), words, self.retries)
+    }
 }
 
 /// Lines, the replies to their requests, and these.
@@ -171,10 +176,11 @@ a > f; b => 1c0 2b => make /w/t; /w$ a; write /w/f ";
 
 #[test]
 fn a_command_runs_where_the_statuses_before_it_let_it(rt: HostRuntime) -> Result<(), NoMemory> {
-    for row in ASKED.lines() {
-        assert!(rt; is_shown(rt.alloc(), Part::Asked, row, 0)?, "{row}");
-    }
-    Ok(())
+    let plays = Plays {
+        what: Part::Asked,
+        retries: 0,
+    };
+    each_is_told(&rt, rt.alloc(), ASKED, &plays)
 }
 
 /// Lines, the replies to their requests, and what is told: how many attempts and lines began, each command, and the end.
@@ -207,10 +213,11 @@ a > /f 2> /g => 1c0 2m 3b => (1, 1); no place /f, None; Ended(Unresolved); ";
 
 #[test]
 fn each_command_is_told_with_what_it_lacked_and_wrote(rt: HostRuntime) -> Result<(), NoMemory> {
-    for row in TOLD.lines() {
-        assert!(rt; is_shown(rt.alloc(), Part::Told, row, 0)?, "{row}");
-    }
-    Ok(())
+    let plays = Plays {
+        what: Part::Told,
+        retries: 0,
+    };
+    each_is_told(&rt, rt.alloc(), TOLD, &plays)
 }
 
 /// Lines that may be played again twice, the replies to their requests, and what is told.
@@ -222,8 +229,9 @@ p => 1b => (1, 1); None; Ended(Unresolved); ";
 
 #[test]
 fn lines_that_fail_are_played_again(rt: HostRuntime) -> Result<(), NoMemory> {
-    for row in ATTEMPTS.lines() {
-        assert!(rt; is_shown(rt.alloc(), Part::Told, row, 2)?, "{row}");
-    }
-    Ok(())
+    let plays = Plays {
+        what: Part::Told,
+        retries: 2,
+    };
+    each_is_told(&rt, rt.alloc(), ATTEMPTS, &plays)
 }

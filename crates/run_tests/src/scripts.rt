@@ -3,10 +3,10 @@ ghost use Rattle.std.specs.Prelude.{IfOk};
 ghost use Rattle.lit_directives.specs.Lists.{HasNoRefs};
 
 use crate::features::{features_of, held};
-use crate::rows::{bytes_of, three};
+use crate::rows::{Tells, append, bytes_of, each_is_told, in_bytes, no_row, three};
 use bool_exprs::BoolExpr;
 use lit_directives::{Script, ScriptFail, ScriptFault, read_script};
-use std::alloc::{AllocError, Global};
+use std::alloc::Global;
 use tt_base::{Bytes, Items, NoMemory};
 
 /// The script of a text of at most 2^30 bytes; of a longer one there is none.
@@ -38,13 +38,14 @@ fn runs_told(alloc: Global, text: &[u8]) -> Result<Bytes, NoMemory> {
     }
 }
 
-/// Whether the text of a row has these RUN lines.
-fn has_runs(alloc: Global, row: &str) -> Result<bool, NoMemory> {
-    let Some((text, due)) = row.split_once(" => ") else {
-        return Ok(false);
-    };
-    let text = bytes_of(alloc, text)?;
-    Ok(runs_told(alloc, text.as_slice())?.as_slice() == due.as_bytes())
+/// The RUN lines of a text.
+struct Runs;
+
+impl Tells for Runs {
+    fn told(&self, alloc: Global, given: &str) -> Result<Bytes, NoMemory> {
+        let text = bytes_of(alloc, given)?;
+        runs_told(alloc, text.as_slice())
+    }
 }
 
 /// Texts, and their RUN lines.
@@ -63,36 +64,26 @@ RUN: a~REQUIRES: RUN: b => no script";
 
 #[test]
 fn run_lines_are_joined_and_numbered(rt: HostRuntime) -> Result<(), NoMemory> {
-    for row in RUNS.lines() {
-        assert!(rt; has_runs(rt.alloc(), row)?, "{row:?}");
-    }
-    Ok(())
+    each_is_told(&rt, rt.alloc(), RUNS, &Runs)
 }
 
 /// The fault of a text, or that there is none.
-fn refused(alloc: Global, text: &[u8]) -> Result<String, AllocError> {
+fn refused(alloc: Global, text: &[u8]) -> Result<Bytes, NoMemory> {
     match read_short(alloc, text) {
-        Err(ScriptFail::Bad(fault)) => format!(in alloc; "{fault:?}"),
-        Err(ScriptFail::NoMemory) => Err(AllocError),
-        Ok(_) => String::from_str(alloc, "none"),
+        Err(ScriptFail::Bad(fault)) => in_bytes(alloc, format!(in alloc; "{fault:?}")),
+        Err(ScriptFail::NoMemory) => Err(NoMemory),
+        Ok(_) => Bytes::from_slice(alloc, b"none"),
     }
 }
 
-/// Whether this is the fault of a text.
-fn is_refused(alloc: Global, text: &[u8], due: &str) -> Result<bool, NoMemory> {
-    match refused(alloc, text) {
-        Ok(told) => Ok(told.as_str() == due),
-        Err(AllocError) => Err(NoMemory),
-    }
-}
+/// The fault of a text.
+struct Faults;
 
-/// Whether the text of a row has this fault.
-fn has_fault(alloc: Global, row: &str) -> Result<bool, NoMemory> {
-    let Some((text, due)) = row.split_once(" => ") else {
-        return Ok(false);
-    };
-    let text = bytes_of(alloc, text)?;
-    is_refused(alloc, text.as_slice(), due)
+impl Tells for Faults {
+    fn told(&self, alloc: Global, given: &str) -> Result<Bytes, NoMemory> {
+        let text = bytes_of(alloc, given)?;
+        refused(alloc, text.as_slice())
+    }
 }
 
 /// Texts, and their first faults with the number of the line.
@@ -118,10 +109,7 @@ RUN: a \~REQUIRES: ( => BadExpr(2)";
 
 #[test]
 fn the_first_fault_is_told_with_its_line(rt: HostRuntime) -> Result<(), NoMemory> {
-    for row in FAULTS.lines() {
-        assert!(rt; has_fault(rt.alloc(), row)?, "{row}");
-    }
-    Ok(())
+    each_is_told(&rt, rt.alloc(), FAULTS, &Faults)
 }
 
 /// Which expressions of a list hold, as a text of `1` and `0` with a `|` behind it.
@@ -154,13 +142,20 @@ fn lists_of(alloc: Global, text: &[u8], features: &[Bytes]) -> Result<Bytes, NoM
     }
 }
 
-/// Whether the lists of a row's text show this, where these features are there.
-fn has_lists(alloc: Global, features: &[Bytes], row: &str) -> Result<bool, NoMemory> {
-    let Some((text, due)) = row.split_once(" => ") else {
-        return Ok(false);
-    };
-    let text = bytes_of(alloc, text)?;
-    Ok(lists_of(alloc, text.as_slice(), features)?.as_slice() == due.as_bytes())
+/// The same where two features are there.
+fn lists_of_two(alloc: Global, text: &[u8]) -> Result<Bytes, NoMemory> {
+    let features = features_of(alloc, "linux y,z")?;
+    lists_of(alloc, text, features.as_slice())
+}
+
+/// What the lists of a text show.
+struct Lists;
+
+impl Tells for Lists {
+    fn told(&self, alloc: Global, given: &str) -> Result<Bytes, NoMemory> {
+        let text = bytes_of(alloc, given)?;
+        lists_of_two(alloc, text.as_slice())
+    }
 }
 
 /// Texts, and what their lists show.
@@ -173,11 +168,7 @@ RUN: a~REQUIRES: linux &&~REQUIRES: linux => no script";
 
 #[test]
 fn lists_of_several_lines_add_up(rt: HostRuntime) -> Result<(), NoMemory> {
-    let features = features_of(rt.alloc(), "linux y,z")?;
-    for row in LISTS.lines() {
-        assert!(rt; has_lists(rt.alloc(), features.as_slice(), row)?, "{row:?}");
-    }
-    Ok(())
+    each_is_told(&rt, rt.alloc(), LISTS, &Lists)
 }
 
 /// So many times a part between two others.
@@ -188,26 +179,33 @@ fn repeated(
     times: usize,
     last: &str,
 ) -> Result<Bytes, NoMemory> {
-    let mut text = bytes_of(alloc, front)?;
-    let part = bytes_of(alloc, part)?;
+    let mut text = Bytes::new(alloc);
+    append(&mut text, front)?;
     for _ in 0..times {
-        text.append(part.as_slice())?;
+        append(&mut text, part)?;
     }
-    text.append(bytes_of(alloc, last)?.as_slice())?;
+    append(&mut text, last)?;
     Ok(text)
 }
 
-/// Whether the text that a row spells has its fault.
-fn is_answered(alloc: Global, row: &str) -> Result<bool, NoMemory> {
-    let Some((front, part, rest)) = three(row) else {
-        return Ok(false);
-    };
-    let Some((times, last, due)) = three(rest) else {
-        return Ok(false);
-    };
-    let times = times.parse::<usize>().or(Err(NoMemory))?;
-    let text = repeated(alloc, front, part, times, last)?;
-    is_refused(alloc, text.as_slice(), due)
+/// A front, a part, how often it is repeated, and a last one.
+fn spelled(given: &str) -> Option<(&str, &str, usize, &str)> {
+    let (front, part, rest) = three(given)?;
+    let (times, last) = rest.split_once(" => ")?;
+    Some((front, part, times.parse::<usize>().ok()?, last))
+}
+
+/// The fault of the text that a row spells.
+struct Hostile;
+
+impl Tells for Hostile {
+    fn told(&self, alloc: Global, given: &str) -> Result<Bytes, NoMemory> {
+        let Some((front, part, times, last)) = spelled(given) else {
+            return no_row(alloc);
+        };
+        let text = repeated(alloc, front, part, times, last)?;
+        refused(alloc, text.as_slice())
+    }
 }
 
 /// A front, a part, how often it is repeated, a last one, and the fault.
@@ -225,10 +223,7 @@ ALLOW_RETRIES:  => 9 => 65536 => ~ => BadRetries(1)";
 
 #[test]
 fn hostile_scripts_are_read_or_refused(rt: HostRuntime) -> Result<(), NoMemory> {
-    for row in HOSTILE.lines() {
-        assert!(rt; is_answered(rt.alloc(), row)?, "{row}");
-    }
-    Ok(())
+    each_is_told(&rt, rt.alloc(), HOSTILE, &Hostile)
 }
 
 /// Whether a text is refused for want of a RUN line.

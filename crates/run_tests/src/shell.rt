@@ -1,6 +1,7 @@
 //! Lines as they are understood, and refused ones with the place of the refusal.
+use crate::rows::{Tells, each_is_told, in_bytes, no_row};
 use mini_shell::{Command, Join, Line, Redir, RedirForm, ShellFail, ShellFault, parse_line};
-use std::alloc::{AllocError, Global};
+use std::alloc::Global;
 use tt_base::{Bytes, NoMemory};
 
 fn join_text(join: Join) -> &'static [u8] {
@@ -71,10 +72,7 @@ fn shown(alloc: Global, line: &Line) -> Result<Bytes, NoMemory> {
 /// What is wrong, and where.
 fn refusal(alloc: Global, fault: ShellFault) -> Result<Bytes, NoMemory> {
     let ShellFault { kind, at } = fault;
-    match format!(in alloc; "{kind:?} {at}") {
-        Ok(text) => Bytes::from_slice(alloc, text.as_bytes()),
-        Err(AllocError) => Err(NoMemory),
-    }
+    in_bytes(alloc, format!(in alloc; "{kind:?} {at}"))
 }
 
 /// What a line is, or what is wrong with it and where.
@@ -86,11 +84,12 @@ fn told(alloc: Global, text: &[u8]) -> Result<Bytes, NoMemory> {
     }
 }
 
-/// Whether the line before the arrow of a row is what is behind it.
-fn is_told(alloc: Global, row: &str) -> Result<bool, NoMemory> {
-    match row.split_once(" => ") {
-        Some((line, due)) => Ok(told(alloc, line.as_bytes())?.as_slice() == due.as_bytes()),
-        None => Ok(false),
+/// What a line is.
+struct Lines;
+
+impl Tells for Lines {
+    fn told(&self, alloc: Global, given: &str) -> Result<Bytes, NoMemory> {
+        told(alloc, given.as_bytes())
     }
 }
 
@@ -114,10 +113,7 @@ exports; a export => :([exports]);([a][export])";
 
 #[test]
 fn lines_are_pipes_of_commands(rt: HostRuntime) -> Result<(), NoMemory> {
-    for row in LINES.lines() {
-        assert!(rt; is_told(rt.alloc(), row)?, "{row}");
-    }
-    Ok(())
+    each_is_told(&rt, rt.alloc(), LINES, &Lines)
 }
 
 /// Refused lines; what is wrong with them, and where.
@@ -165,10 +161,7 @@ a > * => Glob 4";
 
 #[test]
 fn refused_lines_tell_the_first_place(rt: HostRuntime) -> Result<(), NoMemory> {
-    for row in REFUSED.lines() {
-        assert!(rt; is_told(rt.alloc(), row)?, "{row}");
-    }
-    Ok(())
+    each_is_told(&rt, rt.alloc(), REFUSED, &Lines)
 }
 
 /// What is told of as many of a byte as a line may have; nothing of lines that are read.
@@ -181,13 +174,15 @@ fn told_of_many(alloc: Global, byte: u8) -> Result<Bytes, NoMemory> {
     }
 }
 
-/// Whether this is told of as many of a row's byte.
-fn is_told_of_many(alloc: Global, row: &str) -> Result<bool, NoMemory> {
-    match (row.as_bytes().first(), row.split_once(" => ")) {
-        (Some(byte), Some((_, due))) => {
-            Ok(told_of_many(alloc, *byte)?.as_slice() == due.as_bytes())
+/// What is told of as many of a byte.
+struct Many;
+
+impl Tells for Many {
+    fn told(&self, alloc: Global, given: &str) -> Result<Bytes, NoMemory> {
+        match given.as_bytes() {
+            [byte] => told_of_many(alloc, *byte),
+            _ => no_row(alloc),
         }
-        _ => Ok(false),
     }
 }
 
@@ -204,10 +199,7 @@ a =>
 
 #[test]
 fn long_lines_of_one_byte_are_answered(rt: HostRuntime) -> Result<(), NoMemory> {
-    for row in MANY.lines() {
-        assert!(rt; is_told_of_many(rt.alloc(), row)?, "{row}");
-    }
-    Ok(())
+    each_is_told(&rt, rt.alloc(), MANY, &Many)
 }
 
 /// Whether a text is read or refused.

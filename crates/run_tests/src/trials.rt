@@ -1,8 +1,9 @@
 //! Tests that are run over planned replies: result, number of entries, and transcript.
 use crate::crews::{crew_of, test_at_w};
-use crate::rows::{bytes_of, three};
+use crate::rows::{are_bytes, bytes_of, three};
 use lit_test::{Trial, run_test};
 use std::alloc::{AllocError, Global};
+use std::process::Abort;
 use tt_base::{Bytes, NoMemory};
 use tt_outside::{Crew, Test};
 
@@ -45,7 +46,15 @@ fn is_told(alloc: Global, row: &str) -> Result<bool, NoMemory> {
         return Ok(false);
     };
     let due = bytes_of(alloc, due)?;
-    Ok(told(alloc, file, words)?.as_slice() == due.as_slice())
+    are_bytes(told(alloc, file, words), due.as_slice())
+}
+
+/// Sees that this is told of each row's file and replies.
+fn each_is_told(rt: &impl Abort, alloc: Global, rows: &str) -> Result<(), NoMemory> {
+    for row in rows.lines() {
+        assert!(rt; is_told(alloc, row)?, "{row}");
+    }
+    Ok(())
 }
 
 /// The test's file, the replies, and its result, the number of entries and the transcript.
@@ -87,10 +96,7 @@ RUN: p~ALLOW_RETRIES: 1 => 2e => UNRESOLVED 3 RUN: line 1: p~# unresolved: TooLa
 
 #[test]
 fn each_result_is_told_with_its_cause(rt: HostRuntime) -> Result<(), NoMemory> {
-    for row in RESULTS.lines() {
-        assert!(rt; is_told(rt.alloc(), row)?, "{row}");
-    }
-    Ok(())
+    each_is_told(&rt, rt.alloc(), RESULTS)
 }
 
 /// The same, of what RUN lines lack and write.
@@ -115,10 +121,7 @@ x~RUN: p %(line) %(line-1) => 2c0 => PASS 3 RUN: line 2: p 2 1~";
 
 #[test]
 fn lines_that_began_are_told_with_their_commands(rt: HostRuntime) -> Result<(), NoMemory> {
-    for row in TRANSCRIPTS.lines() {
-        assert!(rt; is_told(rt.alloc(), row)?, "{row}");
-    }
-    Ok(())
+    each_is_told(&rt, rt.alloc(), TRANSCRIPTS)
 }
 
 /// A row in which each `*` is 2,000 bytes.

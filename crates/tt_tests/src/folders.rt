@@ -12,12 +12,26 @@ use tt_real::StdTree;
 /// Makes a folder with a file `a`, a link to it and a link to the folder itself.
 fn make(files: &impl Files, alloc: Global, folder: &str) -> io::Result<()> {
     fs::create_dir(files, folder)?;
+    make_file(files, alloc, folder)?;
+    make_link(files, alloc, "a", folder, "a.link")?;
+    make_link(files, alloc, folder, folder, "link")
+}
+
+fn make_file(files: &impl Files, alloc: Global, folder: &str) -> io::Result<()> {
     let file = format!(in alloc; "{folder}/a")?;
-    fs::write(files, file.as_str(), "abc")?;
-    let same = format!(in alloc; "{folder}/a.link")?;
-    unix::fs::symlink(files, "a", same.as_str())?;
-    let link = format!(in alloc; "{folder}/link")?;
-    unix::fs::symlink(files, folder, link.as_str())
+    fs::write(files, file.as_str(), "abc")
+}
+
+/// Makes a link to a target, with a name in a folder.
+fn make_link(
+    files: &impl Files,
+    alloc: Global,
+    target: &str,
+    folder: &str,
+    name: &str,
+) -> io::Result<()> {
+    let link = format!(in alloc; "{folder}/{name}")?;
+    unix::fs::symlink(files, target, link.as_str())
 }
 
 /// Whether an item is the file `a` or the link to it, or of neither kind and named otherwise: a link to a folder is neither.

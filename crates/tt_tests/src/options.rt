@@ -1,7 +1,6 @@
 //! Tables of words, and what they give. Words are written between commas.
 use opt_words::{Form, Name, Row, Table};
 use std::alloc::{AllocError, Global};
-use std::test::Fail;
 
 /// Rows of each form, the first seven of a kind as `filecheck` has them.
 fn table() -> Table<7> {
@@ -72,35 +71,57 @@ const LAST: &str = "--check-prefix=A => 0 'A' 1 0
 -,,a,--,--allow-empty,-x => 2 'none' 0 5
 --,-- => 2 'none' 0 1";
 
+/// What stands behind the arrow of a row: a row of the table, its last value, how often it is given, and how many plain words
+/// there are.
+#[derive(Drop)]
+struct Due<'a> {
+    row: usize,
+    last: &'a str,
+    times: usize,
+    plain: usize,
+}
+
+fn due_of(text: &str) -> Option<Due<'_>> {
+    let (row, rest) = text.split_once(" '")?;
+    let (last, counts) = rest.split_once("' ")?;
+    let (times, plain) = counts.split_once(' ')?;
+    Some(Due {
+        row: row.parse().ok()?,
+        last,
+        times: times.parse().ok()?,
+        plain: plain.parse().ok()?,
+    })
+}
+
 /// Whether a row is given with this last value, and so often beside so many plain words.
-fn gives(alloc: Global, line: &str, row: usize, last: &str, counts: &str) -> Result<bool, Fail> {
-    let words = words(alloc, line)?;
-    let Ok(settings) = table().read(words.as_slice()) else {
-        return Ok(false);
+fn gives(words: &[String], due: &Due<'_>) -> bool {
+    let Ok(settings) = table().read(words) else {
+        return false;
     };
-    if row >= 7 {
-        return Ok(false);
+    if due.row >= 7 {
+        return false;
     }
-    let is_last = match settings.last[row] {
-        None => last == "none",
-        Some(given) => given.value(words.as_slice()) == last.as_bytes(),
+    let is_last = match settings.last[due.row] {
+        None => due.last == "none",
+        Some(given) => given.value(words) == due.last.as_bytes(),
     };
-    let (times, plain) = (settings.times[row], settings.plain);
-    let counted = format!(in alloc; "{times} {plain}")?;
-    Ok(is_last && counted.as_str() == counts)
+    is_last && settings.times[due.row] == due.times && settings.plain == due.plain
 }
 
 /// Whether the words before the arrow of a row give what stands behind it.
-fn is_given(alloc: Global, row: &str) -> Result<bool, Fail> {
-    let (line, due) = row.split_once(" => ").ok_or("a row without an arrow")?;
-    let (row, due) = due.split_once(" '").ok_or("a row without a value")?;
-    let (last, counts) = due.split_once("' ").ok_or("a value without an end")?;
-    let row = row.parse::<usize>().ok().ok_or("no number")?;
-    gives(alloc, line, row, last, counts)
+fn is_given(alloc: Global, row: &str) -> Result<bool, AllocError> {
+    let Some((line, due)) = row.split_once(" => ") else {
+        return Ok(false);
+    };
+    let Some(due) = due_of(due) else {
+        return Ok(false);
+    };
+    let words = words(alloc, line)?;
+    Ok(gives(words.as_slice(), &due))
 }
 
 #[test]
-fn the_last_value_of_a_row_counts(rt: HostRuntime) -> Result<(), Fail> {
+fn the_last_value_of_a_row_counts(rt: HostRuntime) -> Result<(), AllocError> {
     for row in LAST.lines() {
         assert!(rt; is_given(rt.alloc(), row)?, "{row}");
     }
@@ -118,20 +139,18 @@ fn stopping() -> Table<1> {
     }
 }
 
-/// How often the row is given, how many plain words there are, and how many words in all.
-fn counts(alloc: Global, line: &str) -> Result<Option<(usize, usize, usize)>, Fail> {
-    let words = words(alloc, line)?;
+/// How often the row is given, how many plain words there are, and how many words in all; nothing of refused words, or at
+/// want of memory.
+fn counts(alloc: Global, words: &[String]) -> Option<(usize, usize, usize)> {
     let table = stopping();
-    let Ok(settings) = table.read(words.as_slice()) else {
-        return Ok(None);
-    };
-    let all = table.givens(alloc, words.as_slice())?;
-    Ok(Some((settings.times[0], settings.plain, all.len())))
+    let settings = table.read(words).ok()?;
+    let all = table.givens(alloc, words).ok()?;
+    Some((settings.times[0], settings.plain, all.len()))
 }
 
 #[test]
-fn all_words_behind_a_plain_one_may_be_plain(rt: HostRuntime) -> Result<(), Fail> {
-    let counts = counts(rt.alloc(), "--crash,p,--crash,--nope,--")?;
-    assert_eq!(rt; counts, Some((1, 4, 5)));
+fn all_words_behind_a_plain_one_may_be_plain(rt: HostRuntime) -> Result<(), AllocError> {
+    let words = words(rt.alloc(), "--crash,p,--crash,--nope,--")?;
+    assert!(rt; counts(rt.alloc(), words.as_slice()) == Some((1, 4, 5)));
     Ok(())
 }

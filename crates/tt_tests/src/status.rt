@@ -1,7 +1,6 @@
 //! `count` and `not` over memory, where a read of their input fails.
 use not_count::{count_run, not_run};
-use std::alloc::{AllocError, Global};
-use std::test::Fail;
+use std::alloc::Global;
 use tt_base::{Bytes, Items, NoMemory};
 use tt_outside::{MemCrew, MemSink, MemSource};
 
@@ -12,13 +11,12 @@ fn joined(alloc: Global, status: u8, text: &MemSink) -> Result<Bytes, NoMemory> 
     Ok(told)
 }
 
-fn one_word(alloc: Global, word: &str) -> Result<Vec<String>, AllocError> {
-    let mut words = Vec::new(alloc);
-    words.push(String::from_str(alloc, word)?)?;
-    Ok(words)
+/// A word of a command line.
+fn word(alloc: Global, text: &str) -> Result<String, NoMemory> {
+    String::from_str(alloc, text).or(Err(NoMemory))
 }
 
-/// What `count 1` tells behind its status, where the second read of its input fails.
+/// What `count` tells of words behind its status, where the second read of its input fails.
 fn counted(alloc: Global, words: &[String]) -> Result<Bytes, NoMemory> {
     let mut input = MemSource::new(alloc, b"a\n", &[1])?;
     let mut told = MemSink::new(alloc, 1 << 10)?;
@@ -26,12 +24,19 @@ fn counted(alloc: Global, words: &[String]) -> Result<Bytes, NoMemory> {
     joined(alloc, status, &told)
 }
 
+fn are_bytes(told: Result<Bytes, NoMemory>, due: &[u8]) -> Result<bool, NoMemory> {
+    Ok(told?.as_slice() == due)
+}
+
+/// Whether `count 1` tells this.
+fn counts(alloc: Global, due: &[u8]) -> Result<bool, NoMemory> {
+    let words = [word(alloc, "1")?];
+    are_bytes(counted(alloc, &words), due)
+}
+
 #[test]
-fn a_failed_read_is_told(rt: HostRuntime) -> Result<(), Fail> {
-    let words = one_word(rt.alloc(), "1")?;
-    let told = counted(rt.alloc(), words.as_slice())?;
-    let due = b"3 count: error: cannot read '<stdin>'\n";
-    assert_eq!(rt; told.as_slice(), due.as_slice());
+fn a_failed_read_is_told(rt: HostRuntime) -> Result<(), NoMemory> {
+    assert!(rt; counts(rt.alloc(), b"3 count: error: cannot read '<stdin>'\n")?);
     Ok(())
 }
 
@@ -47,13 +52,22 @@ fn turned(alloc: Global, words: &[String], crew: &mut MemCrew) -> Result<Bytes, 
     Ok(told)
 }
 
+/// Whether `not p` tells this.
+fn turns(alloc: Global, crew: &mut MemCrew, due: &[u8]) -> Result<bool, NoMemory> {
+    let words = [word(alloc, "p")?];
+    are_bytes(turned(alloc, &words, crew), due)
+}
+
 #[test]
-fn without_an_input_nothing_is_run(rt: HostRuntime) -> Result<(), Fail> {
-    let words = one_word(rt.alloc(), "p")?;
+fn without_an_input_nothing_is_run(rt: HostRuntime) -> Result<(), NoMemory> {
     let mut crew = MemCrew::new(rt.alloc(), Items::new(rt.alloc()));
-    let told = turned(rt.alloc(), words.as_slice(), &mut crew)?;
-    let due = b"3 not: error: cannot read '<stdin>'\n|";
-    assert_eq!(rt; told.as_slice(), due.as_slice());
+    assert!(rt;
+        turns(
+            rt.alloc(),
+            &mut crew,
+            b"3 not: error: cannot read '<stdin>'\n|"
+        )?
+    );
     assert!(rt; crew.hands().is_empty());
     Ok(())
 }
