@@ -24,9 +24,9 @@ fn longest(alloc: Global, names: &str, text: &str) -> Result<Option<Standing>, N
 }
 
 /// The number and the length of the longest prefix that a text begins with, or `none`.
-struct Longest;
+struct Meant;
 
-impl Tells for Longest {
+impl Tells for Meant {
     fn told(&self, alloc: Global, given: &str) -> Result<Bytes, NoMemory> {
         let Some((names, text)) = given.split_once(" => ") else {
             return no_row(alloc);
@@ -59,5 +59,5 @@ B,,C,D,E => A => 1 0";
 
 #[test]
 fn the_longest_prefix_is_meant(rt: HostRuntime) -> Result<(), NoMemory> {
-    each_is_told(&rt, rt.alloc(), LONGEST, &Longest)
+    each_is_told(&rt, rt.alloc(), LONGEST, &Meant)
 }

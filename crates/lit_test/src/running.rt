@@ -1,8 +1,6 @@
 //! A test, asked request by request.
-ghost use Rattle.std.specs.Prelude.{◌≡◌, ◌≢◌, ◌≤◌, ◌+◌, ◌^◌, [], IfOk, OnOk, length};
-ghost use Rattle.tt_outside.specs.Gave.{SameGave};
-ghost use Rattle.test_course.specs.Bytes.{AreLimited};
-ghost use Rattle.test_attempts.specs.Hands.{Asked, Failed};
+ghost use Rattle.std.specs.Prelude.{◌≡◌, ◌≢◌, ◌≤◌, ◌^◌, [], IfOk, OnOk};
+ghost use Rattle.test_attempts.specs.Hands.{Answered, StaysOn};
 ghost use Rattle.test_plan.specs.Plan.{IsBounded};
 ghost use Rattle.test_plan.specs.declared.plan.Plan.TheVariants.{Run};
 ghost use Rattle.lit_test.specs.Run.{EndsAs, EndsBy};
@@ -31,14 +29,8 @@ fn by_runs<R: Runner>(
     requires ready { R.ready hand.old }
     requires kept { kept ≤ 2 ^ 25 }
     ensures ends { IfOk result (EndsBy R.Runner hand.old test.now (Run runs.now) entries.old entries.new kept) }
-    ensures limited { OnOk result (AreLimited entries.old → AreLimited entries.new) }
-    ensures asked { OnOk result (Asked R.Runner hand.old hand.new entries.old entries.new) }
-    ensures faults { OnOk result (Failed R.Runner hand.old hand.new entries.old entries.new) }
-    ensures later { R.faults hand.old ≤ R.faults hand.new }
-    ensures begun { R.begun hand.new ≡ R.begun hand.old }
-    ensures room { R.rooms hand.new ≡ R.rooms hand.old }
-    ensures gave { SameGave (R.gave hand.new) (R.gave hand.old) }
-    ensures ready { R.ready hand.new }
+    ensures answered { OnOk result (Answered R.Runner hand.old hand.new entries.old entries.new) }
+    ensures stays { StaysOn R.Runner hand.old hand.new }
 {
     let done = run_attempts(
         alloc,
@@ -68,14 +60,8 @@ fn by_plan<R: Runner>(
     requires ready { R.ready hand.old }
     requires kept { kept ≤ 2 ^ 25 }
     ensures ends { IfOk result (EndsBy R.Runner hand.old test.now plan.now entries.old entries.new kept) }
-    ensures limited { OnOk result (AreLimited entries.old → AreLimited entries.new) }
-    ensures asked { OnOk result (Asked R.Runner hand.old hand.new entries.old entries.new) }
-    ensures faults { OnOk result (Failed R.Runner hand.old hand.new entries.old entries.new) }
-    ensures later { R.faults hand.old ≤ R.faults hand.new }
-    ensures begun { R.begun hand.new ≡ R.begun hand.old }
-    ensures room { R.rooms hand.new ≡ R.rooms hand.old }
-    ensures gave { SameGave (R.gave hand.new) (R.gave hand.old) }
-    ensures ready { R.ready hand.new }
+    ensures answered { OnOk result (Answered R.Runner hand.old hand.new entries.old entries.new) }
+    ensures stays { StaysOn R.Runner hand.old hand.new }
 {
     match plan {
         Plan::NotSupported => {
@@ -104,14 +90,8 @@ pub(crate) fn run_begun<R: Runner>(
     requires begun { R.begun hand.old ≢ [] }
     requires ready { R.ready hand.old }
     ensures ends { IfOk result (EndsAs R.Runner hand.old test.now entries.new) }
-    ensures limited { OnOk result (AreLimited entries.old → AreLimited entries.new) }
-    ensures asked { OnOk result (Asked R.Runner hand.old hand.new [] entries.new) }
-    ensures faults { OnOk result (Failed R.Runner hand.old hand.new [] entries.new) }
-    ensures later { R.faults hand.old ≤ R.faults hand.new }
-    ensures begun { R.begun hand.new ≡ R.begun hand.old }
-    ensures room { R.rooms hand.new ≡ R.rooms hand.old }
-    ensures gave { SameGave (R.gave hand.new) (R.gave hand.old) }
-    ensures ready { R.ready hand.new }
+    ensures answered { OnOk result (Answered R.Runner hand.old hand.new [] entries.new) }
+    ensures stays { StaysOn R.Runner hand.old hand.new }
 {
     let path = Bytes::from_slice(alloc, test.path.as_slice())?;
     let request = Request::ReadFile { path, limit: LIMIT };

@@ -65,9 +65,9 @@ fn names_told(alloc: Global, found: Discovery) -> Result<Bytes, NoMemory> {
 }
 
 /// What the words of a line find in a tree of these files.
-struct Found(&'static str);
+struct Finds(&'static str);
 
-impl Tells for Found {
+impl Tells for Finds {
     fn told(&self, alloc: Global, given: &str) -> Result<Bytes, NoMemory> {
         found(alloc, self.0, &[], given)
     }
@@ -101,7 +101,7 @@ demo/a/../z => missing /w/demo/z
 
 #[test]
 fn each_file_is_one_test_in_byte_order(rt: HostRuntime) -> Result<(), NoMemory> {
-    each_is_told(&rt, rt.alloc(), FOUND, &Found(FILES))
+    each_is_told(&rt, rt.alloc(), FOUND, &Finds(FILES))
 }
 
 const FAULTY_FILES: &str = r#"/w/p/lit.suite.toml => version = 1~name = "demo"~suffixes = [".txt"]~
@@ -128,7 +128,7 @@ e q/a => demo :: a/a.txt";
 
 #[test]
 fn the_first_refusal_is_told(rt: HostRuntime) -> Result<(), NoMemory> {
-    each_is_told(&rt, rt.alloc(), REFUSED, &Found(FAULTY_FILES))
+    each_is_told(&rt, rt.alloc(), REFUSED, &Finds(FAULTY_FILES))
 }
 
 #[test]

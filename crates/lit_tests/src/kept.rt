@@ -79,9 +79,9 @@ fn kept(alloc: Global, keep: &str, drop: &str) -> Result<Bytes, NoMemory> {
 }
 
 /// The names that are kept where some tests are asked for, and others dropped.
-struct Kept;
+struct Selected;
 
-impl Tells for Kept {
+impl Tells for Selected {
     fn told(&self, alloc: Global, given: &str) -> Result<Bytes, NoMemory> {
         match given.split_once(" => ") {
             Some((keep, drop)) => kept(alloc, keep, drop),
@@ -100,5 +100,5 @@ zz =>  => ";
 
 #[test]
 fn tests_are_kept_and_then_dropped(rt: HostRuntime) -> Result<(), NoMemory> {
-    each_is_told(&rt, rt.alloc(), KEPT, &Kept)
+    each_is_told(&rt, rt.alloc(), KEPT, &Selected)
 }

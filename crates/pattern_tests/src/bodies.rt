@@ -339,9 +339,9 @@ fn counted(alloc: Global, body: &[u8]) -> Result<String, AllocError> {
 }
 
 /// How many pieces the body has that a row spells, or its first refusal.
-struct Counted;
+struct Counts;
 
-impl Tells for Counted {
+impl Tells for Counts {
     fn told(&self, alloc: Global, given: &str) -> Result<String, AllocError> {
         let Some((front, text, end, count)) = fields(given) else {
             return no_row(alloc);
@@ -358,7 +358,7 @@ const RECALLED: &str = " => [[X:a]][[X]] => [[X]][[Y]][[X:a]] => 9 => 21 pieces
 
 #[test]
 fn at_most_nine_definitions_are_recalled(rt: HostRuntime) -> Result<(), AllocError> {
-    each_is_told(&rt, rt.alloc(), RECALLED, &Counted)
+    each_is_told(&rt, rt.alloc(), RECALLED, &Counts)
 }
 
 const HOSTILE: &str = " => [[ =>  => 32768 => NoBlockEnd 65534
@@ -376,7 +376,7 @@ const HOSTILE: &str = " => [[ =>  => 32768 => NoBlockEnd 65534
 
 #[test]
 fn hostile_bodies_are_answered(rt: HostRuntime) -> Result<(), AllocError> {
-    each_is_told(&rt, rt.alloc(), HOSTILE, &Counted)
+    each_is_told(&rt, rt.alloc(), HOSTILE, &Counts)
 }
 
 /// Whether a body is read.

@@ -56,9 +56,9 @@ fn text_of(alloc: Global, bytes: &Bytes) -> Result<String, AllocError> {
 }
 
 /// What a number is printed as in a format.
-struct Printed;
+struct Prints;
 
-impl Tells for Printed {
+impl Tells for Prints {
     fn told(&self, alloc: Global, given: &str) -> Result<String, AllocError> {
         match asked(given) {
             Some((format, value)) => printed(alloc, format, value),
@@ -86,7 +86,7 @@ d => -170141183460469231731687303715884105728 => -170141183460469231731687303715
 
 #[test]
 fn numbers_are_printed_in_their_least_digits(rt: HostRuntime) -> Result<(), AllocError> {
-    each_is_told(&rt, rt.alloc(), PRINTED, &Printed)
+    each_is_told(&rt, rt.alloc(), PRINTED, &Prints)
 }
 
 /// Whether the text of a row is read as this number, or as none.

@@ -1,7 +1,7 @@
 -- Attempts end to end: an attempt's entries are asked along its play, and so along the attempts.
 -- An attempt begins with its first entry; one without an entry leaves all as it was, and one that failed is followed by the next.
 -- The hard one is `again`, an attempt behind others.
-use Rattle.std.proofs.Common.{◌≡◌, ◌≢◌, ◌+◌, ◌≤◌, ◌^◌, ◌⊎◌, inl, inr, ℕ, zero, suc, true, false, List, [], ◌∷◌, ◌++◌, length, append-nil, length-append, refl, sym, ap, subst, ◌∙◌, arith}
+use Rattle.std.proofs.Common.{◌≡◌, ◌≢◌, ◌+◌, ◌≤◌, ◌^◌, ◌⊎◌, inl, inr, ℕ, zero, suc, true, false, List, [], ◌∷◌, ◌++◌, length, append-nil, refl, sym, ap, subst, ◌∙◌, arith}
 use Rattle.tt_outside.specs.Gave.{Gave}
 use Rattle.tt_outside.specs.declared.request.Entry.{Entry}
 use Rattle.tt_outside.specs.declared.request.Request.{Request}
@@ -130,7 +130,3 @@ held shows request next (suc left) begun kept before f = (f, tt, refl)
 
 pub full_as : (kept other : ℕ) (course rest : PlayCourse) → course ≡ rest → other ≡ kept → IsFull other rest → IsFull kept course
 full_as kept other course rest is same full = rw is (rw (sym same) full)
-
--- entries are no fewer than those before them
-pub no_fewer : (entries later more : List Entry) → later ≡ entries ++ more → length entries ≤ length later
-no_fewer entries later more is = let sum = ap length is ∙ length-append entries more in omega (arith, sum)

@@ -1,12 +1,8 @@
 //! A test's attempts, one after the other.
-ghost use Rattle.std.specs.Prelude.{◌≡◌, ◌≢◌, ◌≤◌, ◌+◌, ◌^◌, [], IfOk, OnOk, length};
-ghost use Rattle.tt_outside.specs.Gave.{SameGave, last_of};
-ghost use Rattle.test_course.specs.Bytes.{AreLimited};
-ghost use Rattle.shell_play.specs.Play.{play};
-ghost use Rattle.test_attempts.specs.Attempts.{attempts_of};
+ghost use Rattle.std.specs.Prelude.{◌≡◌, ◌≢◌, ◌≤◌, ◌^◌, [], IfOk, OnOk, length};
 ghost use Rattle.test_attempts.specs.Ends.{is_failed};
-ghost use Rattle.test_attempts.specs.Finish.{Finishes};
-ghost use Rattle.test_attempts.specs.Hands.{Asked, Failed};
+ghost use Rattle.test_attempts.specs.Finish.{FinishesBy};
+ghost use Rattle.test_attempts.specs.Hands.{Answered, StaysOn};
 
 use crate::attempt::{AttemptStop, play_out};
 use mini_shell::Line;
@@ -38,52 +34,37 @@ pub fn run_attempts<'a, R: Runner>(
     test: &'a Test,
     retries: u32,
     entries: &mut Items<Entry>,
-    kept: u64,
+    mut kept: u64,
     hand: &mut R,
 ) -> Result<Finished<'a>, NoMemory>
-    requires few { length lines.now ≤ 1000 }
-    requires retries { retries ≤ 100 }
+    requires bounds { (length lines.now ≤ 1000) × (retries ≤ 100) }
     requires begun { R.begun hand.old ≢ [] }
     requires ready { R.ready hand.old }
     requires kept { kept ≤ 2 ^ 25 }
-    ensures finishes { IfOk result (λ done. Finishes (R.gave hand.old) (last_of 0 (R.begun hand.old)) entries.old entries.new
-        kept (attempts_of (play lines.now test.now) retries) done) }
-    ensures limited { OnOk result (AreLimited entries.old → AreLimited entries.new) }
-    ensures asked { OnOk result (Asked R.Runner hand.old hand.new entries.old entries.new) }
-    ensures faults { OnOk result (Failed R.Runner hand.old hand.new entries.old entries.new) }
-    ensures later { R.faults hand.old ≤ R.faults hand.new }
-    ensures begun { R.begun hand.new ≡ R.begun hand.old }
-    ensures room { R.rooms hand.new ≡ R.rooms hand.old }
-    ensures gave { SameGave (R.gave hand.new) (R.gave hand.old) }
-    ensures ready { R.ready hand.new }
+    ensures finishes { IfOk result (FinishesBy R.Runner hand.old lines.now test.now retries entries.old entries.new kept) }
+    ensures answered { OnOk result (Answered R.Runner hand.old hand.new entries.old entries.new) }
+    ensures stays { StaysOn R.Runner hand.old hand.new }
 {
-    let mut kept = kept;
-    let mut left = retries;
     let mut attempts = 0;
     let mut last = Play::new(alloc, lines, test)?;
-    loop {
+    let stop = loop {
         let before = entries.len();
         let mut play = Play::new(alloc, lines, test)?;
-        let done = play_out(alloc, &mut play, entries, kept, hand)?;
+        let end = play_out(alloc, &mut play, entries, kept, hand)?;
         if entries.len() == before {
-            return Ok(Finished {
-                attempts,
-                last,
-                stop: AttemptStop::TooMuch,
-                kept,
-            });
+            break AttemptStop::TooMuch;
         }
         attempts += 1;
         last = play;
-        kept = done.kept;
-        if left == 0 || !is_failed(&done.stop) {
-            return Ok(Finished {
-                attempts,
-                last,
-                stop: done.stop,
-                kept,
-            });
+        kept = end.kept;
+        if attempts > retries || !is_failed(&end.stop) {
+            break end.stop;
         }
-        left -= 1;
-    }
+    };
+    Ok(Finished {
+        attempts,
+        last,
+        stop,
+        kept,
+    })
 }

@@ -26,7 +26,7 @@ pub returns-clause-asked : goal.returns-clause-asked
 returns-clause-asked g c =
     let few : length c.run_begun.new.entries ≤ MAX_KEPT =
     few_entries (course_of c.in_ok-test.test) _ c.in_ok-ending.ensures.ends.trace.asked in
-    let counted = c.in_ok-ending.ensures.asked (omega (arith, few, c.begin.ensures.asked, c.requires.asked)) in
+    let counted = c.in_ok-ending.ensures.answered.asked (omega (arith, few, c.begin.ensures.asked, c.requires.asked)) in
     omega (arith, counted, c.begin.ensures.asked)
 
 pub invariant_of-result : goal.invariant_of-result
@@ -35,6 +35,5 @@ invariant_of-result g c =
     record {
       ended = ap (λ (x : Ending). x.outcome) (sym ends.told);
       told = ap (λ (x : Ending). x.text) (sym ends.told);
-      light = few_bytes (course_of c.in_ok-test.test) _ ends.trace.asked
-          (c.in_ok-ending.ensures.limited (rw c.new-entries.ensures tt));
+      light = few_bytes (course_of c.in_ok-test.test) _ ends.trace.asked (c.in_ok-ending.ensures.answered.limited tt);
     }
