@@ -1,24 +1,14 @@
 -- Tests in byte order of their paths, each path once.
 -- Idea: files that are sorted and of which equal neighbours are dropped ascend, and have the paths that there were.
 -- The hard one is `in_order`.
-use Rattle.std.proofs.Common.{◌≡◌, Bool, true, List, [], ◌∷◌, map, refl, sym}
-use Rattle.std.specs.List.{Any, Contains, dedup}
+use Rattle.lit_find.proofs.Names.{◌≡◌, Bool, true, List, [], ◌∷◌, map, refl, sym, Any, Contains, dedup, AllByRecursion, eq_by_cmp_equiv, on_texts, slice_cmp, is_eq, is_lt, nat_cmp, Ordering, Less, test_in, IsInOrder, TestFile}
 use Rattle.std.specs.List.Sorted.{IsPermutation, IsSortedBy, IsStrictlySortedBy}
-use Rattle.std.specs.List.{AllByRecursion}
-use Rattle.std.specs.Cmp.{eq_by_cmp_equiv}
-use Rattle.std.specs.Cmp.Lexicographic.{on_texts, slice_cmp}
-use Rattle.std.specs.Ordering.{is_eq, is_lt, nat_cmp}
-use Rattle.std.specs.declared.cmp.Ordering.{Ordering}
-use Rattle.std.specs.declared.cmp.Ordering.TheVariants.{Less}
 use Rattle.std.proofs.lemmas.List.Elements.{All-contains_itself, All-map, All-weaker}
 use Rattle.std.proofs.lemmas.List.Filters.{All-dedup}
 use Rattle.std.proofs.lemmas.List.Kept.{Any-dedup, IsStrictlySortedBy-dedup}
 use Rattle.std.proofs.lemmas.List.Sorted.{All-permutation, Contains-permutation}
 use Rattle.std.proofs.lemmas.Map.Lookups.{exact_bytes}
 use Rattle.std.proofs.lemmas.Map.Views.{tells_apart}
-use Rattle.lit_find.specs.Files.{test_in}
-use Rattle.lit_find.specs.Found.{IsInOrder}
-use Rattle.lit_find.specs.declared.place.TestFile.{TestFile}
 use Rattle.lit_look.proofs.ListLemmas.{any_one, contains_map, its_one}
 
 abbrev pub file_cmp : TestFile → TestFile → Ordering

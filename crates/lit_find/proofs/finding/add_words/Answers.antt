@@ -1,8 +1,6 @@
-use Rattle.std.proofs.Common.{◌∷◌, ◌++◌, ◌+◌, ◌<◌, [], length, map, take, drop, sym, ap, subst, ◌∙◌, arith}
+use Rattle.lit_find.proofs.Names.{◌∷◌, ◌++◌, ◌+◌, ◌<◌, [], length, map, take, drop, sym, ap, subst, ◌∙◌, arith, joined, IsCovered}
 use Rattle.std.proofs.lemmas.List.{map_more}
-use Rattle.lit_paths.specs.Paths.{joined}
 use Rattle.lit_look.proofs.TreeLemmas.{leaves_on}
-use Rattle.lit_find.specs.Walk.{IsCovered}
 use Rattle.lit_find.proofs.AnswerLemmas.{words_cut, words_refused}
 use Rattle.lit_find.proofs.finding.add_words.Goals as goal
 
