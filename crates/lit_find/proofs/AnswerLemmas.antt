@@ -1,8 +1,7 @@
 -- What a discovery answers, by what its words gave and by the files that were found.
 -- Idea: each file that the words make a test was found, since each directory above it was walked through.
 -- The hard one is `test_found`.
-use Rattle.lit_find.proofs.Names.{◌≡◌, ℕ, ◌+◌, ◌<◌, true, false, ◌⊎◌, inl, inr, List, [], ◌∷◌, ◌++◌, length, map, take, drop, get_or, All, Option, Some, None, IfSome, Result, Ok, Err, refl, sym, ap, ◌∙◌, subst, arith, Any, Contains, Test, Node, are_nested, File, Parts, joined, text_of, kind_of, DiscoverFault, NoTests, TooMany, Told, Looked, IsBelow, IsTest, LooksAt, AnswersTo, AreTests, Discovers, IsInOrder, IsRight, HasPlace, IsClear, IsRefused, RefusesWord, GivesWord, GivesWords, HasTest, IsCovered, Walked, Walks, was_walked, Walk}
-use Rattle.std.proofs.lemmas.List.{drop_more, map-append, take-append-drop}
+use Rattle.lit_find.proofs.Names.{◌≡◌, ℕ, true, false, ◌⊎◌, inl, inr, List, [], ◌∷◌, ◌++◌, map, All, Option, Some, None, IfSome, Result, Ok, Err, refl, sym, ap, ◌∙◌, subst, arith, Any, Contains, Test, Node, are_nested, File, Parts, joined, text_of, kind_of, DiscoverFault, NoTests, TooMany, Told, Looked, IsBelow, IsTest, LooksAt, AnswersTo, AreTests, Discovers, IsInOrder, IsRight, HasPlace, IsClear, IsRefused, RefusesWord, GivesWord, GivesWords, HasTest, IsCovered, Walked, Walks, was_walked, Walk}
 use Rattle.std.proofs.lemmas.Bool.{both_ways}
 use Rattle.std.proofs.lemmas.List.Elements.{All-contains, All-nil, All-weaker}
 use Rattle.lit_paths.specs.Paths.{parts_of}
@@ -86,15 +85,6 @@ pub discovers_refusal : (told : Option (List Node)) (base : List ℕ) (texts : L
     → Walks told base texts (Err fault) → Discovers told base texts (Err fault)
 discovers_refusal None base texts fault walks = tt
 discovers_refusal (Some nodes) base texts fault walks = answers_refusal nodes _ fault walks
-
--- ---- words one by one
-
-pub words_cut : {A B : Type 0} (f : A → B) (xs : List A) (i : ℕ) (x : A) → i < length xs → x ≡ get_or xs i x
-    → map f xs ≡ map f (take i xs) ++ f x ∷ map f (drop (i + 1) xs)
-words_cut f xs i x within is =
-    let cut = drop_more xs i x within ∙ ap (λ one. one ∷ drop (i + 1) xs) (sym is) in
-    ap (map f) (sym (take-append-drop i xs) ∙ ap (λ ys. take i xs ++ ys) cut)
-    ∙ map-append f (take i xs) (x ∷ drop (i + 1) xs)
 
 -- ---- before the first word
 

@@ -1,8 +1,8 @@
 -- What the lemmas of this crate speak of.
-pub use Rattle.std.proofs.Common.{◌&&◌, ◌++◌, ◌+◌, ◌-◌, ◌<◌, ◌||◌, ◌∙◌, ◌∷◌, ◌≡◌, ◌≢◌, ◌≤◌, ◌⊎◌, [], All, ap, append-nil, append_assoc, arith, Bool, cond, drop, Err, false, get_or, IfOk, IfSome, inl, inr, length, length-append, List, map, MatchOption, None, not, Ok, OnErr, OnOk, Option, refl, Result, rules, Some, subst, sym, take, true, true≢false, ℕ}
+pub use Rattle.std.proofs.Common.{◌&&◌, ◌++◌, ◌+◌, ◌-◌, ◌<◌, ◌||◌, ◌∙◌, ◌∷◌, ◌≡◌, ◌≢◌, ◌≤◌, ◌⊎◌, [], All, ap, append-nil, append_assoc, arith, Bool, cond, drop, Err, false, IfOk, IfSome, inl, inr, length, length-append, List, map, MatchOption, None, not, Ok, OnErr, OnOk, Option, refl, Result, rules, Some, subst, sym, take, true, true≢false, ℕ}
 pub use Rattle.std.specs.Cmp.{eq_by_cmp_equiv, IsTotalOrder}
 pub use Rattle.std.specs.Cmp.Lexicographic.{on_texts, slice_cmp}
-pub use Rattle.std.specs.List.{AllByRecursion, Any, Contains, count_by, dedup, find, list_all, list_any, sum_by}
+pub use Rattle.std.specs.List.{Any, Contains, count_by, dedup, find, list_all, list_any}
 pub use Rattle.std.specs.Option.{option_map, unwrap_or}
 pub use Rattle.std.specs.Ordering.{is_eq, is_lt, match_ordering, nat_cmp, ordering_then}
 pub use Rattle.std.specs.Prelude.{Vec, ⊤}

@@ -1,39 +1,20 @@
 -- How long a walk may take: each further directory makes the room no greater, and where the tree tells what stands in it a
 -- directory that was looked at has room. Idea: what is walked through was counted, and all that was counted is in bounds.
--- The hard ones are `sums_more`, and `counted`, that a directory lists no more items than were counted.
-use Rattle.lit_find.proofs.Names.{◌≡◌, ℕ, ◌+◌, ◌-◌, ◌≤◌, ◌||◌, Bool, true, false, cond, inl, inr, List, [], ◌∷◌, ◌++◌, length, not, refl, sym, ap, ◌∙◌, subst, arith, Contains, count_by, find, list_any, sum_by, option_map, unwrap_or, eq_by_cmp_equiv, Lists, names_differ, Item, Node, Parts, text_of, Counts, Extends, count_items, SuiteRoot, Looked, IsThrough, room, same_text, spent, was_walked, Walk}
+-- The hard one is `counted`, that a directory lists no more items than were counted.
+use Rattle.lit_find.proofs.Names.{◌≡◌, ℕ, ◌+◌, ◌-◌, ◌≤◌, ◌||◌, Bool, true, false, cond, List, [], ◌∷◌, ◌++◌, length, not, sym, ap, ◌∙◌, subst, arith, Contains, count_by, find, list_any, option_map, unwrap_or, eq_by_cmp_equiv, Lists, names_differ, Item, Node, Parts, text_of, Counts, Extends, count_items, SuiteRoot, Looked, IsThrough, room, same_text, spent, was_walked, Walk}
 use Rattle.std.specs.Str.{bytes_eq}
 use Rattle.std.proofs.lemmas.Bool.{or_left}
-use Rattle.std.proofs.lemmas.List.Sums.{count_by-le-length, sum_by-append, sum_by-cons, sum_by-le-sum_by}
+use Rattle.std.proofs.lemmas.List.Sums.{count_by-le-length, sum_by-append}
 use Rattle.std.proofs.lemmas.Cmp.{nat_list_cmp_total}
 use Rattle.std.proofs.lemmas.Slice.Eq.{bytes_eq-Decides}
 use Rattle.lit_paths.proofs.PartLemmas.{and_left, and_right, false_of}
-use Rattle.lit_look.proofs.ListLemmas.{cons_cases, first_in, found_in, later_in, none_in}
+use Rattle.lit_look.proofs.ListLemmas.{at_most, first_in, found_in, later_in, or_more, sums_more}
 use Rattle.lit_find.proofs.InsideLemmas.{mapped, named_item}
 use Rattle.lit_find.proofs.PlaceLemmas.{items_length}
 
 -- what a directory spends
 abbrev weight : Walk → Looked → ℕ
 weight walk looked = cond (was_walked walk (text_of looked.dir)) looked.count 0
-
-at_most : (b : Bool) (n : ℕ) → cond b n 0 ≤ n
-at_most true n = omega arith
-at_most false n = omega arith
-
-or_more : (a b : Bool) (n : ℕ) → cond b n 0 ≤ cond (a || b) n 0
-or_more true b n = at_most b n
-or_more false b n = omega arith
-
--- a sum that is greater by some in one place
-sums_more : {A : Type 0} (f g : A → ℕ) (n : ℕ) (xs : List A) (x : A) → ((y : A) → f y ≤ g y) → Contains xs x
-    → f x + n ≤ g x → sum_by f xs + n ≤ sum_by g xs
-sums_more f g n [] x each within more = absurd (none_in x within)
-sums_more f g n (y ∷ ys) x each within more = elim (cons_cases y x ys within) [
-  | inl same ↦
-      let here : f y + n ≤ g y = subst (λ z. f z + n ≤ g z) same more in
-      omega (arith, sum_by-cons f y ys, sum_by-cons g y ys, sum_by-le-sum_by f g ys each)
-  | inr later ↦ omega (arith, sum_by-cons f y ys, sum_by-cons g y ys, each y, sums_more f g n ys x each later more)
-]
 
 -- ---- each directory
 

@@ -1,7 +1,7 @@
 -- What one directory of a walk gives, and what refuses it.
 -- Idea: of each directory that was walked through, those in it were begun, and its tests are found; both stay so. What was
 -- looked at in the walk stands before all that is to be walked through. The hard ones are `through_next` and `before_first`.
-use Rattle.lit_find.proofs.Names.{◌≡◌, ℕ, ◌+◌, ◌≤◌, length, true, false, ◌||◌, ◌⊎◌, inl, inr, List, [], ◌∷◌, ◌++◌, map, All, Err, refl, sym, ap, ◌∙◌, subst, eq_by_cmp_equiv, Contains, unwrap_or, Item, ItemKind, Dir, File, Other, Node, Lists, Parts, text_of, DiscoverFault, GivesLook, IsAbsent, AreSeen, Has, IsLook, RefusesNext, SuiteRoot, Looked, IsBelow, IsIn, IsWalked, IsRight, IsBefore, IsRefusedDown, with_items, GivesWalk, HasPath, HasTest, IsAhead, IsDone, IsState, IsThrough, IsWalk, Walked, same_text, spent, was_walked, with_first, Place, Walk, Extends, count_items, Option, Some, Ok, IfSome, IsNumberOf, arith}
+use Rattle.lit_find.proofs.Names.{◌≡◌, ℕ, ◌+◌, ◌≤◌, length, true, false, ◌||◌, ◌⊎◌, inl, inr, List, [], ◌∷◌, ◌++◌, map, All, Err, refl, sym, ap, ◌∙◌, subst, eq_by_cmp_equiv, Contains, unwrap_or, Item, ItemKind, Dir, File, Other, Node, Parts, text_of, DiscoverFault, GivesLook, IsAbsent, AreSeen, Has, IsLook, RefusesNext, SuiteRoot, Looked, IsBelow, IsIn, IsWalked, IsRight, IsBefore, IsRefusedDown, with_items, GivesWalk, HasPath, HasTest, IsAhead, IsDone, IsState, IsThrough, IsWalk, Walked, same_text, spent, was_walked, with_first, Place, Walk, Extends, count_items, Option, Some, Ok, IfSome, IsNumberOf, arith}
 use Rattle.std.proofs.lemmas.Bool.{or_cases, or_left, or_right}
 use Rattle.std.proofs.lemmas.Cmp.{nat_list_cmp_total}
 use Rattle.std.proofs.lemmas.List.Elements.{All-contains, All-head, All-map, All-tail, All-weaker}
@@ -64,31 +64,6 @@ first_done place old new here keeps waits finds Dir path (inr had) =
     ]
 first_done place old new here keeps waits finds File path had = finds path had
 first_done place old new here keeps waits finds Other path done = tt
-
--- a directory was looked at, and lists these items
-pub record WasSeen (nodes : List Node) (dir : Parts) (old new : List Looked) (looked : Looked) (items : List Item)
-    : Type 0 where
-  pub looks : AreSeen nodes (λ one. Has old one ⊎ (one ≡ dir)) new
-  pub extends : Extends old new
-  pub within : Contains new looked
-  pub here : looked.dir ≡ dir
-  pub lists : Lists nodes (text_of dir) items
-
-pub was_seen : (nodes : List Node) (old new : List Looked) (at dir : Parts) (found : Option (ℕ × List Item)) (number : ℕ)
-    (items : List Item) (looked : Looked) → at ≡ dir → found ≡ Some (number, items)
-    → GivesListed nodes at old new (Ok found) → IfSome found (λ one. IsNumberOf new at one.0)
-    → slice_get new number ≡ Some looked → Extends old new → WasSeen nodes dir old new looked items
-was_seen nodes old new at dir found number items looked same is gives numbered there extends =
-    let (looks, lists) = subst (WasListed nodes dir old new) is (subst (λ one. WasListed nodes one old new found) same gives) in
-    let its = subst (λ o. IfSome o (λ one. IsNumberOf new dir one.0)) is
-    (subst (λ d. IfSome found (λ one. IsNumberOf new d one.0)) same numbered) in
-    record {
-      looks = looks;
-      extends = extends;
-      within = has_at new number looked there;
-      here = dir_at new dir number looked its there;
-      lists = lists;
-    }
 
 module _ (nodes : List Node) (words : List Parts) (word : Parts) (first old : List Looked) (place : Place) (before : Walk)
     (is : IsWalk nodes words word first old (with_first place before))
@@ -219,45 +194,49 @@ module _ (nodes : List Node) (words : List Parts) (word : Parts) (first old : Li
       next_walk old before (again nodes old place.path is.looks (is.looked place.path done)) (again_next done) is.within
 
   -- what a look at it gave, where it wasn't walked through
-  module _ (new : List Looked) (looked : Looked) (items : List Item) (seen : WasSeen nodes place.path old new looked items)
-      (fresh : was_walked before (text_of place.path) ≡ false) where
-    abbrev at : Parts → Looked
-    at dir = record { dir = dir; count = looked.count; suite = looked.suite }
+  module _ (new : List Looked) (at : Parts) (found : Option (ℕ × List Item)) (number : ℕ) (items : List Item) (looked : Looked)
+      (same : at ≡ place.path) (some : found ≡ Some (number, items)) (gives : GivesListed nodes at old new (Ok found))
+      (numbered : IfSome found (λ one. IsNumberOf new at one.0)) (there : slice_get new number ≡ Some looked)
+      (extends : Extends old new) (fresh : was_walked before (text_of place.path) ≡ false) where
+    listed : WasListed nodes place.path old new (Some (number, items))
+    listed = subst (WasListed nodes place.path old new) some (subst (λ one. WasListed nodes one old new found) same gives)
 
-    look : IsLook nodes (at place.path)
-    look =
-        subst (λ dir. IsLook nodes (at dir)) seen.here
-        (All-contains (IsLook nodes) new looked seen.looks.looks seen.within)
+    within : Contains new looked
+    within = has_at new number looked there
+
+    here : looked.dir ≡ place.path
+    here =
+        dir_at new at number looked (subst (λ o. IfSome o (λ one. IsNumberOf new at one.0)) some numbered) there ∙ same
+
+    abbrev in_dir : Parts → Looked
+    in_dir dir = record { dir = dir; count = looked.count; suite = looked.suite }
+
+    look : IsLook nodes (in_dir place.path)
+    look = subst (λ dir. IsLook nodes (in_dir dir)) here (All-contains (IsLook nodes) new looked listed.0.looks within)
 
     unspent : was_walked before (text_of looked.dir) ≡ false
-    unspent = ap (λ dir. was_walked before (text_of dir)) seen.here ∙ fresh
+    unspent = ap (λ dir. was_walked before (text_of dir)) here ∙ fresh
+
+    few : length items ≤ looked.count
+    few = counted nodes place.path items looked.count listed.1 look.counts
 
     pub its_room : before.taken + length items ≤ count_items new
-    its_room =
-        omega (
-          arith,
-          is.within,
-          spent_longer old new before seen.extends,
-          has_room new looked before seen.within unspent,
-          counted nodes place.path items looked.count seen.lists look.counts,
-        )
+    its_room = omega (arith, is.within, few, spent_longer old new before extends, has_room new looked before within unspent)
 
     pub visited : (after : Walk) → IsThrough looked items place.suite before after → IsWalk nodes words word first new after
     visited after through =
-        next_walk new after seen.looks
+        let its = subst (λ dir. IsThrough (in_dir dir) items place.suite before after) here through in
+        next_walk new after listed.0
         (through_next items (unwrap_or looked.suite place.suite) after
-        (is_of nodes word place items looked.count looked.suite its_ahead look seen.lists) its.marked its.sorted)
+        (is_of nodes word place items looked.count looked.suite its_ahead look listed.1) its.marked its.sorted)
         (omega (
           arith,
           through.taken,
           is.within,
-          spent_longer old new before seen.extends,
-          spent_more new looked before seen.within unspent through,
-          counted nodes place.path items looked.count seen.lists look.counts,
+          few,
+          spent_longer old new before extends,
+          spent_more new looked before within unspent through,
         ))
-      where
-        its : IsThrough (at place.path) items place.suite before after
-        its = subst (λ dir. IsThrough (at dir) items place.suite before after) seen.here through
 
   -- ---- it is refused
 

@@ -1,16 +1,16 @@
 -- One more word: the directories up to its suite, a word that is a file, and the walk of one that is a directory.
 -- Idea: what was looked at for earlier words doesn't count again; where nothing is before the walk, each directory that is
 -- walked through from the word was, since it was begun. The hard one is `walk_ends`.
-use Rattle.lit_find.proofs.Names.{◌≡◌, ◌≢◌, ℕ, true, ◌⊎◌, inl, inr, List, [], ◌∷◌, ◌++◌, length, All, Option, Some, None, Result, Ok, Err, OnOk, refl, sym, ap, ◌∙◌, subst, append-nil, arith, Any, Contains, list_all, Node, Test, ItemKind, Dir, File, are_nested, is_part, Parts, dir_of, text_of, kind_of, DiscoverFault, Missing, AreSeenUp, Extends, GivesNearest, IsAbsent, RefusesUp, AreSeen, Has, LiesIn, Rooted, looked_up, nearest, or_else, rooted, rooted_at, SuiteRoot, Looked, IsBelow, IsLookedAt, IsTest, IsWalked, LooksAt, start_at, start_of, test_in, IsRight, IsBefore, path_order, put, HasPlace, IsDue, IsRefusedDown, RefusesWord, Stands, with_path, GivesWalk, GivesWord, IsAhead, IsCovered, IsDone, IsState, IsWalk, Walked, Walk}
+use Rattle.lit_find.proofs.Names.{◌≡◌, ◌≢◌, ℕ, true, ◌⊎◌, inl, inr, List, [], ◌∷◌, ◌++◌, length, All, Option, Some, None, Result, Ok, Err, OnOk, refl, sym, ap, ◌∙◌, subst, append-nil, arith, Contains, list_all, Node, Test, ItemKind, Dir, File, are_nested, is_part, Parts, dir_of, text_of, kind_of, DiscoverFault, Missing, AreSeenUp, Extends, GivesNearest, IsAbsent, RefusesUp, AreSeen, Has, LiesIn, Rooted, looked_up, nearest, or_else, rooted, rooted_at, SuiteRoot, Looked, IsBelow, IsLookedAt, IsTest, IsWalked, LooksAt, start_at, start_of, test_in, IsRight, IsBefore, path_order, put, HasPlace, IsDue, IsRefusedDown, RefusesWord, Stands, with_path, GivesWalk, GivesWord, IsAhead, IsCovered, IsDone, IsState, IsWalk, Walked, Walk}
 use Rattle.std.proofs.lemmas.List.Quantifiers.{Any-push}
-use Rattle.std.proofs.lemmas.List.Elements.{All-cons, All-nil, All-push, All-weaker, Contains-append_left, Contains-push, Contains-push_cases}
+use Rattle.std.proofs.lemmas.List.Elements.{All-cons, All-nil, All-push, All-weaker, Contains-push, Contains-push_cases}
 use Rattle.lit_suite.specs.declared.suite_file.Suite.{Suite}
 use Rattle.lit_suite.specs.declared.suite_file.SuiteFault.{SuiteFault}
 use Rattle.lit_dirs.specs.Suites.{suite_at}
 use Rattle.lit_look.proofs.ClimbLemmas.{no_parts}
 use Rattle.lit_look.proofs.DirLemmas.{above_is_dir}
 use Rattle.lit_look.proofs.SeenLemmas.{further, looks_of, same_seen}
-use Rattle.lit_look.proofs.ListLemmas.{any_one, its_one}
+use Rattle.lit_look.proofs.ListLemmas.{any_cases, any_longer}
 use Rattle.lit_look.proofs.SuiteLemmas.{nearest_here}
 use Rattle.lit_look.proofs.TreeLemmas.{told}
 use Rattle.lit_find.proofs.FileLemmas.{right_test}
@@ -20,20 +20,6 @@ use Rattle.lit_find.proofs.RoomLemmas.{spent_longer}
 use Rattle.lit_find.proofs.VisitLemmas.{all_reached}
 
 -- ---- one more word
-
-any_longer : (P : Parts → Type 0) (words : List Parts) (word : Parts) → Any P words → Any P (words ++ word ∷ [])
-any_longer P words word any =
-    let (one, within, p) = its_one P words any in
-    any_one P (words ++ word ∷ []) one (Contains-append_left words (word ∷ []) one within) p
-
-any_cases : (P : Parts → Type 0) (words : List Parts) (word : Parts) → Any P (words ++ word ∷ [])
-    → Any P words ⊎ P word
-any_cases P words word any =
-    let (one, within, p) = its_one P (words ++ word ∷ []) any in
-    elim (Contains-push_cases words word one within) [
-      | inl early ↦ inl (any_one P words one early p)
-      | inr last ↦ inr (subst P (sym last) p)
-    ]
 
 -- the tests of some words are tests of these and one more
 tests_longer : (nodes : List Node) (words : List Parts) (word : Parts) (found : List Test)

@@ -1,6 +1,6 @@
 -- What a walk through directories keeps: those that were walked through, those before it, and the tests found.
 -- Own rule: a directory is walked through once in a discovery, whatever words name it.
-use Rattle.std.specs.Prelude.{◌≡◌, ℕ, ◌+◌, ◌-◌, ◌≤◌, Bool, true, false, ◌||◌, if◌then◌else◌, List, [], ◌∷◌, ◌++◌, length, map, All, Vec, Option, None, Some, Result, Ok, Err, ◌⊎◌, ⊤}
+use Rattle.std.specs.Prelude.{◌≡◌, ℕ, ◌+◌, ◌-◌, ◌≤◌, Bool, true, ◌||◌, if◌then◌else◌, List, [], ◌∷◌, ◌++◌, length, map, All, Vec, Option, None, Some, Result, Ok, Err, ◌⊎◌, ⊤}
 use Rattle.std.specs.List.{Contains, list_all, list_any, sum_by}
 use Rattle.std.specs.BTreeSet.{BTreeSet}
 use Rattle.std.specs.declared.alloc.Global.{Global}

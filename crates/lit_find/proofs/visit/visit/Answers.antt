@@ -5,7 +5,7 @@ use Rattle.lit_find.proofs.Names.{◌≡◌, length, Some, Ok, Err, IfSome, sym,
 use Rattle.std.proofs.lemmas.Option.{slice_get_within}
 use Rattle.lit_look.specs.Looks.{GivesListed}
 use Rattle.lit_find.proofs.RoomLemmas.{room_entered}
-use Rattle.lit_find.proofs.VisitLemmas.{its_ahead, its_room, visit_refused, visited, visited_again, was_seen}
+use Rattle.lit_find.proofs.VisitLemmas.{its_ahead, its_room, visit_refused, visited, visited_again}
 use Rattle.lit_find.proofs.visit.visit.Goals as goal
 
 pub returns-then-contains-clause-gives : goal.returns-then-contains-clause-gives
@@ -23,14 +23,11 @@ at-looked-requires g c =
 
 pub returns-then-len-saturating_sub-clause-gives : goal.returns-then-len-saturating_sub-clause-gives
 returns-then-len-saturating_sub-clause-gives g c = λ least nodes words word first told is.
-    let looked = c.at-looked.result.now in
-    let new = c.look_through.new.seen in
-    let items = c.in-Ok-Some.items in
-    let fits = its_room nodes words word first c.args.seen.now c.args.place c.args.walk.now is least new looked items
-    (was_seen nodes c.args.seen.now new c.as_slice-dir.result.now c.args.place.path c.in-Ok-Some.field-0
-    c.in-Ok-Some.number items looked c.as_slice-dir.ensures c.in-Ok-Some.field-0-is
-    (c.in-Ok-Some.ensures.gives nodes told is.looks) c.in-Ok-Some.ensures.number c.at-looked.ensures.is
-    c.in-Ok-Some.ensures.extends)
+    let listed = c.in-Ok-Some in
+    let fits = its_room nodes words word first c.args.seen.now c.args.place c.args.walk.now is least c.look_through.new.seen
+    c.as_slice-dir.result.now listed.field-0 listed.number listed.items c.at-looked.result.now c.as_slice-dir.ensures
+    listed.field-0-is (listed.ensures.gives nodes told is.looks) listed.ensures.number c.at-looked.ensures.is
+    listed.ensures.extends
     (ap (has_text c.args.walk.now.walked) (sym (c.as_slice.ensures ∙ c.in_ok-path.ensures ∙ ap text_of c.as_slice-dir.ensures))
     ∙ sym c.contains.ensures ∙ c.if-contains.false) in
     absurd (omega (
@@ -54,18 +51,15 @@ enter-requires-clause-room g c =
 
 pub returns-in-Ok-clause-gives : goal.returns-in-Ok-clause-gives
 returns-in-Ok-clause-gives g c = λ least nodes words word first told is.
-    let looked = c.at-looked.result.now in
-    let new = c.look_through.new.seen in
-    let items = c.in-Ok-Some.items in
-    visited nodes words word first c.args.seen.now c.args.place c.args.walk.now is least new looked items
-    (was_seen nodes c.args.seen.now new c.as_slice-dir.result.now c.args.place.path c.in-Ok-Some.field-0
-    c.in-Ok-Some.number items looked c.as_slice-dir.ensures c.in-Ok-Some.field-0-is
-    (c.in-Ok-Some.ensures.gives nodes told is.looks) c.in-Ok-Some.ensures.number c.at-looked.ensures.is
-    c.in-Ok-Some.ensures.extends)
+    let listed = c.in-Ok-Some in
+    visited nodes words word first c.args.seen.now c.args.place c.args.walk.now is least c.look_through.new.seen
+    c.as_slice-dir.result.now listed.field-0 listed.number listed.items c.at-looked.result.now c.as_slice-dir.ensures
+    listed.field-0-is (listed.ensures.gives nodes told is.looks) listed.ensures.number c.at-looked.ensures.is
+    listed.ensures.extends
     (ap (has_text c.args.walk.now.walked) (sym (c.as_slice.ensures ∙ c.in_ok-path.ensures ∙ ap text_of c.as_slice-dir.ensures))
     ∙ sym c.contains.ensures ∙ c.if-contains.false) c.enter.new.walk
-    (subst (λ all. IsThrough looked all c.args.place.suite c.args.walk.now c.enter.new.walk) c.as_slice-in-Ok-Some.ensures
-    c.in-Ok.ensures)
+    (subst (λ all. IsThrough c.at-looked.result.now all c.args.place.suite c.args.walk.now c.enter.new.walk)
+    c.as_slice-in-Ok-Some.ensures c.in-Ok.ensures)
 
 pub returns-in-Ok-clause-room : goal.returns-in-Ok-clause-room
 returns-in-Ok-clause-room g c =
