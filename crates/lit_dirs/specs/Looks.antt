@@ -1,7 +1,7 @@
 -- What refuses a directory that is looked at, and what looking at it gives.
 -- Own rule: a Python configuration comes before the suite file; the least one in byte order is told.
 use Rattle.std.specs.Prelude.{◌≡◌, ◌≢◌, ℕ, nat_lt, Bool, true, false, codes, if◌then◌else◌, List, [], ◌∷◌, ◌++◌, length, Option, None, Some, Result, Ok, Err, ◌⊎◌, ⊤}
-use Rattle.std.specs.List.{find}
+use Rattle.std.specs.List.{All, find}
 use Rattle.std.specs.Option.{option_map}
 use Rattle.std.specs.Str.{bytes_eq}
 use Rattle.lit_paths.specs.Paths.{Parts, text_of}
@@ -9,6 +9,7 @@ use Rattle.lit_suite.specs.declared.suite_file.Suite.{Suite}
 use Rattle.lit_suite.specs.declared.suite_file.SuiteFault.{SuiteFault}
 use Rattle.lit_suite.specs.Suites.{suite_file}
 use Rattle.tt_outside.specs.declared.tree.Node.{Node}
+use Rattle.tt_outside.specs.declared.tree.Counted.{Counted}
 use Rattle.tt_outside.specs.declared.tree.Item.{Item}
 use Rattle.tt_outside.specs.declared.tree.ItemKind.{ItemKind}
 use Rattle.tt_outside.specs.declared.tree.ItemKind.TheVariants.{File, Dir, Other}
@@ -36,6 +37,10 @@ python_names =
     codes "lit.cfg" ∷ codes "lit.cfg.py" ∷ codes "lit.local.cfg" ∷ codes "lit.local.cfg.py" ∷ codes "lit.site.cfg"
     ∷ codes "lit.site.cfg.py" ∷ []
 
+-- the names that a directory is looked at for: its suite file, and those
+abbrev pub config_names : List (List ℕ)
+config_names = codes "lit.suite.toml" ∷ python_names
+
 -- the item of a name, and the first of some names under which a file is listed
 abbrev pub item_named : List Item → List ℕ → Option Item
 item_named items name = find (λ item. bytes_eq item.name name) items
@@ -50,6 +55,16 @@ python_of items = first_file items python_names
 -- the least Python configuration in a directory
 abbrev pub python_in : List Node → Parts → Option (List ℕ)
 python_in nodes dir = find (λ name. is_file (kind_of nodes (dir ++ name ∷ []))) python_names
+
+-- items tell what stands in a directory under these names
+abbrev pub Shows : List Node → Parts → List Item → Type 0
+Shows nodes dir items = All (λ name. map.kind_of items name ≡ kind_of nodes (dir ++ name ∷ [])) config_names
+
+-- a directory lists so many items
+pub record Counts (nodes : List Node) (dir : Parts) (count : ℕ) : Type 0 where
+  pub items : List Item
+  pub lists : Lists nodes (text_of dir) items
+  pub all : count ≡ length items
 
 abbrev pub reading_fault : List ℕ → Result Suite SuiteFault → Option DiscoverFault
 reading_fault path (Ok suite) = None
@@ -91,16 +106,25 @@ IsGone dir fault = ⊤
 
 -- ---- answers, where the tree tells
 
--- A directory's items are given, or none of a file. Missing is told of a path where neither stands.
-abbrev pub GivesListing : Option (List Node) → Parts → Result (Option (List Item)) DiscoverFault → Type 0
-GivesListing None dir result = ⊤
-GivesListing (Some nodes) dir (Ok (Some items)) = Lists nodes (text_of dir) items
-GivesListing (Some nodes) dir (Ok None) = kind_of nodes dir ≡ Some File
-GivesListing (Some nodes) dir (Err (Missing path)) =
+-- What is right of a directory is given, or none of a file. Missing is told of a path where neither stands.
+abbrev pub GivesDir : {A : Type 0} → (List Node → A → Type 0) → Option (List Node) → Parts → Result (Option A) DiscoverFault
+    → Type 0
+GivesDir Right None dir result = ⊤
+GivesDir Right (Some nodes) dir (Ok (Some given)) = Right nodes given
+GivesDir Right (Some nodes) dir (Ok None) = kind_of nodes dir ≡ Some File
+GivesDir Right (Some nodes) dir (Err (Missing path)) =
     (path ≡ text_of dir) × (kind_of nodes dir ≢ Some Dir) × (kind_of nodes dir ≢ Some File)
-GivesListing (Some nodes) dir (Err TreeFault) = ⊤
-GivesListing (Some nodes) dir (Err NoMemory) = ⊤
-GivesListing (Some nodes) dir (Err fault) = ⊥
+GivesDir Right (Some nodes) dir (Err TreeFault) = ⊤
+GivesDir Right (Some nodes) dir (Err NoMemory) = ⊤
+GivesDir Right (Some nodes) dir (Err fault) = ⊥
+
+-- a directory's items are given
+abbrev pub GivesListing : Option (List Node) → Parts → Result (Option (List Item)) DiscoverFault → Type 0
+GivesListing told dir = GivesDir (λ nodes. Lists nodes (text_of dir)) told dir
+
+-- how many items a directory has, and what stands under the names that it is looked at for
+abbrev pub GivesCounting : Option (List Node) → Parts → Result (Option Counted) DiscoverFault → Type 0
+GivesCounting told dir = GivesDir (λ nodes few. Counts nodes dir few.count × Shows nodes dir few.named) told dir
 
 -- The suite file's fault is told, or what it reads as. Missing is told where there is none.
 abbrev pub GivesReading : Option (List Node) → Parts → Result Suite DiscoverFault → Type 0

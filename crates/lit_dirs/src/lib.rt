@@ -11,6 +11,6 @@ mod passing;
 
 pub use additions::tools_of;
 pub use fault::DiscoverFault;
-pub use looking::{list_dir, look_in};
+pub use looking::{count_dir, list_dir, look_in};
 pub use making::{name_of, test_of};
 pub use passing::{has_suffix, is_passed};

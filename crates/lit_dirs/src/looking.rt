@@ -1,19 +1,18 @@
 //! What a directory tells.
 ghost use Rattle.std.specs.Prelude.{◌≡◌, ◌≤◌, ◌++◌, ◌∷◌, [], IfErr, IfOk, IfSome};
 ghost use Rattle.tt_outside.specs.Faults.{Rose};
-ghost use Rattle.tt_outside.specs.TreeMap.{Lists};
 ghost use Rattle.lit_suite.specs.Whole.{IsWhole};
 ghost use Rattle.lit_paths.specs.Paths.{AreParts, text_of};
-ghost use Rattle.lit_dirs.specs.Looks.{GivesListing, GivesReading, GivesSuite, HoldsSteady, IsGone, IsTreeFault};
+ghost use Rattle.lit_dirs.specs.Looks.{GivesCounting, GivesListing, GivesReading, GivesSuite, HoldsSteady, IsGone, IsTreeFault, Shows};
 ghost use Rattle.lit_dirs.specs.Suites.{suite_path};
 
 use crate::fault::DiscoverFault;
-use crate::names::{SUITE_FILE, has_suite_file, python_of};
+use crate::names::{CONFIG, SUITE_FILE, has_suite_file, python_of};
 use lit_paths::{text_of, with_name};
 use lit_suite::{Suite, SuiteFail, read_suite};
 use std::alloc::Global;
 use tt_base::{Bytes, Items, NoMemory};
-use tt_outside::{Item, Tree, TreeFault};
+use tt_outside::{Counted, Item, Tree, TreeFault};
 
 /// The longest suite file, in bytes.
 const MAX_SUITE: u64 = 65_536;
@@ -40,6 +39,35 @@ pub fn list_dir<T: Tree>(
         Err(TreeFault::Missing) => Err(DiscoverFault::Missing(path)),
         Err(TreeFault::Failed) => Err(DiscoverFault::TreeFault),
         // A tree that is listed never answers this.
+        Err(TreeFault::TooLarge) => unreachable!(),
+        Err(TreeFault::NoMemory) => Err(DiscoverFault::NoMemory),
+    }
+}
+
+/// How many items a directory lists, and those of the names that it is looked at for; none, where a file has the path.
+#[tactic(auto, using(crate::proofs::LookLemmas::counts_and_shows))]
+pub fn count_dir<T: Tree>(
+    alloc: Global,
+    tree: &mut T,
+    dir: &[Bytes],
+) -> Result<Option<Counted>, DiscoverFault>
+    requires { AreParts dir.now }
+    ensures gives { GivesCounting (T.nodes tree.old) dir.now result }
+    ensures gone { IfErr result (IsGone dir.now) }
+    ensures nodes { T.nodes tree.new ≡ T.nodes tree.old }
+    ensures root { T.root tree.new ≡ T.root tree.old }
+    ensures later { T.faults tree.old ≤ T.faults tree.new }
+    ensures cause { IsTreeFault result → Rose (T.faults tree.old) (T.faults tree.new) }
+    ensures calm { ¬ IsTreeFault result → T.faults tree.new ≡ T.faults tree.old }
+    ensures steady { HoldsSteady T.steady T.faults tree.old tree.new result }
+{
+    let path = text_of(alloc, dir)?;
+    match tree.count(alloc, path.as_slice(), &CONFIG) {
+        Ok(few) => Ok(Some(few)),
+        Err(TreeFault::NotDirectory) => Ok(None),
+        Err(TreeFault::Missing) => Err(DiscoverFault::Missing(path)),
+        Err(TreeFault::Failed) => Err(DiscoverFault::TreeFault),
+        // A tree that is counted never answers this.
         Err(TreeFault::TooLarge) => unreachable!(),
         Err(TreeFault::NoMemory) => Err(DiscoverFault::NoMemory),
     }
@@ -88,15 +116,15 @@ fn read_in<T: Tree>(alloc: Global, tree: &mut T, dir: &[Bytes]) -> Result<Suite,
     }
 }
 
-/// The suite of a directory that lists these items, if it has one; or what refuses the directory.
+/// The suite of a directory that has these items under the names that it is looked at for, if it has one; or what
+/// refuses the directory.
 pub fn look_in<T: Tree>(
     alloc: Global,
     tree: &mut T,
     dir: &[Bytes],
     items: &[Item],
 ) -> Result<Option<Suite>, DiscoverFault>
-    requires parts { AreParts dir.now }
-    requires lists { IfSome (T.nodes tree.old) (λ nodes. Lists nodes (text_of dir.now) items.now) }
+    requires { IfSome (T.nodes tree.old) (λ nodes. Shows nodes dir.now items.now) }
     ensures gives { GivesSuite (T.nodes tree.old) dir.now result }
     ensures gone { IfErr result (IsGone dir.now) }
     ensures whole { IfOk result (λ suite. IfSome suite IsWhole) }

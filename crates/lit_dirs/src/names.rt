@@ -9,8 +9,9 @@ use tt_outside::{Item, ItemKind};
 /// The file of a suite.
 pub(crate) const SUITE_FILE: &str = "lit.suite.toml";
 
-/// The names of Python configurations, in byte order.
-const PYTHON: [&str; 6] = [
+/// The names that a directory is looked at for: its suite file, and Python configurations in byte order.
+pub(crate) const CONFIG: [&str; 7] = [
+    SUITE_FILE,
     "lit.cfg",
     "lit.cfg.py",
     "lit.local.cfg",
@@ -52,7 +53,7 @@ fn first_file<'a>(items: &[Item], names: &[&'a str]) -> Option<&'a str>
 pub(crate) fn python_of(items: &[Item]) -> Option<&'static str>
     ensures { option_map (λ name. name.now) result ≡ python_of items.now }
 {
-    first_file(items, &PYTHON)
+    first_file(items, &CONFIG[1..])
 }
 
 /// Whether a suite file is listed.

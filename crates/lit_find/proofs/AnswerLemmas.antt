@@ -1,29 +1,13 @@
 -- What a discovery answers, by what its words gave and by the files that were found.
 -- Idea: each file that the words make a test was found, since each directory above it was walked through.
 -- The hard one is `test_found`.
-use Rattle.std.proofs.Common.{◌≡◌, ℕ, ◌+◌, ◌<◌, true, false, ◌⊎◌, inl, inr, List, [], ◌∷◌, ◌++◌, length, map, take, drop, get_or, All, Option, Some, None, IfSome, Result, Ok, Err, refl, sym, ap, ◌∙◌, subst, arith}
-use Rattle.std.specs.List.{Any, Contains}
-use Rattle.std.proofs.lemmas.List.{drop_more, map-append, take-append-drop}
+use Rattle.lit_find.proofs.Names.{◌≡◌, ℕ, true, false, ◌⊎◌, inl, inr, List, [], ◌∷◌, ◌++◌, map, All, Option, Some, None, IfSome, Result, Ok, Err, refl, sym, ap, ◌∙◌, subst, arith, Any, Contains, Test, Node, are_nested, File, Parts, joined, text_of, kind_of, DiscoverFault, NoTests, TooMany, Told, Looked, IsBelow, IsTest, LooksAt, AnswersTo, AreTests, Discovers, IsInOrder, IsRight, HasPlace, IsClear, IsRefused, RefusesWord, GivesWord, GivesWords, HasTest, IsCovered, Walked, Walks, was_walked, Walk}
 use Rattle.std.proofs.lemmas.Bool.{both_ways}
 use Rattle.std.proofs.lemmas.List.Elements.{All-contains, All-nil, All-weaker}
-use Rattle.tt_outside.specs.declared.test_data.Test.{Test}
-use Rattle.tt_outside.specs.declared.tree.Node.{Node}
-use Rattle.tt_outside.specs.TreeMap.{are_nested}
-use Rattle.tt_outside.specs.declared.tree.ItemKind.TheVariants.{File}
-use Rattle.lit_paths.specs.Paths.{Parts, joined, parts_of, text_of}
-use Rattle.lit_dirs.specs.Looks.{kind_of}
-use Rattle.lit_dirs.specs.declared.fault.DiscoverFault.{DiscoverFault}
-use Rattle.lit_dirs.specs.declared.fault.DiscoverFault.TheVariants.{NoTests, TooMany}
-use Rattle.lit_look.specs.Trees.{Told}
-use Rattle.lit_look.specs.declared.seen.Looked.{Looked}
+use Rattle.lit_paths.specs.Paths.{parts_of}
 use Rattle.lit_look.proofs.ListLemmas.{its_one, mapped, none_in}
 use Rattle.lit_look.proofs.FaultLemmas.{IsEarly, early_fault}
 use Rattle.lit_look.proofs.TreeLemmas.{told}
-use Rattle.lit_find.specs.Discovery.{IsBelow, IsTest, LooksAt}
-use Rattle.lit_find.specs.Found.{AnswersTo, AreTests, Discovers, IsInOrder, IsRight}
-use Rattle.lit_find.specs.Refusals.{HasPlace, IsClear, IsRefused, RefusesWord}
-use Rattle.lit_find.specs.Walk.{GivesWord, GivesWords, HasTest, IsCovered, Walked, Walks, was_walked}
-use Rattle.lit_find.specs.declared.walk.Walk.{Walk}
 use Rattle.lit_find.proofs.VisitLemmas.{all_reached}
 
 -- ---- the tests
@@ -102,21 +86,12 @@ pub discovers_refusal : (told : Option (List Node)) (base : List ℕ) (texts : L
 discovers_refusal None base texts fault walks = tt
 discovers_refusal (Some nodes) base texts fault walks = answers_refusal nodes _ fault walks
 
--- ---- words one by one
-
-pub words_cut : {A B : Type 0} (f : A → B) (xs : List A) (i : ℕ) (x : A) → i < length xs → x ≡ get_or xs i x
-    → map f xs ≡ map f (take i xs) ++ f x ∷ map f (drop (i + 1) xs)
-words_cut f xs i x within is =
-    let cut = drop_more xs i x within ∙ ap (λ one. one ∷ drop (i + 1) xs) (sym is) in
-    ap (map f) (sym (take-append-drop i xs) ∙ ap (λ ys. take i xs ++ ys) cut)
-    ∙ map-append f (take i xs) (x ∷ drop (i + 1) xs)
-
 -- ---- before the first word
 
 pub nothing_yet : (nodes : List Node) (seen : List Looked) (walk : Walk) → seen ≡ []
-    → ((text : List ℕ) → was_walked walk text ≡ false) → walk.pending ≡ [] → walk.found ≡ []
+    → ((text : List ℕ) → was_walked walk text ≡ false) → walk.taken ≡ 0 → walk.pending ≡ [] → walk.found ≡ []
     → IsCovered nodes [] seen walk
-nothing_yet nodes seen walk empty none pending found = subst (λ seen. IsCovered nodes [] seen walk) (sym empty) (record {
+nothing_yet nodes seen walk empty none taken pending found = subst (λ seen. IsCovered nodes [] seen walk) (sym empty) (record {
   state = record {
     tests = subst (All (IsRight nodes [])) (sym found) (All-nil (IsRight nodes []));
     closed = λ kind dir part was inside. absurd (not_walked dir was);
@@ -132,6 +107,7 @@ nothing_yet nodes seen walk empty none pending found = subst (λ seen. IsCovered
     once = λ i j d less within. absurd (omega arith);
     within = omega arith;
   };
+  within = omega (arith, taken);
 })
   where
     not_walked : (dir : Parts) → Walked walk dir → ⊥

@@ -1,23 +1,12 @@
 -- The tests of files.
 -- Shown: a file in a directory of a suite lies below the suite's root, and its test is right. Idea: a text tells its path.
 -- The hard one is `below`.
-use Rattle.std.proofs.Common.{◌≡◌, ◌≢◌, true, ℕ, List, [], ◌∷◌, ◌++◌, drop, length, Some, Result, IfOk, refl, sym, ap, ◌∙◌, subst}
-use Rattle.std.specs.List.{list_all}
+use Rattle.lit_find.proofs.Names.{◌≡◌, ◌≢◌, true, ℕ, List, [], ◌∷◌, ◌++◌, drop, length, Some, Result, IfOk, refl, sym, ap, ◌∙◌, subst, list_all, is_part, Test, Node, Parts, dir_of, path_in, text_of, LiesIn, nearest, rooted_at, SuiteRoot, IsTest, IsFiled, below_of, test_in, IsRight, TestFile}
 use Rattle.std.proofs.Math.Seq.{drop-append_seam}
 use Rattle.std.proofs.lemmas.Result.{IfOk-weaker}
 use Rattle.tt_base.specs.declared.memory.NoMemory.{NoMemory}
-use Rattle.tt_outside.specs.TreeMap.{is_part}
-use Rattle.tt_outside.specs.declared.test_data.Test.{Test}
-use Rattle.tt_outside.specs.declared.tree.Node.{Node}
 use Rattle.tt_outside.proofs.EqualLemmas.{equal_tests}
-use Rattle.lit_paths.specs.Paths.{Parts, dir_of, path_in, text_of}
 use Rattle.lit_dirs.specs.Tests.{IsTestOf}
-use Rattle.lit_look.specs.Suites.{LiesIn, nearest, rooted_at}
-use Rattle.lit_look.specs.declared.root.SuiteRoot.{SuiteRoot}
-use Rattle.lit_find.specs.Discovery.{IsTest}
-use Rattle.lit_find.specs.Files.{IsFiled, below_of, test_in}
-use Rattle.lit_find.specs.Found.{IsRight}
-use Rattle.lit_find.specs.declared.place.TestFile.{TestFile}
 use Rattle.lit_find.proofs.PathLemmas.{dir_of_push, lies_push, name_behind, parts_push, parts_right, path_in_word}
 
 -- a name in a directory that lies in that of a suite

@@ -1,40 +1,22 @@
 -- What stands in a directory, and what it lists: what is walked through, and what is a test.
 -- Idea: names differ, so a listing is a finite map: an item of each name stands for what is there, and the reverse.
 -- The hard ones are `named_item`, and `its_item`, from what is taken to the item that lists it.
-use Rattle.std.proofs.Common.{◌≡◌, ℕ, Bool, true, false, true≢false, cond, not, inl, inr, List, [], ◌∷◌, ◌++◌, Option, Some, None, refl, sym, ap, ◌∙◌, append-nil}
-use Rattle.std.specs.List.{Contains, find, list_all, list_any}
-use Rattle.std.specs.Option.{option_map, unwrap_or}
+use Rattle.lit_find.proofs.Names.{◌≡◌, ℕ, Bool, true, false, true≢false, cond, not, inl, inr, List, [], ◌∷◌, ◌++◌, Option, Some, None, refl, sym, ap, ◌∙◌, append-nil, Contains, find, list_all, list_any, option_map, unwrap_or, Node, Item, ItemKind, Dir, File, Lists, is_part, kind_at, names_differ, Parts, text_of, kind_of, IsLook, LiesIn, first_suite, nearest, or_else, rooted, rooted_at, SuiteRoot, IsIn, IsTest, IsWalked, takes, test_in, IsRight, is_kept, IsAhead, Place}
 use Rattle.std.specs.Str.{bytes_eq}
 use Rattle.std.proofs.lemmas.List.Folds.{list_any-from_Any}
 use Rattle.std.proofs.lemmas.Slice.Eq.{bytes_eq-Decides}
-use Rattle.tt_outside.specs.declared.tree.Node.{Node}
-use Rattle.tt_outside.specs.declared.tree.Item.{Item}
-use Rattle.tt_outside.specs.declared.tree.ItemKind.{ItemKind}
-use Rattle.tt_outside.specs.declared.tree.ItemKind.TheVariants.{Dir, File}
-use Rattle.tt_outside.specs.TreeMap.{Lists, is_part, kind_at, names_differ}
 use Rattle.tt_outside.specs.TreeMap as map
 use Rattle.lit_paths.proofs.LawLemmas.{names_stand_below}
 use Rattle.lit_paths.proofs.PartLemmas.{and_both, and_left, and_right, false_of}
-use Rattle.lit_paths.specs.Paths.{Parts, text_of}
-use Rattle.lit_dirs.specs.Looks.{kind_of}
 use Rattle.lit_dirs.specs.Suites.{suite_at}
 use Rattle.lit_look.proofs.ListLemmas.{any_one, cons_cases, found_in, none_in}
 use Rattle.lit_look.proofs.SuiteLemmas.{upward_push}
-use Rattle.lit_look.specs.Seen.{IsLook}
-use Rattle.lit_look.specs.Suites.{LiesIn, first_suite, nearest, or_else, rooted, rooted_at}
-use Rattle.lit_look.specs.declared.root.SuiteRoot.{SuiteRoot}
-use Rattle.lit_find.specs.Discovery.{IsIn, IsTest, IsWalked, takes}
-use Rattle.lit_find.specs.Files.{test_in}
-use Rattle.lit_find.specs.Found.{IsRight}
-use Rattle.lit_find.specs.Sorting.{is_kept}
-use Rattle.lit_find.specs.Walk.{IsAhead}
-use Rattle.lit_find.specs.declared.place.Place.{Place}
 use Rattle.lit_find.proofs.FileLemmas.{right_test}
 use Rattle.lit_find.proofs.PathLemmas.{lies_push, walked_below}
 
 -- ---- listings
 
-named_item : (items : List Item) (item : Item) → names_differ items ≡ true → Contains items item
+pub named_item : (items : List Item) (item : Item) → names_differ items ≡ true → Contains items item
     → find (λ one. bytes_eq one.name item.name) items ≡ Some item
 named_item [] item differ within = absurd (none_in item within)
 named_item (one ∷ items) item differ within =
@@ -67,7 +49,7 @@ listed_right nodes dir items item parts lists within named =
     ∙ sym (lists.kinds item.name ∙ ap (λ b. cond b (kind_at nodes (map.front_of (text_of dir) ++ item.name)) None) named)
     ∙ ap (option_map (λ one. one.kind)) (named_item items item lists.differ within)
 
-mapped : (o : Option Item) (kind : ItemKind) → option_map (λ one. one.kind) o ≡ Some kind
+pub mapped : (o : Option Item) (kind : ItemKind) → option_map (λ one. one.kind) o ≡ Some kind
     → (item : Item) × (o ≡ Some item) × (item.kind ≡ kind)
 mapped None kind h = absurd (cc)
 mapped (Some item) kind h = (item, refl, cc)
@@ -92,21 +74,21 @@ pub record IsOf (nodes : List Node) (dir : Parts) (items : List Item) (root : Su
   pub lists : Lists nodes (text_of dir) items
   pub near : nearest nodes dir ≡ Some (rooted_at root)
 
-pub is_of : (nodes : List Node) (word : Parts) (place : Place) (items : List Item) (own : Option SuiteRoot)
-    → IsAhead nodes word place → IsLook nodes (record { dir = place.path; items = items; suite = own })
-    → IsOf nodes place.path items (unwrap_or own place.suite)
-is_of nodes word place items None ahead look = record {
+pub is_of : (nodes : List Node) (word : Parts) (place : Place) (items : List Item) (count : ℕ) (own : Option SuiteRoot)
+    → IsAhead nodes word place → IsLook nodes (record { dir = place.path; count = count; suite = own })
+    → Lists nodes (text_of place.path) items → IsOf nodes place.path items (unwrap_or own place.suite)
+is_of nodes word place items count None ahead look lists = record {
   inside = ahead.inside;
-  lists = look.lists;
+  lists = lists;
   near = ahead.suite ∙ ap (λ x. or_else (rooted place.path x) (Some (rooted_at place.suite))) look.suite;
 }
-is_of nodes word place items (Some own) ahead look = record {
+is_of nodes word place items count (Some own) ahead look lists = record {
   inside = record {
     rest = [];
     is = sym look.root ∙ sym (append-nil own.dir);
     parts = ahead.inside.parts;
   };
-  lists = look.lists;
+  lists = lists;
   near = ahead.suite ∙ ap (λ x. or_else (rooted place.path x) (Some (rooted_at place.suite))) look.suite
       ∙ ap (λ d. Some (record { root = d; suite = own.suite })) (sym look.root);
 }

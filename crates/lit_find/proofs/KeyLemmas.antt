@@ -1,24 +1,14 @@
 -- Places under keys: their order, what a map of them holds when one is put in, and what is left behind its first.
 -- Idea: a key is the parts of a path, keys are compared as paths are, and a directory stands before those below it.
 -- The hard one is `inserted`.
-use Rattle.std.proofs.Common.{◌≡◌, ℕ, Bool, true, false, ◌||◌, List, [], ◌∷◌, ◌++◌, refl, sym, ap, ◌∙◌, subst, append-nil, map, All, arith}
-use Rattle.std.specs.Cmp.{IsTotalOrder}
-use Rattle.std.specs.Ordering.{match_ordering, nat_cmp, ordering_then}
-use Rattle.std.specs.declared.cmp.Ordering.TheVariants.{Equal, Greater, Less}
+use Rattle.lit_find.proofs.Names.{◌≡◌, ℕ, Bool, true, false, ◌||◌, List, [], ◌∷◌, ◌++◌, refl, sym, ap, ◌∙◌, subst, append-nil, map, All, arith, IsTotalOrder, match_ordering, nat_cmp, ordering_then, Equal, Greater, Less, Vec, list_any, slice_cmp, Ordering, Parts, SuiteRoot, same_text, IsBefore, IsFirst, IsInside, parts_cmp, path_order, place_of_entry, put}
 use Rattle.std.proofs.lemmas.Cmp.{lists_total, nat_list_cmp_total, tied_itself}
 use Rattle.std.proofs.lemmas.List.Elements.{All-cons, All-head, All-tail}
-use Rattle.std.specs.Prelude.{Vec}
 use Rattle.std.specs.declared.alloc.Global.{Global}
 use Rattle.std.specs.BTreeMap.{insert_entry}
 use Rattle.std.specs.BTreeSet.{insert_key}
-use Rattle.std.specs.List.{list_any}
-use Rattle.std.specs.Cmp.Lexicographic.{slice_cmp}
-use Rattle.std.specs.declared.cmp.Ordering.{Ordering}
 use Rattle.std.proofs.lemmas.Map.Lookups.{exact_bytes}
-use Rattle.lit_paths.specs.Paths.{Parts}
-use Rattle.lit_look.specs.declared.root.SuiteRoot.{SuiteRoot}
-use Rattle.lit_find.specs.Walk.{same_text}
-use Rattle.lit_find.specs.Places.{IsBefore, IsFirst, IsInside, parts_cmp, parts_of, path_order, place_of_entry, put}
+use Rattle.lit_find.specs.Places.{parts_of}
 
 pub parts_cmp_total : IsTotalOrder parts_cmp
 parts_cmp_total = lists_total nat_list_cmp_total

@@ -1,13 +1,10 @@
 -- A file has one test: its path tells the suite, and the rest of the path below the suite's root.
-use Rattle.std.proofs.Common.{◌≡◌, ◌++◌, length, drop, Some, sym, ap, ◌∙◌, subst}
+use Rattle.lit_find.proofs.Names.{◌≡◌, ◌++◌, length, drop, Some, sym, ap, ◌∙◌, subst, Test, Parts, dir_of, Rooted, nearest}
 use Rattle.std.proofs.Math.Seq.{drop-append_seam}
-use Rattle.tt_outside.specs.declared.test_data.Test.{Test}
 use Rattle.tt_outside.proofs.EqualLemmas.{equal_tests}
-use Rattle.lit_paths.specs.Paths.{Parts, dir_of}
 use Rattle.lit_paths.proofs.LawLemmas.{texts_tell_paths}
 use Rattle.lit_suite.specs.declared.suite_file.Suite.{Suite}
 use Rattle.lit_dirs.specs.Tests.{IsTestOf}
-use Rattle.lit_look.specs.Suites.{Rooted, nearest}
 use Rattle.lit_find.specs.Laws.{IsOneTest}
 
 made_once : (root : Parts) (suite : Suite) (below : Parts) (one other : Test) → IsTestOf root suite below one

@@ -3,6 +3,7 @@ pub mod FileLemmas
 pub mod InsideLemmas
 pub mod KeyLemmas
 pub mod LawLemmas
+pub mod Names
 pub mod PathLemmas
 pub mod PlaceLemmas
 pub mod RoomLemmas

@@ -1,19 +1,12 @@
 -- Paths and their texts, and what is reached from a directory, part by part.
 -- Idea: a way to a directory goes on from a directory that was walked through, or one on it is still to be.
 -- The hard one is `reached`.
-use Rattle.std.proofs.Common.{◌≡◌, ◌≢◌, ℕ, true, ◌&&◌, List, [], ◌∷◌, ◌++◌, refl, sym, ap, ◌∙◌, append_assoc, ◌-◌, ◌⊎◌, inl, inr, length, take, subst, append-nil, arith, length-append}
-use Rattle.std.specs.List.{list_all}
+use Rattle.lit_find.proofs.Names.{◌≡◌, ◌≢◌, ℕ, true, ◌&&◌, List, [], ◌∷◌, ◌++◌, refl, sym, ap, ◌∙◌, append_assoc, ◌-◌, ◌⊎◌, inl, inr, length, take, subst, append-nil, arith, length-append, list_all, is_part, Dir, Node, Parts, dir_of, path_in, slashed, text_of, LiesIn, IsIn, IsWalked, IsWay}
 use Rattle.std.proofs.lemmas.List.Folds.{list_all-append}
 use Rattle.std.proofs.Math.Seq.{take-append_seam}
-use Rattle.tt_outside.specs.TreeMap.{is_part}
-use Rattle.tt_outside.specs.declared.tree.ItemKind.TheVariants.{Dir}
-use Rattle.tt_outside.specs.declared.tree.Node.{Node}
-use Rattle.lit_paths.specs.Paths.{Parts, dir_of, path_in, slashed, text_of}
 use Rattle.lit_paths.proofs.LawLemmas.{path_in_text_of}
 use Rattle.lit_paths.proofs.PartLemmas.{and_both, and_left, and_right}
 use Rattle.lit_dirs.proofs.MadeLemmas.{text_of_name}
-use Rattle.lit_look.specs.Suites.{LiesIn}
-use Rattle.lit_find.specs.Discovery.{IsIn, IsWalked, IsWay}
 
 -- the path in the text of one that isn't `/`
 pub path_in_word : (word : Parts) → list_all is_part word ≡ true → word ≢ [] → path_in (text_of word) ≡ word

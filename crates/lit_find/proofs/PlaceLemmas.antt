@@ -1,27 +1,10 @@
 -- What lists of places have behind one that is put in, and what a walk has behind what a directory lists.
 -- By induction over the list, and over the items: what was there stays, and what an item makes is there.
 -- The hard one is `put_has`.
-use Rattle.std.proofs.Common.{◌≡◌, ◌+◌, ◌≤◌, Bool, true, false, cond, ◌⊎◌, inl, inr, List, [], ◌∷◌, ◌++◌, length, map, All, Result, Ok, Err, OnOk, OnErr, refl, sym, ap, ◌∙◌, subst, arith}
-use Rattle.std.specs.Prelude.{⊤}
+use Rattle.lit_find.proofs.Names.{◌≡◌, ◌+◌, ◌≤◌, Bool, true, false, cond, ◌⊎◌, inl, inr, List, [], ◌∷◌, ◌++◌, length, map, All, Result, Ok, Err, OnOk, OnErr, refl, sym, ap, ◌∙◌, subst, arith, ⊤, Contains, match_ordering, Ordering, Less, Equal, Greater, Test, Item, ItemKind, Dir, File, Other, SuiteRoot, Parts, text_of, test_in, IsInside, path_order, place_of_entry, put, is_kept, with_item, with_items, with_path, HasPath, IsDone, Place, Walk}
 use Rattle.std.specs.BTreeMap.{insert_entry}
-use Rattle.std.specs.List.{Contains}
-use Rattle.std.specs.Ordering.{match_ordering}
-use Rattle.std.specs.declared.cmp.Ordering.{Ordering}
-use Rattle.std.specs.declared.cmp.Ordering.TheVariants.{Less, Equal, Greater}
 use Rattle.std.proofs.lemmas.List.Elements.{All-cons, All-head, All-push, All-same, All-tail}
-use Rattle.tt_outside.specs.declared.test_data.Test.{Test}
-use Rattle.tt_outside.specs.declared.tree.Item.{Item}
-use Rattle.tt_outside.specs.declared.tree.ItemKind.{ItemKind}
-use Rattle.tt_outside.specs.declared.tree.ItemKind.TheVariants.{Dir, File, Other}
-use Rattle.lit_look.specs.declared.root.SuiteRoot.{SuiteRoot}
 use Rattle.lit_look.proofs.ListLemmas.{cons_cases, first_in, later_in, none_in, push_has}
-use Rattle.lit_paths.specs.Paths.{Parts, text_of}
-use Rattle.lit_find.specs.Files.{test_in}
-use Rattle.lit_find.specs.Places.{IsInside, path_order, place_of_entry, put}
-use Rattle.lit_find.specs.Sorting.{is_kept, with_item, with_items, with_path}
-use Rattle.lit_find.specs.Walk.{HasPath, IsDone}
-use Rattle.lit_find.specs.declared.place.Place.{Place}
-use Rattle.lit_find.specs.declared.walk.Walk.{Walk}
 use Rattle.lit_find.proofs.KeyLemmas.{Key, exact_parts, inserted, vec_cmp}
 
 -- ---- one more place

@@ -1,42 +1,21 @@
 -- Tests in byte order of their paths, each path once.
 -- Idea: files that are sorted and of which equal neighbours are dropped ascend, and have the paths that there were.
 -- The hard one is `in_order`.
-use Rattle.std.proofs.Common.{◌≡◌, Bool, true, List, [], ◌∷◌, map, refl, sym}
-use Rattle.std.specs.List.{Any, Contains, dedup}
-use Rattle.std.specs.List.Sorted.{IsPermutation, IsSortedBy, IsStrictlySortedBy}
-use Rattle.std.specs.List.{AllByRecursion}
-use Rattle.std.specs.Cmp.{eq_by_cmp_equiv}
-use Rattle.std.specs.Cmp.Lexicographic.{on_texts, slice_cmp}
-use Rattle.std.specs.Ordering.{is_eq, is_lt, nat_cmp}
-use Rattle.std.specs.declared.cmp.Ordering.{Ordering}
-use Rattle.std.specs.declared.cmp.Ordering.TheVariants.{Less}
+use Rattle.lit_find.proofs.Names.{◌≡◌, Bool, true, List, map, refl, sym, Any, Contains, dedup, eq_by_cmp_equiv, on_texts, slice_cmp, is_eq, is_lt, nat_cmp, Ordering, test_in, IsInOrder, TestFile}
+use Rattle.std.specs.List.Sorted.{IsPermutation, IsSortedBy}
 use Rattle.std.proofs.lemmas.List.Elements.{All-contains_itself, All-map, All-weaker}
 use Rattle.std.proofs.lemmas.List.Filters.{All-dedup}
 use Rattle.std.proofs.lemmas.List.Kept.{Any-dedup, IsStrictlySortedBy-dedup}
 use Rattle.std.proofs.lemmas.List.Sorted.{All-permutation, Contains-permutation}
 use Rattle.std.proofs.lemmas.Map.Lookups.{exact_bytes}
 use Rattle.std.proofs.lemmas.Map.Views.{tells_apart}
-use Rattle.lit_find.specs.Files.{test_in}
-use Rattle.lit_find.specs.Found.{IsInOrder}
-use Rattle.lit_find.specs.declared.place.TestFile.{TestFile}
-use Rattle.lit_look.proofs.ListLemmas.{any_one, contains_map, its_one}
+use Rattle.lit_look.proofs.ListLemmas.{any_one, contains_map, its_one, sorted_mapped}
 
 abbrev pub file_cmp : TestFile → TestFile → Ordering
 file_cmp one other = slice_cmp nat_cmp one.path other.path
 
 abbrev pub same_path : TestFile → TestFile → Bool
 same_path one other = is_eq (file_cmp one other)
-
-below_mapped : {A B : Type 0} (f : A → B) (cmp : B → B → Ordering) (x : A) (xs : List A)
-    → AllByRecursion (λ y. cmp (f x) (f y) ≡ Less) xs → AllByRecursion (λ y. cmp (f x) y ≡ Less) (map f xs)
-below_mapped f cmp x [] below = tt
-below_mapped f cmp x (y ∷ ys) (first, rest) = (first, below_mapped f cmp x ys rest)
-
-sorted_mapped : {A B : Type 0} (f : A → B) (cmp : B → B → Ordering) (xs : List A)
-    → IsStrictlySortedBy (λ x y. cmp (f x) (f y)) xs → IsStrictlySortedBy cmp (map f xs)
-unfolding IsStrictlySortedBy
-sorted_mapped f cmp [] sorted = tt
-sorted_mapped f cmp (x ∷ xs) (below, rest) = (below_mapped f cmp x xs below, sorted_mapped f cmp xs rest)
 
 pub in_order : (files sorted : List TestFile) → IsPermutation files sorted
     → IsSortedBy (λ one other. is_lt (file_cmp one other)) sorted

@@ -1,43 +1,22 @@
 -- What one directory of a walk gives, and what refuses it.
 -- Idea: of each directory that was walked through, those in it were begun, and its tests are found; both stay so. What was
 -- looked at in the walk stands before all that is to be walked through. The hard ones are `through_next` and `before_first`.
-use Rattle.std.proofs.Common.{◌≡◌, ℕ, Bool, true, false, ◌||◌, ◌⊎◌, inl, inr, List, [], ◌∷◌, ◌++◌, map, All, Result, Ok, Err, OnOk, refl, sym, ap, ◌∙◌, subst}
-use Rattle.std.proofs.lemmas.Bool.{both_ways, or_cases, or_left, or_right}
+use Rattle.lit_find.proofs.Names.{◌≡◌, ℕ, ◌+◌, ◌≤◌, length, true, false, ◌||◌, ◌⊎◌, inl, inr, List, [], ◌∷◌, ◌++◌, map, All, Err, refl, sym, ap, ◌∙◌, subst, eq_by_cmp_equiv, Contains, unwrap_or, Item, ItemKind, Dir, File, Other, Node, Parts, text_of, DiscoverFault, GivesLook, IsAbsent, AreSeen, Has, IsLook, RefusesNext, SuiteRoot, Looked, IsBelow, IsIn, IsWalked, IsRight, IsBefore, IsRefusedDown, with_items, GivesWalk, HasPath, HasTest, IsAhead, IsDone, IsState, IsThrough, IsWalk, Walked, same_text, spent, was_walked, with_first, Place, Walk, Extends, count_items, Option, Some, Ok, IfSome, IsNumberOf, arith}
+use Rattle.std.proofs.lemmas.Bool.{or_cases, or_left, or_right}
 use Rattle.std.proofs.lemmas.Cmp.{nat_list_cmp_total}
 use Rattle.std.proofs.lemmas.List.Elements.{All-contains, All-head, All-map, All-tail, All-weaker}
 use Rattle.std.proofs.lemmas.Map.Lookups.{exact_bytes}
 use Rattle.std.proofs.lemmas.Map.Views.{tells_apart}
-use Rattle.std.specs.BTreeSet.{BTreeSet}
-use Rattle.std.specs.Cmp.{eq_by_cmp_equiv}
-use Rattle.std.specs.List.{Contains}
-use Rattle.std.specs.Option.{unwrap_or}
-use Rattle.std.specs.Prelude.{Vec}
-use Rattle.std.specs.declared.alloc.Global.{Global}
-use Rattle.tt_outside.specs.declared.tree.Item.{Item}
-use Rattle.tt_outside.specs.declared.tree.ItemKind.{ItemKind}
-use Rattle.tt_outside.specs.declared.tree.ItemKind.TheVariants.{Dir, File, Other}
-use Rattle.tt_outside.specs.declared.tree.Node.{Node}
-use Rattle.lit_paths.specs.Paths.{Parts, text_of}
 use Rattle.lit_paths.proofs.LawLemmas.{texts_tell_paths}
-use Rattle.lit_dirs.specs.declared.fault.DiscoverFault.{DiscoverFault}
-use Rattle.lit_look.specs.Looks.{GivesLook, IsAbsent}
-use Rattle.lit_look.specs.Seen.{AreSeen, Has, IsLook, RefusesNext}
-use Rattle.lit_look.specs.declared.root.SuiteRoot.{SuiteRoot}
-use Rattle.lit_look.specs.declared.seen.Looked.{Looked}
-use Rattle.lit_look.proofs.ListLemmas.{any_one, cons_cases, none_in}
-use Rattle.lit_look.proofs.SeenLemmas.{looks_of, same_seen}
+use Rattle.std.specs.Prelude.{slice_get}
+use Rattle.lit_look.specs.Looks.{GivesListed, WasListed}
+use Rattle.lit_look.proofs.ListLemmas.{any_one, cons_cases, has_at, none_in}
+use Rattle.lit_look.proofs.SeenLemmas.{again, dir_at, looks_of, same_seen}
 use Rattle.lit_look.proofs.TreeLemmas.{told}
-use Rattle.lit_find.specs.Discovery.{IsBelow, IsIn, IsWalked}
-use Rattle.lit_find.specs.Found.{IsRight}
-use Rattle.lit_find.specs.Places.{IsBefore}
-use Rattle.lit_find.specs.Refusals.{IsRefusedDown}
-use Rattle.lit_find.specs.Sorting.{with_items}
-use Rattle.lit_find.specs.Walk.{Enters, GivesWalk, HasPath, HasTest, IsAhead, IsDone, IsState, IsWalk, Walked, has_text, same_text, was_walked, with_first}
-use Rattle.lit_find.specs.declared.place.Place.{Place}
-use Rattle.lit_find.specs.declared.walk.Walk.{Walk}
 use Rattle.lit_find.proofs.InsideLemmas.{IsOf, ahead_in, is_of, item_in, its_item, right_in}
 use Rattle.lit_find.proofs.KeyLemmas.{before_before, before_below, none_before}
 use Rattle.lit_find.proofs.PathLemmas.{reached}
+use Rattle.lit_find.proofs.RoomLemmas.{counted, has_room, spent_longer, spent_more}
 use Rattle.lit_find.proofs.PlaceLemmas.{AllFit, Fits, all_fit, done_items, done_still}
 
 -- ---- what is reached
@@ -86,24 +65,6 @@ first_done place old new here keeps waits finds Dir path (inr had) =
 first_done place old new here keeps waits finds File path had = finds path had
 first_done place old new here keeps waits finds Other path done = tt
 
--- a directory that wasn't walked through yet is, by the text of its path
-pub entered : {A E : Type 0} {path : List ℕ} {all : Walk} (looked : Looked) (known : SuiteRoot) (old new : Walk)
-    (walked : BTreeSet (Vec ℕ Global)) (result : Result A E) → path ≡ text_of looked.dir → was_walked old path ≡ false
-    → ((text : List ℕ) → has_text walked text ≡ (same_text text path || was_walked old text)) → new.walked ≡ walked
-    → all ≡ with_items (unwrap_or looked.suite known) looked.dir
-    (record { found = old.found; walked = walked; pending = old.pending }) looked.items
-    → OnOk result (new ≡ all) → OnOk result (Enters looked known old new)
-entered looked known old new walked (Ok done) is fresh marks kept same sorted = record {
-  again = λ was. absurd (both_ways _ (ap (was_walked old) (sym is) ∙ fresh) was);
-  first = λ not_yet. record {
-    marked = λ text. ap (λ set. has_text set text) kept ∙ marks text
-        ∙ ap (λ one. same_text text one || was_walked old text) is;
-    sorted = sorted ∙ same ∙ ap (λ set. with_items (unwrap_or looked.suite known) looked.dir
-        (record { found = old.found; walked = set; pending = old.pending }) looked.items) (sym kept);
-  };
-}
-entered looked known old new walked (Err why) is fresh marks kept same sorted = tt
-
 module _ (nodes : List Node) (words : List Parts) (word : Parts) (first old : List Looked) (place : Place) (before : Walk)
     (is : IsWalk nodes words word first old (with_first place before))
     (least : All (λ other. IsBefore place.path other.path) before.pending) where
@@ -132,7 +93,7 @@ module _ (nodes : List Node) (words : List Parts) (word : Parts) (first old : Li
 
   through_next : (items : List Item) (root : SuiteRoot) (new : Walk) → IsOf nodes place.path items root
       → ((text : List ℕ) → was_walked new text ≡ (same_text text (text_of place.path) || was_walked before text))
-      → new ≡ with_items root place.path (record { found = before.found; walked = new.walked; pending = before.pending }) items
+      → new ≡ with_items root place.path (record { found = before.found; walked = new.walked; taken = new.taken; pending = before.pending }) items
       → IsNext nodes words word place before new
   through_next items root new of marked sorted = record {
     keeps = λ kind path done.
@@ -160,7 +121,7 @@ module _ (nodes : List Node) (words : List Parts) (word : Parts) (first old : Li
   }
     where
       begun : Walk
-      begun = record { found = before.found; walked = new.walked; pending = before.pending }
+      begun = record { found = before.found; walked = new.walked; taken = new.taken; pending = before.pending }
 
       all : Walk
       all = with_items root place.path begun items
@@ -186,8 +147,8 @@ module _ (nodes : List Node) (words : List Parts) (word : Parts) (first old : Li
           (rest, is.state.tests))
 
   next_walk : (new : List Looked) (after : Walk) → AreSeen nodes (λ one. Has old one ⊎ (one ≡ place.path)) new
-      → IsNext nodes words word place before after → IsWalk nodes words word first new after
-  next_walk new after looks next = record {
+      → IsNext nodes words word place before after → after.taken ≤ spent new after → IsWalk nodes words word first new after
+  next_walk new after looks next within = record {
     state = record {
       tests = next.tests;
       closed = λ kind dir part was inside. elim (next.cases dir was) [
@@ -219,6 +180,7 @@ module _ (nodes : List Node) (words : List Parts) (word : Parts) (first old : Li
       )
     ];
     one = is.one;
+    within = within;
   }
     where
       all_before : (dir : Parts) → ((other : Parts) → IsBefore place.path other → IsBefore dir other)
@@ -226,26 +188,55 @@ module _ (nodes : List Node) (words : List Parts) (word : Parts) (first old : Li
       all_before dir each =
           All-weaker Ahead (λ other. IsBefore dir other.path) (λ other both. each other.path both.1) after.pending next.ahead
 
-  pub visited : (new : List Looked) (looked : Looked) (after : Walk)
-      → AreSeen nodes (λ one. Has old one ⊎ (one ≡ place.path)) new → IsLook nodes looked → looked.dir ≡ place.path
-      → Enters looked place.suite before after → IsWalk nodes words word first new after
-  visited new looked after looks look here enters =
-      next_walk new after looks (by_test (was_walked before (text_of place.path)) refl)
-    where
-      at : Parts → Looked
-      at dir = record { dir = dir; items = looked.items; suite = looked.suite }
+  pub visited_again : was_walked before (text_of place.path) ≡ true → IsWalk nodes words word first old before
+  visited_again was =
+      let done : Walked before place.path = (its_ahead.inside.parts, was) in
+      next_walk old before (again nodes old place.path is.looks (is.looked place.path done)) (again_next done) is.within
 
-      its : Enters (at place.path) place.suite before after
-      its = subst (λ dir. Enters (at dir) place.suite before after) here enters
+  -- what a look at it gave, where it wasn't walked through
+  module _ (new : List Looked) (at : Parts) (found : Option (ℕ × List Item)) (number : ℕ) (items : List Item) (looked : Looked)
+      (same : at ≡ place.path) (some : found ≡ Some (number, items)) (gives : GivesListed nodes at old new (Ok found))
+      (numbered : IfSome found (λ one. IsNumberOf new at one.0)) (there : slice_get new number ≡ Some looked)
+      (extends : Extends old new) (fresh : was_walked before (text_of place.path) ≡ false) where
+    listed : WasListed nodes place.path old new (Some (number, items))
+    listed = subst (WasListed nodes place.path old new) some (subst (λ one. WasListed nodes one old new found) same gives)
 
-      by_test : (b : Bool) → was_walked before (text_of place.path) ≡ b → IsNext nodes words word place before after
-      by_test true was =
-          subst (IsNext nodes words word place before) (sym (its.again was)) (again_next (its_ahead.inside.parts, was))
-      by_test false was =
-          let through = its.first was in
-          through_next looked.items (unwrap_or looked.suite place.suite) after
-          (is_of nodes word place looked.items looked.suite its_ahead (subst (λ dir. IsLook nodes (at dir)) here look))
-          through.marked through.sorted
+    within : Contains new looked
+    within = has_at new number looked there
+
+    here : looked.dir ≡ place.path
+    here =
+        dir_at new at number looked (subst (λ o. IfSome o (λ one. IsNumberOf new at one.0)) some numbered) there ∙ same
+
+    abbrev in_dir : Parts → Looked
+    in_dir dir = record { dir = dir; count = looked.count; suite = looked.suite }
+
+    look : IsLook nodes (in_dir place.path)
+    look = subst (λ dir. IsLook nodes (in_dir dir)) here (All-contains (IsLook nodes) new looked listed.0.looks within)
+
+    unspent : was_walked before (text_of looked.dir) ≡ false
+    unspent = ap (λ dir. was_walked before (text_of dir)) here ∙ fresh
+
+    few : length items ≤ looked.count
+    few = counted nodes place.path items looked.count listed.1 look.counts
+
+    pub its_room : before.taken + length items ≤ count_items new
+    its_room = omega (arith, is.within, few, spent_longer old new before extends, has_room new looked before within unspent)
+
+    pub visited : (after : Walk) → IsThrough looked items place.suite before after → IsWalk nodes words word first new after
+    visited after through =
+        let its = subst (λ dir. IsThrough (in_dir dir) items place.suite before after) here through in
+        next_walk new after listed.0
+        (through_next items (unwrap_or looked.suite place.suite) after
+        (is_of nodes word place items looked.count looked.suite its_ahead look listed.1) its.marked its.sorted)
+        (omega (
+          arith,
+          through.taken,
+          is.within,
+          few,
+          spent_longer old new before extends,
+          spent_more new looked before within unspent through,
+        ))
 
   -- ---- it is refused
 

@@ -1,61 +1,25 @@
 -- One more word: the directories up to its suite, a word that is a file, and the walk of one that is a directory.
 -- Idea: what was looked at for earlier words doesn't count again; where nothing is before the walk, each directory that is
 -- walked through from the word was, since it was begun. The hard one is `walk_ends`.
-use Rattle.std.proofs.Common.{◌≡◌, ◌≢◌, ℕ, true, ◌⊎◌, inl, inr, List, [], ◌∷◌, ◌++◌, length, All, Option, Some, None, Result, Ok, Err, OnOk, refl, sym, ap, ◌∙◌, subst, append-nil}
-use Rattle.std.specs.List.{Any, Contains, list_all}
+use Rattle.lit_find.proofs.Names.{◌≡◌, ◌≢◌, ℕ, true, ◌⊎◌, inl, inr, List, [], ◌∷◌, ◌++◌, length, All, Option, Some, None, Result, Ok, Err, OnOk, refl, sym, ap, ◌∙◌, subst, append-nil, arith, Contains, list_all, Node, Test, ItemKind, Dir, File, are_nested, is_part, Parts, dir_of, text_of, kind_of, DiscoverFault, Missing, AreSeenUp, Extends, GivesNearest, IsAbsent, RefusesUp, AreSeen, Has, LiesIn, Rooted, looked_up, nearest, or_else, rooted, rooted_at, SuiteRoot, Looked, IsBelow, IsLookedAt, IsTest, IsWalked, LooksAt, start_at, start_of, test_in, IsRight, IsBefore, path_order, put, HasPlace, IsDue, IsRefusedDown, RefusesWord, Stands, with_path, GivesWalk, GivesWord, IsAhead, IsCovered, IsDone, IsState, IsWalk, Walked, Walk}
 use Rattle.std.proofs.lemmas.List.Quantifiers.{Any-push}
-use Rattle.std.proofs.lemmas.List.Elements.{All-cons, All-nil, All-push, All-weaker, Contains-append_left, Contains-push, Contains-push_cases}
-use Rattle.tt_outside.specs.declared.tree.Node.{Node}
-use Rattle.tt_outside.specs.declared.test_data.Test.{Test}
-use Rattle.tt_outside.specs.declared.tree.ItemKind.{ItemKind}
-use Rattle.tt_outside.specs.declared.tree.ItemKind.TheVariants.{Dir, File}
-use Rattle.tt_outside.specs.TreeMap.{are_nested, is_part}
-use Rattle.lit_paths.specs.Paths.{Parts, dir_of, text_of}
+use Rattle.std.proofs.lemmas.List.Elements.{All-cons, All-nil, All-push, All-weaker, Contains-push, Contains-push_cases}
 use Rattle.lit_suite.specs.declared.suite_file.Suite.{Suite}
 use Rattle.lit_suite.specs.declared.suite_file.SuiteFault.{SuiteFault}
-use Rattle.lit_dirs.specs.Looks.{kind_of}
 use Rattle.lit_dirs.specs.Suites.{suite_at}
-use Rattle.lit_dirs.specs.declared.fault.DiscoverFault.{DiscoverFault}
-use Rattle.lit_dirs.specs.declared.fault.DiscoverFault.TheVariants.{Missing}
-use Rattle.lit_look.specs.Looks.{AreSeenUp, GivesNearest, IsAbsent, RefusesUp}
-use Rattle.lit_look.specs.Seen.{AreSeen, Has}
-use Rattle.lit_look.specs.Suites.{LiesIn, Rooted, looked_up, nearest, or_else, rooted, rooted_at}
-use Rattle.lit_look.specs.declared.root.SuiteRoot.{SuiteRoot}
-use Rattle.lit_look.specs.declared.seen.Looked.{Looked}
 use Rattle.lit_look.proofs.ClimbLemmas.{no_parts}
 use Rattle.lit_look.proofs.DirLemmas.{above_is_dir}
 use Rattle.lit_look.proofs.SeenLemmas.{further, looks_of, same_seen}
-use Rattle.lit_look.proofs.ListLemmas.{any_one, its_one}
+use Rattle.lit_look.proofs.ListLemmas.{any_cases, any_longer}
 use Rattle.lit_look.proofs.SuiteLemmas.{nearest_here}
 use Rattle.lit_look.proofs.TreeLemmas.{told}
-use Rattle.lit_find.specs.Discovery.{IsBelow, IsLookedAt, IsTest, IsWalked, LooksAt, start_at, start_of}
-use Rattle.lit_find.specs.Files.{test_in}
-use Rattle.lit_find.specs.Found.{IsRight}
-use Rattle.lit_find.specs.Places.{IsBefore, path_order, put}
-use Rattle.lit_find.specs.Refusals.{HasPlace, IsDue, IsRefusedDown, RefusesWord, Stands}
-use Rattle.lit_find.specs.Sorting.{with_path}
-use Rattle.lit_find.specs.Walk.{GivesWalk, GivesWord, IsAhead, IsCovered, IsDone, IsState, IsWalk, Walked}
-use Rattle.lit_find.specs.declared.walk.Walk.{Walk}
 use Rattle.lit_find.proofs.FileLemmas.{right_test}
 use Rattle.lit_find.proofs.PathLemmas.{dir_of_push, last_part, name_behind}
 use Rattle.lit_find.proofs.PlaceLemmas.{done_keeps, done_now}
+use Rattle.lit_find.proofs.RoomLemmas.{spent_longer}
 use Rattle.lit_find.proofs.VisitLemmas.{all_reached}
 
 -- ---- one more word
-
-any_longer : (P : Parts → Type 0) (words : List Parts) (word : Parts) → Any P words → Any P (words ++ word ∷ [])
-any_longer P words word any =
-    let (one, within, p) = its_one P words any in
-    any_one P (words ++ word ∷ []) one (Contains-append_left words (word ∷ []) one within) p
-
-any_cases : (P : Parts → Type 0) (words : List Parts) (word : Parts) → Any P (words ++ word ∷ [])
-    → Any P words ⊎ P word
-any_cases P words word any =
-    let (one, within, p) = its_one P (words ++ word ∷ []) any in
-    elim (Contains-push_cases words word one within) [
-      | inl early ↦ inl (any_one P words one early p)
-      | inr last ↦ inr (subst P (sym last) p)
-    ]
 
 -- the tests of some words are tests of these and one more
 tests_longer : (nodes : List Node) (words : List Parts) (word : Parts) (found : List Test)
@@ -145,9 +109,9 @@ start_in nodes word dir part split kind = ap (start_at word) kind ∙ ap dir_of 
 pub file_added : (nodes : List Node) (words : List Parts) (word dir : Parts) (part : List ℕ) (old new : List Looked)
     (root : SuiteRoot) (walk : Walk) → word ≡ dir ++ part ∷ [] → list_all is_part word ≡ true
     → kind_of nodes word ≡ Some File → IsCovered nodes words old walk → LiesIn root.dir dir
-    → AreSeenUp nodes (Has old) dir new → nearest nodes dir ≡ Some (rooted_at root)
+    → AreSeenUp nodes (Has old) dir new → Extends old new → nearest nodes dir ≡ Some (rooted_at root)
     → IsCovered nodes (words ++ word ∷ []) new (with_path root File word walk)
-file_added nodes words word dir part old new root walk split parts kind is lies seen near =
+file_added nodes words word dir part old new root walk split parts kind is lies seen extends near =
     let start = start_in nodes word dir part split kind in
     let named = last_part dir part (ap (list_all is_part) (sym split) ∙ parts) in
     let test : IsTest nodes (words ++ word ∷ []) word =
@@ -177,6 +141,7 @@ file_added nodes words word dir part old new root walk split parts kind is lies 
             | inr (inl up) ↦ inr (subst (λ x. Contains (looked_up nodes x) one) start up)
             | inr (inr below) ↦ absurd (apart nodes word kind below.from_dir)
           ]);
+      within = omega (arith, is.within, spent_longer old new walk extends);
     }
 
 pub file_refused : (nodes : List Node) (words : List Parts) (word dir : Parts) (part : List ℕ)
@@ -212,9 +177,9 @@ near_itself nodes word root near = by_suite (suite_at nodes word) refl
 
 pub walk_begins : (nodes : List Node) (words : List Parts) (word : Parts) (old new : List Looked) (root : SuiteRoot)
     (walk : Walk) → kind_of nodes word ≡ Some Dir → IsCovered nodes words old walk → LiesIn root.dir word
-    → AreSeenUp nodes (Has old) word new → nearest nodes word ≡ Some (rooted_at root) → walk.pending ≡ []
+    → AreSeenUp nodes (Has old) word new → Extends old new → nearest nodes word ≡ Some (rooted_at root) → walk.pending ≡ []
     → IsWalk nodes (words ++ word ∷ []) word new new (with_path root Dir word walk)
-walk_begins nodes words word old new root walk kind is lies seen near none = record {
+walk_begins nodes words word old new root walk kind is lies seen extends near none = record {
   state = state_word nodes words word root Dir walk is.state kind (λ dir was. was)
       (tests_longer nodes words word walk.found is.state.tests);
   ahead = subst (λ places. All (IsAhead nodes word) (put path_order (record { path = word; suite = root }) places)) (sym none)
@@ -229,6 +194,7 @@ walk_begins nodes words word old new root walk kind is lies seen near none = rec
   from = λ dir has. has;
   new = λ dir has. inl has;
   one = Contains-push words word;
+  within = omega (arith, is.within, spent_longer old new walk extends);
 }
 
 walk_ends : (nodes : List Node) (words : List Parts) (word : Parts) (first new : List Looked) (walk : Walk)
@@ -258,6 +224,7 @@ walk_ends nodes words word first new walk kind is none seen suite places =
                 (inr (subst (λ one. Contains (looked_up nodes one) dir) start up)))
             | inr (inr below) ↦ is.looked dir (all_reached is.state none is.one below)
           ]);
+      within = is.within;
     }
 
 -- what a walk gives is what its word gives

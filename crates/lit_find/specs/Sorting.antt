@@ -23,11 +23,13 @@ abbrev pub with_path : SuiteRoot → ItemKind → Parts → Walk → Walk
 with_path root Dir path walk = record {
   found = walk.found;
   walked = walk.walked;
+  taken = walk.taken;
   pending = put path_order (record { path = path; suite = root }) walk.pending;
 }
 with_path root File path walk = record {
   found = walk.found ++ test_in (record { path = text_of path; suite = root }) ∷ [];
   walked = walk.walked;
+  taken = walk.taken;
   pending = walk.pending;
 }
 with_path root Other path walk = walk

@@ -1,6 +1,6 @@
 -- What a walk through directories keeps: those that were walked through, those before it, and the tests found.
 -- Own rule: a directory is walked through once in a discovery, whatever words name it.
-use Rattle.std.specs.Prelude.{◌≡◌, ℕ, ◌+◌, ◌-◌, Bool, true, false, ◌||◌, if◌then◌else◌, List, [], ◌∷◌, ◌++◌, length, map, All, Vec, Option, None, Some, Result, Ok, Err, ◌⊎◌, ⊤}
+use Rattle.std.specs.Prelude.{◌≡◌, ℕ, ◌+◌, ◌-◌, ◌≤◌, Bool, true, ◌||◌, if◌then◌else◌, List, [], ◌∷◌, ◌++◌, length, map, All, Vec, Option, None, Some, Result, Ok, Err, ◌⊎◌, ⊤}
 use Rattle.std.specs.List.{Contains, list_all, list_any, sum_by}
 use Rattle.std.specs.BTreeSet.{BTreeSet}
 use Rattle.std.specs.declared.alloc.Global.{Global}
@@ -8,6 +8,7 @@ use Rattle.std.specs.Cmp.Lexicographic.{slice_cmp}
 use Rattle.std.specs.Option.{unwrap_or}
 use Rattle.std.specs.Ordering.{is_eq, nat_cmp}
 use Rattle.tt_outside.specs.declared.test_data.Test.{Test}
+use Rattle.tt_outside.specs.declared.tree.Item.{Item}
 use Rattle.tt_outside.specs.declared.tree.Node.{Node}
 use Rattle.tt_outside.specs.declared.tree.ItemKind.{ItemKind}
 use Rattle.tt_outside.specs.declared.tree.ItemKind.TheVariants.{File, Dir, Other}
@@ -60,26 +61,22 @@ IsDone walk Other path = ⊤
 
 -- ---- one directory
 
--- a directory is walked through: what it lists is sorted by its suite
-pub record IsThrough (looked : Looked) (known : SuiteRoot) (old new : Walk) : Type 0 where
+-- a directory is walked through: the items that it lists are sorted by its suite
+pub record IsThrough (looked : Looked) (items : List Item) (known : SuiteRoot) (old new : Walk) : Type 0 where
   pub marked : (text : List ℕ) → was_walked new text ≡ (same_text text (text_of looked.dir) || was_walked old text)
+  pub taken : new.taken ≡ old.taken + length items
   pub sorted : new ≡ with_items (unwrap_or looked.suite known) looked.dir
-      (record { found = old.found; walked = new.walked; pending = old.pending }) looked.items
-
--- that is done once
-pub record Enters (looked : Looked) (known : SuiteRoot) (old new : Walk) : Type 0 where
-  pub again : was_walked old (text_of looked.dir) ≡ true → new ≡ old
-  pub first : was_walked old (text_of looked.dir) ≡ false → IsThrough looked known old new
+      (record { found = old.found; walked = new.walked; taken = new.taken; pending = old.pending }) items
 
 -- ---- how long a walk may take
 
--- how many items the directories list that were walked through
+-- how many items were counted in the directories that were walked through
 abbrev pub spent : List Looked → Walk → ℕ
-spent seen walk = sum_by (λ looked. if was_walked walk (text_of looked.dir) then length looked.items else 0) seen
+spent seen walk = sum_by (λ looked. if was_walked walk (text_of looked.dir) then looked.count else 0) seen
 
 -- how many further directories are walked through at most
-abbrev pub room : List Looked → Walk → ℕ
-room seen walk = length walk.pending + (1000000 - spent seen walk)
+abbrev pub room : Walk → ℕ
+room walk = length walk.pending + (1000000 - walk.taken)
 
 -- ---- what holds between two directories
 
@@ -112,10 +109,16 @@ pub record IsWalk (nodes : List Node) (words : List Parts) (word : Parts) (first
   pub new : (dir : Parts) → Has seen dir
       → Has first dir ⊎ (IsWalked nodes word dir × All (λ place. IsBefore dir place.path) walk.pending)
   pub one : Contains words word
+  pub within : walk.taken ≤ spent seen walk
 
 -- the walk with a directory before it
 abbrev pub with_first : Place → Walk → Walk
-with_first place walk = record { found = walk.found; walked = walk.walked; pending = place ∷ walk.pending }
+with_first place walk = record {
+  found = walk.found;
+  walked = walk.walked;
+  taken = walk.taken;
+  pending = place ∷ walk.pending;
+}
 
 -- what a walk gives, behind one directory or all: that; or one is refused
 abbrev pub GivesWalk : {A : Type 0} → List Node → List Parts → Parts → List Looked → List Looked → Walk
@@ -146,6 +149,7 @@ pub record IsCovered (nodes : List Node) (words : List Parts) (seen : List Looke
   pub looked : (dir : Parts) → Walked walk dir → Has seen dir
   pub places : All (HasPlace nodes) words
   pub all : AreSeen nodes (IsLookedAt nodes words) seen
+  pub within : walk.taken ≤ spent seen walk
 
 -- what one more word gives: all that it makes is found; or it is refused
 abbrev pub GivesWord : {A : Type 0} → List Node → List Parts → Parts → List Looked → Walk → Result A DiscoverFault

@@ -60,6 +60,7 @@ fn walk_words<T: Tree>(
     let mut walk = Walk {
         found: Discovery::new(alloc),
         walked: BTreeSet::new(alloc),
+        taken: 0,
         pending: Pending::new(alloc),
     };
     match add_words(alloc, tree, &mut seen, &mut walk, base.as_slice(), paths) {

@@ -45,6 +45,7 @@ fn sort_item(
     requires inside { LiesIn root.now.dir dir.now }
     ensures sorted { OnOk result (walk.new ≡ with_item root.now dir.now walk.old item.now) }
     ensures walked { walk.new.walked ≡ walk.old.walked }
+    ensures taken { walk.new.taken ≡ walk.old.taken }
 {
     let suite = &root.get().suite;
     // Nothing stands under a name that is no part of a path, whatever the tree lists.
@@ -82,6 +83,7 @@ pub(crate) fn sort_items(
     requires { LiesIn root.now.dir dir.now }
     ensures sorted { OnOk result (walk.new ≡ with_items root.now dir.now walk.old items.now) }
     ensures walked { walk.new.walked ≡ walk.old.walked }
+    ensures taken { walk.new.taken ≡ walk.old.taken }
 {
     let front = front_of(alloc, dir)?;
     for item in items {

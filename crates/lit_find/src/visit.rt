@@ -1,23 +1,24 @@
 //! The walk through directories.
-ghost use Rattle.std.specs.Prelude.{◌≡◌, ◌≤◌, ◌||◌, [], ℕ, IfErr, List, OnOk};
+ghost use Rattle.std.specs.Prelude.{◌≡◌, ◌-◌, ◌≤◌, ◌||◌, [], ℕ, IfErr, List, OnOk, length};
 ghost use Rattle.std.specs.Option.{unwrap_or};
 ghost use Rattle.lit_dirs.specs.Looks.{IsGone};
 ghost use Rattle.lit_find.specs.Places.{IsInside};
-ghost use Rattle.lit_find.specs.Walk.{Enters, GoesOn, GoesThrough, has_text, room, same_text};
+ghost use Rattle.lit_find.specs.Walk.{GoesOn, GoesThrough, IsThrough, has_text, room, same_text};
 ghost use Rattle.lit_look.specs.Seen.{HasRoot};
 ghost use Rattle.lit_look.specs.Suites.{LiesIn};
 ghost use Rattle.lit_look.specs.Trees.{Leaves, fault_of};
+ghost use Rattle.lit_paths.specs.Paths.{text_of};
 
 use crate::place::Place;
 use crate::sorting::sort_items;
 use crate::walk::Walk;
 use lit_dirs::DiscoverFault;
-use lit_look::{Looked, SeenFolders, SharedRoot, look};
+use lit_look::{Looked, MAX_ITEMS, SeenFolders, SharedRoot, look_through};
 use lit_paths::text_of;
 use std::alloc::Global;
 use std::collections::BTreeSet;
-use tt_base::NoMemory;
-use tt_outside::Tree;
+use tt_base::{Bytes, NoMemory};
+use tt_outside::{Item, Tree};
 
 /// The suite of a directory: its own, or the one of the directory above it, `known`.
 fn own_or<'a>(looked: &'a Looked, known: &'a SharedRoot) -> &'a SharedRoot
@@ -40,26 +41,26 @@ fn mark(walked: &mut BTreeSet<Vec<u8>>, path: Vec<u8>) -> Result<(), NoMemory>
     Ok(())
 }
 
-/// Walks through a directory that was looked at, unless that was done. `known` is the suite of the one above it.
+/// Walks through a directory that was looked at, and lists these items. `known` is the suite of the one above it, and
+/// `path` its path.
 fn enter(
     alloc: Global,
     looked: &Looked,
+    items: &[Item],
     known: &SharedRoot,
+    path: Bytes,
     walk: &mut Walk,
 ) -> Result<(), NoMemory>
     requires inside { LiesIn known.now.dir looked.now.dir }
     requires root { HasRoot looked.now }
-    ensures { OnOk result (Enters looked.now known.now walk.old walk.new) }
+    requires path { path ≡ text_of looked.now.dir }
+    requires room { length items.now ≤ 1000000 - walk.old.taken }
+    ensures { OnOk result (IsThrough looked.now items.now known.now walk.old walk.new) }
 {
-    let dir = looked.dir.as_slice();
-    let path = text_of(alloc, dir)?;
-    if walk.walked.contains(path.as_slice()) {
-        return Ok(());
-    }
     mark(&mut walk.walked, path.into_vec())?;
+    walk.taken += items.len();
     let root = own_or(looked, known);
-    let items = looked.items.as_slice();
-    sort_items(alloc, root, dir, items, walk)
+    sort_items(alloc, root, looked.dir.as_slice(), items, walk)
 }
 
 /// Walks through the directory of a place, unless that was done. One that isn't there any more is told as missing.
@@ -73,16 +74,27 @@ fn visit<T: Tree>(
     requires { IsInside place }
     ensures gives { GoesThrough (T.nodes tree.old) place seen.old seen.new walk.old walk.new result }
     ensures gone { IfErr result (IsGone place.path) }
-    ensures room { OnOk result (room seen.new walk.new ≤ room seen.old walk.old) }
+    ensures room { OnOk result (room walk.new ≤ room walk.old) }
     ensures tree { Leaves T.nodes T.root T.faults T.steady tree.old tree.new (fault_of result) }
 {
     let dir = place.path.as_slice();
-    match look(alloc, tree, seen, dir) {
-        Ok(Some(number)) => match enter(alloc, seen.at(number), &place.suite, walk) {
-            Ok(()) => Ok(()),
-            Err(NoMemory) => Err(DiscoverFault::NoMemory),
-        },
-        Ok(None) => Err(DiscoverFault::Missing(text_of(alloc, dir)?)),
+    let path = text_of(alloc, dir)?;
+    if walk.walked.contains(path.as_slice()) {
+        return Ok(());
+    }
+    match look_through(alloc, tree, seen, dir) {
+        Ok(Some((number, items))) => {
+            let looked = seen.at(number);
+            // It may have more than when it was counted.
+            if items.len() as u64 > MAX_ITEMS.saturating_sub(walk.taken as u64) {
+                return Err(DiscoverFault::TooManyItems);
+            }
+            match enter(alloc, looked, items.as_slice(), &place.suite, path, walk) {
+                Ok(()) => Ok(()),
+                Err(NoMemory) => Err(DiscoverFault::NoMemory),
+            }
+        }
+        Ok(None) => Err(DiscoverFault::Missing(path)),
         Err(fault) => Err(fault),
     }
 }

@@ -87,7 +87,7 @@ module _ {nodes : List Node} {dir at : Parts} {old now new : List Looked} {numbe
 
   are_dirs : (kind_of nodes at ≡ Some Dir) × (kind_of nodes dir ≡ Some Dir)
   are_dirs =
-      let its = ap (kind_of nodes) (sym step.here) ∙ its_look.lists.here in
+      let its = ap (kind_of nodes) (sym step.here) ∙ its_look.counts.lists.here in
       elim step.climbs.here [ inl first ↦ (its, ap (kind_of nodes) (sym first.0) ∙ its) | inr both ↦ both ]
 
   seen_more : AreSeen nodes (λ one. Has old one ⊎ Contains (step.climbs.early ++ at ∷ []) one) new
@@ -174,7 +174,7 @@ climbs_refused {nodes = nodes} {dir = dir} {at = at} {old = old} {now = now} wor
           let front = climbs.up ∙ ap (λ dirs. climbs.early ++ dirs) is in
           inr (
             elim climbs.here [
-              | inl first ↦ ap (kind_of nodes) (sym first.0) ∙ refuses.lists.here
+              | inl first ↦ ap (kind_of nodes) (sym first.0) ∙ refuses.counts.lists.here
               | inr both ↦ both.1
             ],
             inr (climbs.early, at, later, front, (now, climbs.seen, refuses)),

@@ -47,4 +47,4 @@ pub early_fault : (nodes : List Node) (seen : List Looked) (dir : Parts) (fault 
     → RefusesNext nodes seen dir fault → IsEarly fault
 early_fault nodes seen dir fault refuses =
     subst (λ o. IfSome o IsEarly) refuses.told
-    (of_count nodes dir (nat_lt 1000000 (count_items seen + length refuses.items)))
+    (of_count nodes dir (nat_lt 1000000 (count_items seen + refuses.count)))

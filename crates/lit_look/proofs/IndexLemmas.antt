@@ -104,7 +104,7 @@ numbers_more texts numbers key number are last new = record {
 
 pub one_more : (seen : List Looked) (numbers : List (Vec ℕ Global × ℕ)) (items now : ℕ) (one : Looked)
     (key : Vec ℕ Global) (number : ℕ) → IsIndexed seen numbers items → HasParts one → HasRoot one
-    → ¬ (Has seen one.dir) → key.items ≡ text_of one.dir → number ≡ length seen → now ≡ items + length one.items
+    → ¬ (Has seen one.dir) → key.items ≡ text_of one.dir → number ≡ length seen → now ≡ items + one.count
     → now ≤ 1000000
     → IsIndexed (seen ++ one ∷ []) (insert_entry (λ x y. slice_cmp nat_cmp x.items y.items) numbers key number) now
 one_more seen numbers items now one key number index parts its new named last sum room = record {
@@ -115,6 +115,6 @@ one_more seen numbers items now one key number index parts its new named last su
       (its_number seen one.dir k index.parts parts (at ∙ ap (λ text. Some text) named)))));
   parts = All-push HasParts seen one index.parts parts;
   roots = All-push HasRoot seen one index.roots its;
-  count = omega (arith, index.count, sum_by_push (λ looked. length looked.items) seen one);
+  count = omega (arith, index.count, sum_by_push (λ looked. looked.count) seen one);
   within = room;
 }

@@ -1,8 +1,10 @@
 -- What a look at a directory gives, and a look for its suite, where the tree tells what stands in it.
 -- Own rule: directories are looked at from the one whose suite is wanted upward, to the first with a suite file.
-use Rattle.std.specs.Prelude.{◌≡◌, ◌≢◌, ℕ, List, ◌∷◌, ◌++◌, Option, None, Some, Result, ◌⊎◌, slice_get}
+use Rattle.std.specs.Prelude.{◌≡◌, ◌≢◌, ℕ, true, List, ◌∷◌, ◌++◌, Option, None, Some, Result, ◌⊎◌, slice_get}
 use Rattle.std.specs.List.{Contains}
+use Rattle.tt_outside.specs.declared.tree.Item.{Item}
 use Rattle.tt_outside.specs.declared.tree.Node.{Node}
+use Rattle.tt_outside.specs.TreeMap.{Lists, are_nested}
 use Rattle.tt_outside.specs.declared.tree.ItemKind.TheVariants.{Dir, File}
 use Rattle.lit_paths.specs.Paths.{Parts, text_of}
 use Rattle.lit_dirs.specs.Looks.{kind_of}
@@ -10,7 +12,7 @@ use Rattle.lit_dirs.specs.declared.fault.DiscoverFault.{DiscoverFault}
 use Rattle.lit_dirs.specs.declared.fault.DiscoverFault.TheVariants.{Missing, NoSuite}
 use Rattle.lit_look.specs.declared.root.SuiteRoot.{SuiteRoot}
 use Rattle.lit_look.specs.declared.seen.Looked.{Looked}
-use Rattle.lit_look.specs.Seen.{AreSeen, Has, Refuses, RefusesNext}
+use Rattle.lit_look.specs.Seen.{AreLooks, AreSeen, Has, Refuses, RefusesNext}
 use Rattle.lit_look.specs.Suites.{looked_up, nearest, rooted_at}
 use Rattle.lit_look.specs.Trees.{Gives}
 
@@ -42,6 +44,17 @@ WasLookedAt nodes dir old new None = (kind_of nodes dir ≡ Some File) × (new �
 abbrev pub GivesLook : List Node → Parts → List Looked → List Looked → Result (Option ℕ) DiscoverFault → Type 0
 GivesLook nodes dir old new =
     Gives (WasLookedAt nodes dir old new) (λ fault. IsAbsent nodes dir fault ⊎ RefusesNext nodes old dir fault)
+
+-- the directory was looked at, and it lists these
+abbrev pub WasListed : List Node → Parts → List Looked → List Looked → Option (ℕ × List Item) → Type 0
+WasListed nodes dir old new (Some (number, items)) =
+    WasLookedAt nodes dir old new (Some number) × Lists nodes (text_of dir) items
+WasListed nodes dir old new None = WasLookedAt nodes dir old new None
+
+abbrev pub GivesListed : List Node → Parts → List Looked → List Looked → Result (Option (ℕ × List Item)) DiscoverFault
+    → Type 0
+GivesListed nodes dir old new =
+    Gives (WasListed nodes dir old new) (λ fault. IsAbsent nodes dir fault ⊎ RefusesNext nodes old dir fault)
 
 -- a directory was looked at; or it is refused
 abbrev pub GivesDirLook : List Node → Parts → List Looked → List Looked → Result ℕ DiscoverFault → Type 0
@@ -80,3 +93,24 @@ abbrev pub GivesNearest : List Node → Parts → Parts → List Looked → List
 GivesNearest nodes dir word old new =
     Gives (IsNearest nodes dir old new)
     (λ fault. IsAbsent nodes dir fault ⊎ ((kind_of nodes dir ≡ Some Dir) × RefusesUp nodes (Has old) dir word fault))
+
+-- ---- answers, where the tree tells what stands in it
+
+-- behind looks at what it tells
+abbrev pub IfLooks : Option (List Node) → List Looked → (List Node → Type 0) → Type 0
+IfLooks told old Then = (nodes : List Node) → told ≡ Some nodes → AreLooks nodes old → Then nodes
+
+abbrev pub LooksInto : Option (List Node) → Parts → List Looked → List Looked → Result ℕ DiscoverFault → Type 0
+LooksInto told dir old new result = IfLooks told old (λ nodes. GivesDirLook nodes dir old new result)
+
+abbrev pub Looks : Option (List Node) → Parts → List Looked → List Looked → Result (Option ℕ) DiscoverFault → Type 0
+Looks told dir old new result = IfLooks told old (λ nodes. GivesLook nodes dir old new result)
+
+abbrev pub LooksThrough : Option (List Node) → Parts → List Looked → List Looked
+    → Result (Option (ℕ × List Item)) DiscoverFault → Type 0
+LooksThrough told dir old new result = IfLooks told old (λ nodes. GivesListed nodes dir old new result)
+
+abbrev pub LooksUp : Option (List Node) → Parts → Parts → List Looked → List Looked
+    → Result (Option SuiteRoot) DiscoverFault → Type 0
+LooksUp told dir word old new result =
+    IfLooks told old (λ nodes. are_nested nodes ≡ true → GivesNearest nodes dir word old new result)

@@ -11,16 +11,15 @@ use std::alloc::Global;
 use std::collections::BTreeMap;
 use std::marker::Model;
 use tt_base::{Bytes, Items, NoMemory};
-use tt_outside::Item;
 
 /// How many items the directories list in all, at most.
 pub const MAX_ITEMS: u64 = 1_000_000;
 
-/// A directory that nothing refuses: what it lists, and the suite that it is the root of.
+/// A directory that nothing refuses: how many items it lists, and the suite that it is the root of.
 #[derive(Drop, Debug)]
 pub struct Looked {
     pub dir: Items<Bytes>,
-    pub items: Items<Item>,
+    pub count: usize,
     pub suite: Option<SharedRoot>,
 }
 
@@ -89,13 +88,13 @@ impl SeenFolders {
         requires parts { HasParts looked }
         requires root { HasRoot looked }
         requires new { ¬ (Has self.old looked.dir) }
-        requires room { count_items self.old + length looked.items ≤ 1000000 }
+        requires room { count_items self.old + looked.count ≤ 1000000 }
         ensures adds { OnOk result (self.new ≡ self.old ++ looked ∷ []) }
         ensures number { IfOk result (λ number. number ≡ length self.old) }
         ensures err { OnErr result (self.new ≡ self.old) }
     {
         let number = self.held.len();
-        let more = looked.items.len() as u64;
+        let more = looked.count as u64;
         let path = text_of(alloc, looked.dir.as_slice())?;
         if self.held.reserve(1).is_err() {
             return Err(NoMemory);

@@ -1,13 +1,11 @@
 //! The nearest suite of a directory.
-ghost use Rattle.std.specs.Prelude.{◌≡◌, ◌<◌, IfOk, IfSome, List, Some, length, slice_get, true};
+ghost use Rattle.std.specs.Prelude.{◌≡◌, ◌<◌, IfOk, IfSome, length, slice_get, true};
 ghost use Rattle.std.specs.List.{list_all};
-ghost use Rattle.lit_look.specs.Looks.{Extends, GivesNearest, IsNumberOf, suite_of};
-ghost use Rattle.lit_look.specs.Seen.{AreLooks};
+ghost use Rattle.lit_look.specs.Looks.{Extends, IsNumberOf, LooksUp, suite_of};
 ghost use Rattle.lit_look.specs.Suites.{LiesIn};
 ghost use Rattle.lit_look.specs.Trees.{Leaves, fault_of};
 ghost use Rattle.lit_paths.specs.Paths.{Parts};
-ghost use Rattle.tt_outside.specs.declared.tree.Node.{Node};
-ghost use Rattle.tt_outside.specs.TreeMap.{are_nested, is_part};
+ghost use Rattle.tt_outside.specs.TreeMap.{is_part};
 
 use crate::looking::look;
 use crate::root::SharedRoot;
@@ -41,8 +39,7 @@ pub fn nearest<T: Tree>(
     word: &[Bytes],
 ) -> Result<Option<SharedRoot>, DiscoverFault>
     requires parts { list_all is_part dir.now ≡ true }
-    ensures gives { (nodes : List Node) → T.nodes tree.old ≡ Some nodes → AreLooks nodes seen.old
-        → are_nested nodes ≡ true → GivesNearest nodes dir.now word.now seen.old seen.new result }
+    ensures gives { LooksUp (T.nodes tree.old) dir.now word.now seen.old seen.new result }
     ensures above { IfOk result (λ found. IfSome found (λ root. LiesIn root.dir dir.now)) }
     ensures extends { Extends seen.old seen.new }
     ensures tree { Leaves T.nodes T.root T.faults T.steady tree.old tree.new (fault_of result) }

@@ -1,9 +1,11 @@
 -- What hands did in the rounds so far (`Went`): at first nothing, then what the next round adds (`next_went`). `left_at_end` is what is promised
 -- at the end, `next_left` what is promised where memory was wanting in a round, `next_refused` where a trial was refused behind it. What was
 -- begun is counted below each bound; so each test is found to have been begun once (`begins_first`).
-use Rattle.std.proofs.Common.{◌≡◌, ◌+◌, ◌-◌, ◌*◌, ◌^◌, ◌%◌, ◌≤◌, ◌<◌, ◌||◌, ◌∙◌, ℕ, Bool, true, false, true≢false, min, List, [], ◌∷◌, ◌++◌, length, map, get_or, replicate, take, drop, None, refl, sym, ap, subst, arith}
+use Rattle.std.proofs.Common.{◌≡◌, ◌+◌, ◌-◌, ◌*◌, ◌^◌, ◌%◌, ◌≤◌, ◌<◌, ◌||◌, ◌∙◌, inl, inr, ℕ, true, false, true≢false, min, List, [], ◌∷◌, ◌++◌, length, map, get_or, replicate, slice_get, take, drop, None, Some, refl, sym, ap, subst, arith}
+use Rattle.std.proofs.lemmas.Bool.{or_cases, or_parts}
 use Rattle.std.proofs.lemmas.Bool.Decides.{nat_tests}
 use Rattle.std.proofs.lemmas.List.{append-nil, get_or-map, get_or-replicate, length-append, length-map, length-drop, length-replicate, length-take, take-append-drop}
+use Rattle.std.proofs.lemmas.Option.{slice_get_within}
 use Rattle.std.proofs.lemmas.List.Folds.{fold-map, sum_by-replicate}
 use Rattle.std.proofs.lemmas.List.Sums.{get_or-le-sum_by, sum_by-cons}
 use Rattle.std.specs.List.{All}
@@ -19,11 +21,12 @@ use Rattle.lit_claims.proofs.Counts.{count_between}
 use Rattle.lit_round.specs.Hands.{CanRun, IsHandOf, all_left, asked_by, asked_of, begun_below, begun_by, faults_of, left, room_of, rooms_of}
 use Rattle.lit_round.specs.Round.{BeginsUpTo, RunsRound}
 use Rattle.lit_round.specs.Trials.{AreTrials, any_fault, sum_entries}
-use Rattle.lit_round.proofs.TrialLemmas.{entries_both, fault_either, neither}
+use Rattle.lit_round.proofs.TrialLemmas.{entries_both, fault_either}
 use Rattle.lit_pool.specs.Crew.{BeginsFirst, LeftAtEnd, LeftAtStop, begun_of, nothing_left}
-use Rattle.lit_pool.specs.Pool.{returned}
+use Rattle.lit_desk.specs.declared.stop.DeskStop.{DeskStop}
+use Rattle.lit_pool.specs.Pool.{returned, stop_at}
 use Rattle.lit_pool.specs.declared.stop.PoolStop.{PoolStop}
-use Rattle.lit_pool.proofs.RunLemmas.{part_on, trials_both, trials_long}
+use Rattle.lit_pool.proofs.RunLemmas.{front_of, part_on, stop_parts, trials_both, trials_long}
 
 -- in the rounds before a test, of so many in all, hands began all tests before it
 pub record Went (workers tests first : ℕ) (trials : List Trial) (hands : List Left) : Type 0 where
@@ -72,10 +75,6 @@ begins_first tests hands below number = record {
 
 -- ---- a round
 
-by_fault : (old new : ℕ) (p q : Bool) → old ≤ new → (p ≡ true → Rose 0 old) → (q ≡ true → Rose old new) → (p || q) ≡ true → Rose 0 new
-by_fault old new true q later was is any = let rose = was refl in omega arith
-by_fault old new false q later was is any = let rose = is any in omega arith
-
 -- the next round: its tests are those behind the first ones
 module _ (workers : ℕ) (tests part : List Test) (first count : ℕ) (xs : List Trial) (old new : List Left)
     (w : Went workers (length tests) first xs old) (some : first < length tests) (is : count ≡ min (length tests - first) 256)
@@ -122,9 +121,11 @@ module _ (workers : ℕ) (tests part : List Test) (first count : ℕ) (xs : List
           number = let was = w.number in let more = r.number in omega arith;
           asked = let was = w.asked in let more = r.asked in omega arith;
           few = let was = w.few in let more = r.few in omega arith;
-          broken = λ any. by_fault (faults_of old) (faults_of new) (any_fault xs) (any_fault ys) b.later w.broken r.broken
-              (sym (fault_either xs ys) ∙ any);
-          calm = λ none. let both = neither (any_fault xs) (any_fault ys) (sym (fault_either xs ys) ∙ none) in
+          broken = λ any. elim (or_cases (any_fault xs) (any_fault ys) (sym (fault_either xs ys) ∙ any)) [
+            | inl here ↦ omega (arith, b.later, w.broken here)
+            | inr here ↦ omega (arith, b.later, r.broken here)
+          ];
+          calm = λ none. let both = or_parts (any_fault xs) (any_fault ys) (sym (fault_either xs ys) ∙ none) in
               r.calm both.1 ∙ w.calm both.0;
         }
 
@@ -136,13 +137,18 @@ module _ (workers : ℕ) (tests part : List Test) (first count : ℕ) (xs : List
         (subst (λ ts. AreTrials gave first ts ys) part_is r.are))
 
     -- the desk refused one of its trials
-    pub next_refused : (k : ℕ) (stop : PoolStop) → k < length ys → returned stop ≡ take (first + k + 1) (xs ++ ys)
-        → length stop.trials ≡ first + k → LeftAtStop workers (length tests) stop new
-    next_refused k stop low put front =
+    pub next_refused : (k : ℕ) (why : DeskStop) (other : Trial) (stop : PoolStop) → slice_get ys k ≡ Some other
+        → stop ≡ stop_at (xs ++ ys) (first + k) why → LeftAtStop workers (length tests) stop new
+    next_refused k why other stop at stops =
         let went = next_went in
         let all = xs ++ ys in
         let even = w.even some in
         let here = next_long in
+        let low = slice_get_within ys k other at in
+        let parts = stops ∙ stop_parts first k xs ys why other w.long at in
+        let front = ap (λ s. length s.trials) parts ∙ length-append xs (take k ys) in
+        let taken = length-take k ys in
+        let put = ap returned parts ∙ sym (front_of first k xs ys other w.long at) in
         record {
           count = let n = went.count in omega arith;
           all = λ why. went.count;
@@ -150,7 +156,7 @@ module _ (workers : ℕ) (tests part : List Test) (first count : ℕ) (xs : List
           begun = begins_first (first + count) new went.below went.number;
           least = let long = ap length put ∙ length-take (first + k + 1) all in omega arith;
           within = omega arith;
-          most = omega arith;
+          most = let long = w.long in omega arith;
           broken = λ any. went.broken (ap any_fault (sym (take-append-drop (first + k + 1) all))
               ∙ fault_either (take (first + k + 1) all) (drop (first + k + 1) all)
               ∙ ap (λ p. p || any_fault (drop (first + k + 1) all)) (ap any_fault (sym put) ∙ any));

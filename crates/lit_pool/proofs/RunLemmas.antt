@@ -1,23 +1,28 @@
 -- A run by one hand, test by test: the first tests have their trials, which were put, and the hand began just these. Each `_on` is
 -- the step to the next test; `stopped_alone` and `stopped_at` are what is promised of the two kinds of stop. None is hard: lists
 -- grow at their end, and the definitions go by their front.
-use Rattle.std.proofs.Common.{◌≡◌, ◌+◌, ◌<◌, ◌∙◌, ℕ, zero, suc, List, [], ◌∷◌, ◌++◌, get_or, length, map, slice_get, take, drop, Option, None, Some, refl, sym, ap, subst, arith}
+use Rattle.std.proofs.Common.{◌≡◌, ◌+◌, ◌≤◌, ◌<◌, ◌∙◌, ℕ, zero, suc, true, false, List, [], ◌∷◌, ◌++◌, get_or, length, map, slice_get, take, drop, Option, None, Some, refl, sym, ap, subst, arith}
 use Rattle.std.proofs.Math.Seq.{take-append-add, take-suc}
-use Rattle.std.proofs.lemmas.List.{append-nil, append_assoc, drop-take, length-append, length-take-le, same_from_push, take-append-drop, take-take, take_more}
+use Rattle.std.proofs.lemmas.List.{append-nil, append_assoc, drop-take, length-append, length-take-le, take-append-drop, take-take, take_more}
 use Rattle.std.proofs.lemmas.Option.{get_or_from_slice_get, slice_get_within}
-use Rattle.std.proofs.lemmas.List.FromFn.{length-range_with_len}
+use Rattle.std.proofs.lemmas.List.Sums.{sum_by_push}
 use Rattle.std.specs.List.{range_with_len}
 use Rattle.std.specs.Option.{option_to_list}
+use Rattle.tt_outside.specs.Faults.{Rose}
 use Rattle.tt_outside.specs.Gave.{Gave, SameGave}
+use Rattle.tt_outside.specs.declared.crew.Runner.{Ghosts as OfRunner}
 use Rattle.tt_outside.specs.declared.test_data.Test.{Test}
 use Rattle.test_course.specs.Entries.{AreGiven}
+use Rattle.test_course.specs.Played.{any_broken}
 use Rattle.test_course.proofs.EntryLemmas.{AreGiven_same}
+use Rattle.test_course.proofs.PlayedLemmas.{SameGave-trans}
 use Rattle.lit_test.specs.Trial.{IsTrial}
 use Rattle.lit_test.specs.declared.trial.Trial.{Trial}
 use Rattle.lit_desk.specs.Desk.{PutFrom}
 use Rattle.lit_desk.specs.declared.stop.DeskStop.{DeskStop}
 use Rattle.lit_round.specs.Trials.{AreTrials, IsTrialOf}
-use Rattle.lit_pool.specs.Pool.{IsStopped, RefusesAt, returned, why_of}
+use Rattle.lit_round.proofs.TrialLemmas.{broken_on, calm_on}
+use Rattle.lit_pool.specs.Pool.{CountsFor, GoesOn, IsStopped, RefusesAt, returned, stop_at, why_of}
 use Rattle.lit_pool.specs.declared.stop.PoolStop.{PoolStop}
 use Rattle.lit_pool.specs.declared.stop.PoolWhy.{PoolWhy}
 use Rattle.lit_pool.specs.declared.stop.PoolWhy.TheVariants.{NoMemory}
@@ -126,19 +131,31 @@ begun_on old mid new n first next =
     ∙ ap (λ m. old ++ (range_with_len 0 n ++ m ∷ [])) here ∙ ap (λ ns. old ++ ns) (sym (range_on 0 n))
     ∙ ap (λ m. old ++ range_with_len 0 m) count
 
--- room for the tests that are begun
-pub room_of : (old new : List ℕ) (n left room : ℕ) → new ≡ old ++ range_with_len 0 n → n + left ≡ room
-    → length new + left ≡ length old + room
-room_of old new n left room begun has =
-    let long = ap length begun ∙ length-append old (range_with_len 0 n) in
-    let count = length-range_with_len 0 n in omega (arith, long, count, has)
+-- ---- a hand behind one test more
 
--- ---- replies
+pub goes_on_test : {H : Type 0} (runner : OfRunner H) (one two three : H) (n : ℕ) → GoesOn runner one two
+    → runner.begun three ≡ runner.begun two ++ n ∷ [] → runner.rooms three + 1 ≡ runner.rooms two
+    → SameGave (runner.gave three) (runner.gave two) → runner.ready three → runner.faults two ≤ runner.faults three
+    → GoesOn runner one three
+goes_on_test runner one two three n was begun room gave ready later =
+    let long = ap length begun ∙ length-append (runner.begun two) (n ∷ []) in
+    record {
+      room = omega (arith, long, room, was.room);
+      gave = SameGave-trans _ _ _ gave was.gave;
+      ready = ready;
+      later = omega (arith, later, was.later);
+    }
 
-pub gave_both : (one two three : Gave) → SameGave one two → SameGave two three → SameGave one three
-gave_both one two three first second test earlier request reply =
-    let a = first test earlier request reply in let b = second test earlier request reply in
-    ((λ is. b.0 (a.0 is)), (λ is. a.1 (b.1 is)))
+pub counts_on : {H : Type 0} (runner : OfRunner H) (one two three : H) (xs : List Trial) (x : Trial) → CountsFor runner one two xs
+    → runner.faults one ≤ runner.faults two → runner.faults two ≤ runner.faults three
+    → runner.asked three ≡ runner.asked two + length x.entries
+    → (any_broken x.entries ≡ true → Rose (runner.faults two) (runner.faults three))
+    → (any_broken x.entries ≡ false → runner.faults three ≡ runner.faults two) → CountsFor runner one three (xs ++ x ∷ [])
+counts_on runner one two three xs x was first later asked broken calm = record {
+  asked = omega (arith, sum_by_push (λ (t : Trial). length t.entries) xs x, was.asked, asked);
+  broken = broken_on _ _ _ xs x first later was.broken broken;
+  calm = calm_on _ _ _ xs x was.calm calm;
+}
 
 -- ---- a stop
 
@@ -185,6 +202,38 @@ stopped_same Takes Keeps one two same tests old new stop s = record {
   refused = s.refused;
 }
 
+-- ---- a stop at a refused trial
+
+-- the last of a list that was cut behind a place was taken off
+pub last_at : {A : Type 0} (items rest : List A) (place : ℕ) (last : Option A) → length rest ≡ place → place < length items
+    → rest ++ option_to_list last ≡ take (place + 1) items → (rest ≡ take place items) × (last ≡ slice_get items place)
+last_at [] rest place last long low is = absurd (omega arith)
+last_at (x ∷ xs) [] zero None long low is = absurd (cc (is))
+last_at (x ∷ xs) [] zero (Some y) long low is = (refl, cc (is))
+last_at (x ∷ xs) [] (suc place) last long low is = absurd (omega arith)
+last_at (x ∷ xs) (y ∷ ys) zero last long low is = absurd (omega arith)
+last_at (x ∷ xs) (y ∷ ys) (suc place) last long low is =
+    let more : suc place + 1 ≡ suc (place + 1) = omega arith in
+    let all : y ∷ (ys ++ option_to_list last) ≡ x ∷ take (place + 1) xs = is ∙ ap (λ n. take n (x ∷ xs)) more in
+    let rest = last_at xs ys place last (omega (arith, long)) (omega (arith, low)) (cc (all)) in
+    let first : y ≡ x = cc (all) in (ap (λ l. y ∷ l) rest.0 ∙ ap (λ z. z ∷ take place xs) first, rest.1)
+
+slice_get_behind : {A : Type 0} (xs ys : List A) (n : ℕ) → slice_get (xs ++ ys) (length xs + n) ≡ slice_get ys n
+slice_get_behind [] ys n = ap (slice_get ys) (omega arith)
+slice_get_behind (x ∷ xs) ys n =
+    let next : length (x ∷ xs) + n ≡ suc (length xs + n) = omega arith in
+    ap (slice_get (x ∷ (xs ++ ys))) next ∙ slice_get_behind xs ys n
+
+-- one of a round, where all trials before the round had been put
+pub stop_parts : (first taken : ℕ) (xs ys : List Trial) (why : DeskStop) (other : Trial) → length xs ≡ first
+    → slice_get ys taken ≡ Some other → stop_at (xs ++ ys) (first + taken) why
+    ≡ record { why = why_of why; trials = xs ++ take taken ys; other = Some other }
+stop_parts first taken xs ys why other long at =
+    let here : first + taken ≡ length xs + taken = omega (arith, long) in
+    let front = ap (λ n. take n (xs ++ ys)) here ∙ take-append-add xs ys taken in
+    let there = ap (slice_get (xs ++ ys)) here ∙ slice_get_behind xs ys taken ∙ at in
+    λ i. record { why = why_of why; trials = front i; other = there i }
+
 -- ---- a round
 
 -- the tests of a round behind those before it
@@ -199,7 +248,7 @@ pub stopped_in : {D : Type 0} (Takes : D → ℕ → Trial → D → Type 0) (Ke
     (tests : List Test) (first count taken : ℕ) (xs ys : List Trial) (old mid new : D) (why : DeskStop) (stop : PoolStop)
     → length xs ≡ first → AreTrials gave 0 (take first tests) xs → PutFrom Takes old 0 xs mid
     → AreTrials gave first (take count (drop first tests)) ys → (r : RefusesAt Takes Keeps mid first ys taken why new)
-    → stop ≡ record { why = why_of why; trials = xs ++ take taken ys; other = Some r.other }
+    → stop ≡ stop_at (xs ++ ys) (first + taken) why
     → IsStopped Takes Keeps gave tests old new stop
 stopped_in Takes Keeps gave tests first count taken xs ys old mid new why stop long are put part r is =
     let low = slice_get_within ys taken r.other r.at in
@@ -212,7 +261,7 @@ stopped_in Takes Keeps gave tests first count taken xs ys old mid new why stop l
     let place : length (xs ++ take taken ys) ≡ first + taken = omega arith in
     let behind = drop first tests in
     let part_tests = take count behind in
-    rw is (record {
+    rw (is ∙ stop_parts first taken xs ys why r.other long r.at) (record {
       done = take first tests ++ take (taken + 1) part_tests;
       rest = drop (taken + 1) part_tests ++ drop count behind;
       all = sym (append_assoc (take first tests) (take (taken + 1) part_tests) (drop (taken + 1) part_tests ++ drop count behind)
@@ -226,12 +275,6 @@ stopped_in Takes Keeps gave tests first count taken xs ys old mid new why stop l
       put = put_both Takes old mid r.between 0 first xs (take taken ys) (omega arith) put r.put;
       refused = (why, refl, subst (λ n. Keeps r.between n r.other why new) (sym place) r.kept);
     })
-
--- the last of a list was taken off, and is this one
-pub last_taken : {A : Type 0} (rest front : List A) (last : Option A) (z o : A) → last ≡ Some z → rest ++ option_to_list last ≡ front ++ o ∷ []
-    → (rest ≡ front) × (last ≡ Some o)
-last_taken rest front last z o is all =
-    let same = same_from_push rest front z o (ap (λ l. rest ++ option_to_list l) (sym is) ∙ all) in (same.0, is ∙ ap Some same.1)
 
 -- the trials before a refused one, and it
 pub front_of : (first taken : ℕ) (xs ys : List Trial) (other : Trial) → length xs ≡ first → slice_get ys taken ≡ Some other

@@ -2,16 +2,16 @@
 -- Own rules: a hand is hired for each worker before the first test, and each is dismissed however the run ends. Tests are run in rounds,
 -- and a round begins behind the last trial of the one before.
 use Rattle.std.specs.Prelude.{◌≡◌, ◌≢◌, ℕ, ◌+◌, ◌-◌, ◌%◌, ◌≤◌, nat_lt, if◌then◌else◌, true, false, List, [], ◌++◌, length, replicate, Result, Ok, Err}
-use Rattle.std.specs.List.{sum_by}
+use Rattle.std.specs.List.{All, sum_by}
 use Rattle.tt_outside.specs.Faults.{Rose}
+use Rattle.tt_outside.specs.Gave.{Gave}
 use Rattle.tt_outside.specs.declared.crew.Left.{Left}
 use Rattle.tt_outside.specs.declared.crew.Runner.{Ghosts as OfRunner}
 use Rattle.lit_test.specs.declared.trial.Trial.{Trial}
 use Rattle.lit_claims.specs.Counted.{count_of}
-use Rattle.lit_round.specs.Hands.{MAX_ROUND, all_left, asked_of, begun_by, faults_of, rooms_of}
+use Rattle.lit_round.specs.Hands.{IsHandOf, MAX_ROUND, all_left, asked_of, begun_by, faults_of, rooms_of}
 use Rattle.lit_round.specs.Trials.{any_fault, sum_entries}
 use Rattle.lit_pool.specs.Pool.{returned}
-use Rattle.lit_pool.specs.declared.rounds.Rounds.{Rounds}
 use Rattle.lit_pool.specs.declared.stop.PoolStop.{PoolStop}
 use Rattle.lit_pool.specs.declared.stop.PoolWhy.TheVariants.{NoMemory}
 
@@ -19,12 +19,11 @@ use Rattle.lit_pool.specs.declared.stop.PoolWhy.TheVariants.{NoMemory}
 abbrev pub nothing_left : Left
 nothing_left = record { begun = []; asked = 0; faults = 0 }
 
--- so many hands that began and asked nothing, and have room for so many tests each
-abbrev pub AreFresh : {H : Type 0} → OfRunner H → ℕ → List H → Type 0
-AreFresh runner count hands = all_left runner hands ≡ replicate count nothing_left
-
-abbrev pub HaveRoom : {H : Type 0} → OfRunner H → ℕ → ℕ → List H → Type 0
-HaveRoom runner count tests hands = rooms_of runner hands ≡ replicate count tests
+-- Hands were hired: they began and asked nothing, have room for so many tests each, and give what the crew gives.
+pub record AreHired {H : Type 0} (runner : OfRunner H) (gave : Gave) (tests : ℕ) (hands : List H) : Type 0 where
+  pub fresh : all_left runner hands ≡ replicate (length hands) nothing_left
+  pub rooms : rooms_of runner hands ≡ replicate (length hands) tests
+  pub own : All (IsHandOf runner gave) hands
 
 -- at most so many hands were dismissed that began and asked nothing
 pub record LeavesFresh (workers : ℕ) (old new : List Left) : Type 0 where
@@ -71,9 +70,9 @@ abbrev pub AllLeft : ℕ → ℕ → Result (List Trial) PoolStop → List Left 
 AllLeft workers tests (Ok trials) hands = LeftAtEnd workers tests trials hands
 AllLeft workers tests (Err stop) hands = LeftAtStop workers tests stop hands
 
--- the same of the hands behind rounds
-abbrev pub RoundsLeave : {H : Type 0} → OfRunner H → ℕ → ℕ → Rounds H → Type 0
-RoundsLeave runner workers tests rounds = AllLeft workers tests rounds.ended (all_left runner rounds.hands.items)
+-- the same of hands behind the rounds of so many tests, as many as before them
+abbrev pub HandsLeave : {H : Type 0} → OfRunner H → ℕ → Result (List Trial) PoolStop → List H → List H → Type 0
+HandsLeave runner tests ended old new = AllLeft (length old) tests ended (all_left runner new)
 
 -- the hands that were dismissed in a run of so many tests
 pub record LeavesHands (workers tests : ℕ) (ended : Result (List Trial) PoolStop) (old new : List Left) : Type 0 where

@@ -5,7 +5,7 @@ use Rattle.std.specs.Prelude.{◌≡◌, ℕ, ◌+◌, ◌≤◌, true, false, L
 use Rattle.std.specs.List.{range_with_len}
 use Rattle.std.specs.Option.{option_to_list}
 use Rattle.tt_outside.specs.Faults.{Rose}
-use Rattle.tt_outside.specs.Gave.{Gave}
+use Rattle.tt_outside.specs.Gave.{Gave, SameGave}
 use Rattle.tt_outside.specs.declared.crew.Runner.{Ghosts as OfRunner}
 use Rattle.tt_outside.specs.declared.test_data.Test.{Test}
 use Rattle.test_course.specs.Bytes.{kept_behind}
@@ -30,19 +30,18 @@ told_of trial = record { name = trial.test.name; result = trial.result; text = t
 abbrev pub kept_of : Trial → Kept
 kept_of trial = record { kept = kept_behind 0 trial.entries; told = told_of trial }
 
--- a hand answered what the entries of trials say, and counted a fault where a reply of theirs is one, and else none
-abbrev pub AnswersFor : {H : Type 0} → OfRunner H → H → H → List Trial → Type 0
-AnswersFor runner old new trials = runner.asked new ≡ runner.asked old + sum_entries trials
+-- a hand answered what the entries of trials say, and its count of faults rose where a reply of theirs is one, and else it stayed
+pub record CountsFor {H : Type 0} (runner : OfRunner H) (old new : H) (trials : List Trial) : Type 0 where
+  pub asked : runner.asked new ≡ runner.asked old + sum_entries trials
+  pub broken : any_fault trials ≡ true → Rose (runner.faults old) (runner.faults new)
+  pub calm : any_fault trials ≡ false → runner.faults new ≡ runner.faults old
 
-abbrev pub FailsFor : {H : Type 0} → OfRunner H → H → H → List Trial → Type 0
-FailsFor runner old new trials = any_fault trials ≡ true → Rose (runner.faults old) (runner.faults new)
-
-abbrev pub IsCalmFor : {H : Type 0} → OfRunner H → H → H → List Trial → Type 0
-IsCalmFor runner old new trials = any_fault trials ≡ false → runner.faults new ≡ runner.faults old
-
--- it has begun some tests, and has room for as many fewer
-abbrev pub KeepsRoom : {H : Type 0} → OfRunner H → H → H → Type 0
-KeepsRoom runner old new = length (runner.begun new) + runner.rooms new ≡ length (runner.begun old) + runner.rooms old
+-- A hand began some tests: it has room for as many fewer, gives the same replies, and may begin more. Its count of faults never fell.
+pub record GoesOn {H : Type 0} (runner : OfRunner H) (old new : H) : Type 0 where
+  pub room : length (runner.begun new) + runner.rooms new ≡ length (runner.begun old) + runner.rooms old
+  pub gave : SameGave (runner.gave new) (runner.gave old)
+  pub ready : runner.ready new
+  pub later : runner.faults old ≤ runner.faults new
 
 -- ---- a stopped run
 
@@ -50,14 +49,20 @@ KeepsRoom runner old new = length (runner.begun new) + runner.rooms new ≡ leng
 abbrev pub returned : PoolStop → List Trial
 returned stop = stop.trials ++ option_to_list stop.other
 
--- a hand answered what the entries of these trials say, where the desk refused one of them
-abbrev pub AnswersAtStop : {H : Type 0} → OfRunner H → H → H → PoolStop → Type 0
-AnswersAtStop runner old new stop = IfSome stop.other (λ _. AnswersFor runner old new (returned stop))
+-- A stopped hand counted the faults of these trials, and where the desk refused one of them it answered what their entries say. Of a test
+-- whose trial isn't returned nothing is said.
+pub record CountsAtStop {H : Type 0} (runner : OfRunner H) (old new : H) (stop : PoolStop) : Type 0 where
+  pub asked : IfSome stop.other (λ _. runner.asked new ≡ runner.asked old + sum_entries (returned stop))
+  pub broken : any_fault (returned stop) ≡ true → Rose (runner.faults old) (runner.faults new)
 
 abbrev pub why_of : DeskStop → PoolWhy
 why_of desk.SinkFault = SinkFault
 why_of desk.TooMuch = TooMuch
 why_of desk.NoMemory = NoMemory
+
+-- the stop at a trial that the desk refused, of which these were to be put: those before it were
+abbrev pub stop_at : List Trial → ℕ → DeskStop → PoolStop
+stop_at trials place why = record { why = why_of why; trials = take place trials; other = slice_get trials place }
 
 -- A desk refused the other trial, which tells why the run stopped. Where there is none, memory was wanting, and the desk was left
 -- alone.

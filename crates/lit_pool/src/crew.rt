@@ -3,7 +3,7 @@ ghost use Rattle.std.specs.Prelude.{◌≡◌, ◌+◌, ◌≤◌, ◌++◌, IfO
 ghost use Rattle.std.specs.List.{All};
 ghost use Rattle.tt_outside.specs.Gave.{SameGave};
 ghost use Rattle.lit_round.specs.Hands.{IsHandOf, all_left};
-ghost use Rattle.lit_pool.specs.Crew.{AreFresh, HaveRoom, LeavesFresh};
+ghost use Rattle.lit_pool.specs.Crew.{AreHired, LeavesFresh};
 
 use std::alloc::Global;
 use tt_base::NoMemory;
@@ -17,9 +17,8 @@ pub(crate) fn hire_all<C: Crew>(
     crew: &mut C,
 ) -> Result<Vec<C::Hand>, NoMemory>
     requires ready { C.ready crew.old }
-    ensures fresh { IfOk result (λ hands. AreFresh C.Hand.Runner workers hands.items) }
-    ensures rooms { IfOk result (λ hands. HaveRoom C.Hand.Runner workers room hands.items) }
-    ensures own { IfOk result (λ hands. All (IsHandOf C.Hand.Runner (C.gave crew.old)) hands.items) }
+    ensures hired { IfOk result (λ hands. AreHired C.Hand.Runner (C.gave crew.old) room hands.items) }
+    ensures count { IfOk result (λ hands. length hands.items ≡ workers) }
     ensures hands { OnOk result (C.hands crew.new ≡ C.hands crew.old) }
     ensures seats { OnOk result (C.seats crew.new ≡ C.seats crew.old + workers) }
     ensures refused { OnErr result (LeavesFresh workers (C.hands crew.old) (C.hands crew.new)) }

@@ -1,12 +1,12 @@
 //! The rounds of a run.
-ghost use Rattle.std.specs.Prelude.{◌≡◌, ◌+◌, ◌<◌, ◌≤◌, IfErr, IfOk, OnOk, length, vec_len};
+ghost use Rattle.std.specs.Prelude.{◌≡◌, ◌+◌, ◌<◌, ◌≤◌, IfErr, IfOk, OnOk, length};
 ghost use Rattle.std.specs.List.{All};
 ghost use Rattle.lit_claims.specs.Claimed.{SHARES};
 ghost use Rattle.lit_round.specs.Hands.{IsHandOf};
 ghost use Rattle.lit_round.specs.Trials.{AreTrials};
 ghost use Rattle.lit_desk.specs.Desk.{PutFrom};
-ghost use Rattle.lit_pool.specs.Crew.{AreFresh, HaveRoom, RoundsLeave};
-ghost use Rattle.lit_pool.specs.Pool.{IsStopped, RefusesNext};
+ghost use Rattle.lit_pool.specs.Crew.{AreHired, HandsLeave};
+ghost use Rattle.lit_pool.specs.Pool.{IsStopped, RefusesNext, stop_at};
 
 use crate::desk::Desk;
 use crate::serial::stop;
@@ -50,14 +50,19 @@ fn put_all<D: Desk>(
     Ok(())
 }
 
-/// The hands behind the rounds of a run, and how it ended.
-#[derive(Drop)]
-pub(crate) struct Rounds<H> {
-    pub hands: Vec<H>,
-    pub ended: Result<Items<Trial>, PoolStop>,
+/// A stop where the desk refused one of the trials from a place on: those before it were put, and those behind it are let go.
+fn stop_at(mut trials: Vec<Trial>, first: usize, refusal: Refusal) -> PoolStop
+    requires within { first + refusal.taken < length trials.items }
+    ensures { result ≡ stop_at trials.items (first + refusal.taken) refusal.why }
+{
+    let place = first + refusal.taken;
+    trials.truncate(place + 1);
+    let other = trials.pop();
+    stop(why_of(refusal.why), trials, other)
 }
 
-/// Runs tests by fresh hands, round by round. The trials of a round are put on the desk, in order, before the next begins.
+/// Runs tests by hands that were hired, round by round. The trials of a round are put on the desk, in order, before the next begins.
+/// It returns the hands too, however it ended.
 pub(crate) fn run_rounds<R: Threads + Sync, C: Crew, D: Desk>(
     rt: &R,
     alloc: Global,
@@ -65,18 +70,16 @@ pub(crate) fn run_rounds<R: Threads + Sync, C: Crew, D: Desk>(
     tests: &[Test],
     mut hands: Vec<C::Hand>,
     desk: &mut D,
-) -> Rounds<C::Hand>
+) -> (Vec<C::Hand>, Result<Items<Trial>, PoolStop>)
     requires few { length tests.now ≤ 100000 }
     requires workers { (0 < length hands.items) × (length hands.items ≤ SHARES) }
-    requires fresh { AreFresh C.Hand.Runner (length hands.items) hands.items }
-    requires rooms { HaveRoom C.Hand.Runner (length hands.items) (length tests.now) hands.items }
-    requires own { All (IsHandOf C.Hand.Runner (C.gave crew.now)) hands.items }
-    ensures own { All (IsHandOf C.Hand.Runner (C.gave crew.now)) result.hands.items }
-    ensures count { length result.hands.items ≡ length hands.items }
-    ensures trials { IfOk result.ended (AreTrials (C.gave crew.now) 0 tests.now) }
-    ensures put { IfOk result.ended (λ trials. PutFrom D.took desk.old 0 trials desk.new) }
-    ensures stopped { IfErr result.ended (IsStopped D.took D.kept (C.gave crew.now) tests.now desk.old desk.new) }
-    ensures left { RoundsLeave C.Hand.Runner (length hands.items) (length tests.now) result }
+    requires hired { AreHired C.Hand.Runner (C.gave crew.now) (length tests.now) hands.items }
+    ensures own { All (IsHandOf C.Hand.Runner (C.gave crew.now)) result.0.items }
+    ensures count { length result.0.items ≡ length hands.items }
+    ensures trials { IfOk result.1 (AreTrials (C.gave crew.now) 0 tests.now) }
+    ensures put { IfOk result.1 (λ trials. PutFrom D.took desk.old 0 trials desk.new) }
+    ensures stopped { IfErr result.1 (IsStopped D.took D.kept (C.gave crew.now) tests.now desk.old desk.new) }
+    ensures left { HandsLeave C.Hand.Runner (length tests.now) result.1 hands.items result.0.items }
 {
     let mut trials = Vec::new(alloc);
     let mut first = 0;
@@ -86,29 +89,15 @@ pub(crate) fn run_rounds<R: Threads + Sync, C: Crew, D: Desk>(
         let ran = run_round(rt, alloc, crew, first as u64, part, hands);
         hands = ran.hands;
         let Some(mut ran) = ran.trials else {
-            return Rounds {
-                hands,
-                ended: Err(stop(PoolWhy::NoMemory, trials, None)),
-            };
+            return (hands, Err(stop(PoolWhy::NoMemory, trials, None)));
         };
         if trials.append(&mut ran).is_err() {
-            return Rounds {
-                hands,
-                ended: Err(stop(PoolWhy::NoMemory, trials, None)),
-            };
+            return (hands, Err(stop(PoolWhy::NoMemory, trials, None)));
         }
         if let Err(refusal) = put_all(alloc, first as u64, trials.split_at(first).1, desk) {
-            trials.truncate(first + refusal.taken + 1);
-            let other = trials.pop();
-            return Rounds {
-                hands,
-                ended: Err(stop(why_of(refusal.why), trials, other)),
-            };
+            return (hands, Err(stop_at(trials, first, refusal)));
         }
         first += count;
     }
-    Rounds {
-        hands,
-        ended: Ok(Items::from_vec(trials)),
-    }
+    (hands, Ok(Items::from_vec(trials)))
 }

@@ -9,7 +9,7 @@ ghost use Rattle.lit_pool.specs.Pool.{IsStopped};
 
 use crate::crew::{dismiss_all, hire_all};
 use crate::desk::Desk;
-use crate::rounds::{Rounds, run_rounds};
+use crate::rounds::run_rounds;
 use crate::serial::stop;
 use crate::stop::{PoolStop, PoolWhy};
 use lit_test::Trial;
@@ -44,7 +44,7 @@ pub fn run_all<R: Threads + Wait + Sync, C: Crew, D: Desk>(
     let Ok(hands) = hire_all(alloc, workers, tests.len() as u64, crew) else {
         return Err(stop(PoolWhy::NoMemory, Vec::new(alloc), None));
     };
-    let Rounds { hands, ended } = run_rounds(rt, alloc, &*crew, tests.as_slice(), hands, desk);
+    let (hands, ended) = run_rounds(rt, alloc, &*crew, tests.as_slice(), hands, desk);
     dismiss_all(hands, crew);
     ended
 }

@@ -1,10 +1,9 @@
 //! A run by one hand.
 ghost use Rattle.std.specs.Prelude.{◌≡◌, ◌<◌, ◌≤◌, ◌^◌, ◌++◌, IfErr, IfOk, OnOk, length};
 ghost use Rattle.std.specs.List.{range_with_len};
-ghost use Rattle.tt_outside.specs.Gave.{SameGave};
 ghost use Rattle.lit_desk.specs.Desk.{PutFrom};
 ghost use Rattle.lit_round.specs.Trials.{AreTrials};
-ghost use Rattle.lit_pool.specs.Pool.{AnswersAtStop, AnswersFor, BeginsSome, FailsFor, IsCalmFor, IsStopped, KeepsRoom, returned};
+ghost use Rattle.lit_pool.specs.Pool.{BeginsSome, CountsAtStop, CountsFor, GoesOn, IsStopped};
 
 use crate::desk::Desk;
 use crate::stop::{PoolStop, PoolWhy, why_of};
@@ -28,20 +27,11 @@ pub fn run_serial<R: Runner, D: Desk>(
     ensures trials { IfOk result (AreTrials (R.gave hand.old) 0 tests.now) }
     ensures put { IfOk result (λ trials. PutFrom D.took desk.old 0 trials desk.new) }
     ensures begun { OnOk result (R.begun hand.new ≡ R.begun hand.old ++ range_with_len 0 (length tests.now)) }
-    ensures asked { IfOk result (AnswersFor R.Runner hand.old hand.new) }
-    ensures broken { IfOk result (FailsFor R.Runner hand.old hand.new) }
-    ensures calm { IfOk result (IsCalmFor R.Runner hand.old hand.new) }
-
-    // At a stop nothing is said of what a test asked whose trial isn't returned.
+    ensures counts { IfOk result (CountsFor R.Runner hand.old hand.new) }
     ensures stopped { IfErr result (IsStopped D.took D.kept (R.gave hand.old) tests.now desk.old desk.new) }
     ensures stop_begun { IfErr result (BeginsSome (length tests.now) (R.begun hand.old) (R.begun hand.new)) }
-    ensures stop_asked { IfErr result (AnswersAtStop R.Runner hand.old hand.new) }
-    ensures stop_broken { IfErr result (λ stop. FailsFor R.Runner hand.old hand.new (returned stop)) }
-
-    ensures later { R.faults hand.old ≤ R.faults hand.new }
-    ensures room { KeepsRoom R.Runner hand.old hand.new }
-    ensures gave { SameGave (R.gave hand.new) (R.gave hand.old) }
-    ensures ready { R.ready hand.new }
+    ensures stop_counts { IfErr result (CountsAtStop R.Runner hand.old hand.new) }
+    ensures goes_on { GoesOn R.Runner hand.old hand.new }
 {
     let mut trials = Vec::new(alloc);
     let mut place = 0;

@@ -19,8 +19,8 @@ none_below : {X : Type 0} (f : X → ℕ) (bound : ℕ) (xs : List X) → All (�
 none_below f bound [] least = refl
 none_below f bound (x ∷ xs) least =
     let here = below_cons bound (f x) (map f xs) in
-    let first = All-head (λ y. bound ≤ f y) x xs least in
-    let rest = none_below f bound xs (All-tail (λ y. bound ≤ f y) x xs least) in grind (arith, nat_tests)
+    let rest = none_below f bound xs (All-tail (λ y. bound ≤ f y) x xs least) in
+    grind (arith, nat_tests, here, rest, All-head (λ y. bound ≤ f y) x xs least)
 
 pub in_order : {X : Type 0} (f : X → ℕ) (first count : ℕ) (xs : List X) → IsNonDecreasingBy f xs
     → ((bound : ℕ) → count_below bound (map f xs) ≡ min (bound - first) count) → map f xs ≡ range_with_len first count
@@ -34,9 +34,7 @@ in_order {X} f first (suc count) (x ∷ xs) up counts =
     let none = none_below f (f x) xs least in
     let at = below_cons (f x) (f x) (map f xs) in
     let past = below_cons (f x + 1) (f x) (map f xs) in
-    let before = counts (f x) in
-    let after = counts (f x + 1) in
-    let is : f x ≡ first = grind (arith, nat_tests) in
+    let is : f x ≡ first = grind (arith, nat_tests, none, at, past, counts (f x), counts (f x + 1)) in
     let rest : (bound : ℕ) → count_below bound (map f xs) ≡ min (bound - (first + 1)) count =
     (λ bound. let here = below_cons bound (f x) (map f xs) in let all = counts bound in grind (arith, nat_tests)) in
     let others = in_order f (first + 1) count xs (λ i j d le low. up (suc i) (suc j) d (omega arith) (omega arith)) rest in
@@ -50,24 +48,17 @@ are_of gave first at all [] (x ∷ xs) same numbers among = let long = ap length
 are_of gave first at all (test ∷ tests) [] same numbers among = let long = ap length numbers in absurd (omega arith)
 are_of gave first at all (test ∷ tests) (x ∷ xs) same numbers among =
     let t = All-head (IsTrialAmong gave first all) x xs among in
-    let number : x.number ≡ first + at = ap (head_or x.number) numbers in
-    let of = t.is.number in
-    let here : t.place ≡ at + 0 = omega arith in
+    let all_of : x.number ∷ numbers_of xs ≡ (first + at) ∷ range_with_len (first + at + 1) (length tests) = numbers in
+    let number : x.number ≡ first + at = cc (all_of) in
+    let here : t.place ≡ at + 0 = omega (arith, number, t.is.number) in
     let its : t.its ≡ test =
     sym (get_or_from_slice_get all t.place t.its test t.at) ∙ get_or_from_slice_get all t.place test test (ap (slice_get all) here ∙ same 0) in
     let place : first + t.place ≡ first + at = omega arith in
+    let others : numbers_of xs ≡ range_with_len (first + at + 1) (length tests) = cc (all_of) in
     let next : first + at + 1 ≡ first + (at + 1) = omega arith in (
       subst (λ n. IsTrialOf gave n test x) place (subst (λ u. IsTrialOf gave (first + t.place) u x) its t.is),
       subst (λ n. AreTrials gave n tests xs) (sym next) (are_of gave first (at + 1) all tests xs
           (λ i. ap (slice_get all) (omega arith) ∙ same (suc i))
-          (ap tail_of numbers ∙ ap (λ n. range_with_len n (length tests)) next)
+          (others ∙ ap (λ n. range_with_len n (length tests)) next)
           (All-tail (IsTrialAmong gave first all) x xs among)),
     )
-  where
-    head_or : ℕ → List ℕ → ℕ
-    head_or n [] = n
-    head_or n (m ∷ ms) = m
-
-    tail_of : List ℕ → List ℕ
-    tail_of [] = []
-    tail_of (m ∷ ms) = ms

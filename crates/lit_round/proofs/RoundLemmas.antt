@@ -15,7 +15,7 @@ use Rattle.lit_test.specs.declared.trial.Trial.{Trial}
 use Rattle.lit_claims.specs.Claimed.{Drawn}
 use Rattle.lit_round.specs.Round.{BeginsUpTo, RunsRound}
 use Rattle.lit_round.specs.Trials.{AreTrials, IsTrialAmong}
-use Rattle.lit_round.specs.Work.{Begins, RunsAll, numbers_of}
+use Rattle.lit_round.specs.Work.{Begins, RunsAll}
 use Rattle.lit_round.proofs.OrderLemmas.{are_of, in_order}
 use Rattle.lit_round.proofs.TrialLemmas.{few_entries}
 
@@ -33,34 +33,23 @@ module _ (first : ℕ) (tests : List Test) (old new : List Left) (w : ℕ) (draw
       → RunsRound gave first tests old new trials
   runs_round gave ran trials given r moved sorted =
       let count : ℕ = length tests in
-      let past = r.past in
-      let in_all = d.count in
       let named = d.below count in
-      let over : count < w = omega arith in
+      let over : count < w = omega (arith, r.past, d.count, named) in
+      let shorter : (bound : ℕ) → min (min (bound - first) count) w ≡ min (bound - first) count = (λ bound. omega (arith, over)) in
       let among = All-permutation (IsTrialAmong gave first tests) ran trials moved given in
       let numbers = in_order (λ (t : Trial). t.number) first count trials sorted
       (λ bound. sum_by-IsPermutation _ _ _ (IsPermutation-map (λ (t : Trial). t.number) ran trials moved) ∙ r.numbers bound
-      ∙ d.below (min (bound - first) count) ∙ shorter bound count over) in
-      let long = sym (length-map-numbers trials) ∙ ap length numbers ∙ length-range_with_len first count in
+      ∙ d.below (min (bound - first) count) ∙ shorter bound) in
+      let long = sym (length-map trials (λ (t : Trial). t.number)) ∙ ap length numbers ∙ length-range_with_len first count in
       let here : first ≡ first + 0 = omega arith in
-      let entries = sum_by-IsPermutation (λ (t : Trial). length t.entries) ran trials moved in
       let fault = list_any-IsPermutation (λ (t : Trial). any_broken t.entries) ran trials moved in
       record {
-        are = subst (λ n. AreTrials gave n tests trials) (sym here) (are_of gave first 0 tests tests trials (λ i. ap (slice_get tests) (zero_plus i))
+        are = subst (λ n. AreTrials gave n tests trials) (sym here) (are_of gave first 0 tests tests trials (λ i. let zero : 0 + i ≡ i = omega arith in ap (slice_get tests) zero)
             (numbers ∙ ap (λ n. range_with_len n count) here) among);
         below = λ bound. let all = b.below bound in let low = d.below (min (bound - first) count) in omega arith;
         number = let all = b.number in omega arith;
-        asked = let all = r.asked in omega arith;
+        asked = omega (arith, r.asked, sum_by-IsPermutation (λ (t : Trial). length t.entries) ran trials moved);
         few = let few = few_entries gave first tests trials among in omega arith;
         broken = λ any. r.broken (fault ∙ any);
         calm = λ none. r.calm (fault ∙ none);
       }
-    where
-      zero_plus : (i : ℕ) → 0 + i ≡ i
-      zero_plus i = omega arith
-
-      shorter : (bound count : ℕ) → count < w → min (min (bound - first) count) w ≡ min (bound - first) count
-      shorter bound count over = omega arith
-
-      length-map-numbers : (trials : List Trial) → length (numbers_of trials) ≡ length trials
-      length-map-numbers trials = length-map trials (λ (t : Trial). t.number)

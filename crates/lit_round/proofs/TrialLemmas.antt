@@ -1,7 +1,9 @@
 -- Lists of trials that grow, and what they tell of entries, numbers and faults: of two lists put together (`numbers_both`,
 -- `entries_both`, `fault_either`), and of one more trial (`broken_on`, `calm_on`), where faults of the outside are counted before,
 -- between and behind. None is hard: each is a sum, a map or an `any` over lists that are put together.
-use Rattle.std.proofs.Common.{◌≡◌, ◌+◌, ◌*◌, ◌^◌, ◌≤◌, ◌||◌, ◌∙◌, ℕ, Bool, true, false, true≢false, List, [], ◌∷◌, ◌++◌, length, refl, sym, ap, arith}
+use Rattle.std.proofs.Common.{◌≡◌, ◌+◌, ◌*◌, ◌^◌, ◌≤◌, ◌||◌, ◌∙◌, ℕ, true, false, inl, inr, List, [], ◌∷◌, ◌++◌, length, sym, ap, arith}
+use Rattle.std.proofs.Math.Bool.{or-false}
+use Rattle.std.proofs.lemmas.Bool.{or_cases, or_parts}
 use Rattle.std.proofs.lemmas.List.{map-append}
 use Rattle.std.proofs.lemmas.List.Elements.{All-weaker}
 use Rattle.std.proofs.lemmas.List.Folds.{list_any-append}
@@ -51,26 +53,18 @@ pub fault_either : (one other : List Trial) → any_fault (one ++ other) ≡ (an
 fault_either one other = list_any-append (λ (t : Trial). any_broken t.entries) one other
 
 fault_on : (xs : List Trial) (x : Trial) → any_fault (xs ++ x ∷ []) ≡ (any_fault xs || any_broken x.entries)
-fault_on xs x = fault_either xs (x ∷ []) ∙ ap (λ b. any_fault xs || b) (alone (any_broken x.entries)) where
-  alone : (p : Bool) → (p || false) ≡ p
-  alone true = refl
-  alone false = refl
-
--- neither of two, where not one of them
-pub neither : (p q : Bool) → (p || q) ≡ false → (p ≡ false) × (q ≡ false)
-neither true q none = absurd (true≢false none)
-neither false q none = (refl, none)
+fault_on xs x = fault_either xs (x ∷ []) ∙ ap (λ b. any_fault xs || b) (or-false (any_broken x.entries))
 
 pub broken_on : (before mid now : ℕ) (xs : List Trial) (x : Trial) → before ≤ mid → mid ≤ now
     → (any_fault xs ≡ true → Rose before mid) → (any_broken x.entries ≡ true → Rose mid now)
     → any_fault (xs ++ x ∷ []) ≡ true → Rose before now
 broken_on before mid now xs x first next was is any =
-    by (any_fault xs) (any_broken x.entries) was is (sym (fault_on xs x) ∙ any) where
-      by : (p q : Bool) → (p ≡ true → Rose before mid) → (q ≡ true → Rose mid now) → (p || q) ≡ true → Rose before now
-      by true q was is any = let rose = was refl in omega (arith, next, rose)
-      by false q was is any = let rose = is any in omega (arith, first, rose)
+    elim (or_cases (any_fault xs) (any_broken x.entries) (sym (fault_on xs x) ∙ any)) [
+      | inl here ↦ omega (arith, next, was here)
+      | inr here ↦ omega (arith, first, is here)
+    ]
 
 pub calm_on : (before mid now : ℕ) (xs : List Trial) (x : Trial) → (any_fault xs ≡ false → mid ≡ before)
     → (any_broken x.entries ≡ false → now ≡ mid) → any_fault (xs ++ x ∷ []) ≡ false → now ≡ before
 calm_on before mid now xs x was is none =
-    let both = neither (any_fault xs) (any_broken x.entries) (sym (fault_on xs x) ∙ none) in is both.1 ∙ was both.0
+    let both = or_parts (any_fault xs) (any_broken x.entries) (sym (fault_on xs x) ∙ none) in is both.1 ∙ was both.0

@@ -1,11 +1,12 @@
 -- What workers did adds up: of one worker from the numbers that it drew (`works_by`), of a worker and others together (`works_both`),
 -- field by field, since each is a sum over lists that are put together. `Counts` keeps, test by test, that the numbers begun and the
 -- place that is due are those that were drawn (`counts_on`). None is hard.
-use Rattle.std.proofs.Common.{◌≡◌, ◌+◌, ◌-◌, ◌≤◌, ◌<◌, ◌||◌, ◌&&◌, ◌⊎◌, inl, inr, ◌∙◌, ℕ, Bool, true, false, true≢false, min, nat_lt, if◌then◌else◌, List, [], ◌∷◌, ◌++◌, length, map, refl, sym, ap, subst, arith, lt_of_not-le}
+use Rattle.std.proofs.Common.{◌≡◌, ◌+◌, ◌-◌, ◌≤◌, ◌<◌, ◌&&◌, ◌⊎◌, inl, inr, ◌∙◌, ℕ, Bool, true, false, true≢false, min, nat_lt, if◌then◌else◌, List, [], ◌∷◌, ◌++◌, Some, length, refl, sym, ap, subst, arith, lt_of_not-le}
+use Rattle.std.proofs.lemmas.Bool.{and_parts, or_cases, or_parts}
 use Rattle.std.proofs.lemmas.Bool.Decides.{nat_tests}
-use Rattle.std.proofs.lemmas.List.{append_assoc, length-append, length-map, map-append}
-use Rattle.std.proofs.lemmas.List.Elements.{All-append, All-cons, All-nil, All-push, All-weaker}
-use Rattle.std.proofs.lemmas.List.Sums.{sum_by-append, sum_by-le-sum_by}
+use Rattle.std.proofs.lemmas.List.{append_assoc, length-append, length-map, length_push, map-append}
+use Rattle.std.proofs.lemmas.List.Elements.{All-append, All-cons, All-nil, All-pop, All-push, All-weaker}
+use Rattle.std.proofs.lemmas.List.Sums.{sum_by-append, sum_by-le-sum_by, sum_by_push}
 use Rattle.std.specs.List.{All}
 use Rattle.tt_outside.specs.Faults.{Rose}
 use Rattle.tt_outside.specs.Gave.{Gave, SameGave}
@@ -15,11 +16,14 @@ use Rattle.tt_outside.specs.declared.test_data.Test.{Test}
 use Rattle.test_course.proofs.PlayedLemmas.{SameGave-trans}
 use Rattle.lit_test.specs.declared.trial.Trial.{Trial}
 use Rattle.lit_claims.specs.Counted.{count_below}
+use Rattle.lit_claims.specs.Seats.{IsFresh, claims_id}
+use Rattle.lit_claims.specs.declared.claims.ClaimSeat.{ClaimSeat}
 use Rattle.lit_claims.proofs.Counts.{below_all, below_append, below_push}
-use Rattle.lit_round.specs.Hands.{IsHandOf, all_left, faults_of, left, room_of, rooms_of}
+use Rattle.lit_round.specs.Hands.{CanRun, IsHandOf, all_left, faults_of, left, room_of, rooms_of}
 use Rattle.lit_round.specs.Trials.{IsTrialAmong, any_fault, sum_entries}
-use Rattle.lit_round.specs.Work.{Begins, RunsAll, Works, named_below, numbers_of}
-use Rattle.lit_round.proofs.TrialLemmas.{among_same, entries_both, fault_either, neither, numbers_both}
+use Rattle.lit_round.specs.Work.{Begins, HasJob, HaveJobs, RunsAll, Works, named_below, numbers_of}
+use Rattle.lit_round.specs.declared.worker.Shared.{Shared}
+use Rattle.lit_round.proofs.TrialLemmas.{among_same, entries_both, fault_either, numbers_both}
 
 -- ---- what a worker draws
 
@@ -34,16 +38,14 @@ last_on drawn now place is later =
     subst (λ ns. All (λ n. n < place + 1) ns × (count_below place ns + 1 ≡ length ns)) (sym is) (
       All-push (λ n. n < place + 1) drawn place
           (All-weaker (λ n. n < place) (λ n. n < place + 1) (λ n low. omega arith) drawn later) (omega arith),
-      (let all = below_all place place drawn (omega arith) later in
-          let push = below_push place drawn place in
-          let long = length-append drawn (place ∷ []) in grind (arith, nat_tests)),
+      (let long = length-append drawn (place ∷ []) in
+          let all = below_all place place drawn (omega arith) later in grind (arith, nat_tests, below_push place drawn place)),
     )
 
 pub rises : (drawn : List ℕ) (place next : ℕ) → count_below place drawn + 1 ≡ length drawn → All (λ n. n < next) drawn → place < next
 rises drawn place next last later =
     lt_of_not-le (λ low.
-    let more = below_more next place drawn low in
-    let all = below_all next next drawn (omega arith) later in absurd (omega arith))
+    let more = below_more next place drawn low in absurd (omega (arith, below_all next next drawn (omega arith) later)))
 
 -- the tests that were begun, and the place that is due, are those that were drawn
 abbrev pub Counts : ℕ → ℕ → ℕ → List ℕ → List Trial → Type 0
@@ -67,11 +69,8 @@ counts_on first count place next drawn now trials trial number low is was =
     subst (λ ns. Counts first count next ns (trials ++ trial ∷ [])) (sym is) (
       (λ bound.
           let these = ap (count_below bound) all ∙ begun_on bound first count place (numbers_of trials) low in
-          let push = below_push (min (bound - first) count) drawn next in
-          let before = was.0 bound in omega arith),
-      (let long = length-append trials (trial ∷ []) in
-          let push = below_push count drawn next in
-          let before = was.1 in grind (arith, nat_tests)),
+          omega (arith, these, below_push (min (bound - first) count) drawn next, was.0 bound)),
+      grind (arith, nat_tests, length-append trials (trial ∷ []), below_push count drawn next, was.1),
     )
 
 -- ---- what one worker did
@@ -87,8 +86,7 @@ module _ {H : Type 0} (runner : OfRunner H) (first : ℕ) (tests : List Test) wh
   works_by gave old new ms drawn trials whole began below number later room is_hand given runs = record {
     begins = record {
       below = λ bound.
-          let all = ap (count_below bound) began ∙ below_append bound (runner.begun old) ms in
-          let here = below bound in omega arith;
+          let all = ap (count_below bound) began ∙ below_append bound (runner.begun old) ms in omega (arith, all, below bound);
       number = let all = ap length began ∙ length-append (runner.begun old) ms in omega arith;
       later = omega arith;
     };
@@ -140,70 +138,44 @@ module _ {H : Type 0} (runner : OfRunner H) (first : ℕ) (tests : List Test) wh
 -- ---- what a worker did, and others
 
 -- trials that were taken over, or left where memory was wanting
-pub taken_or_left : {A : Type 0} (ok : Bool) (xs ys zs : List A) → zs ≡ (if ok then xs ++ ys else xs) → (zs ≡ xs ++ ys) ⊎ (zs ≡ xs)
-taken_or_left true xs ys zs is = inl is
-taken_or_left false xs ys zs is = inr is
-
 pub all_kept : {A : Type 0} (P : A → Type 0) (xs ys zs : List A) → (zs ≡ xs ++ ys) ⊎ (zs ≡ xs) → All P xs → All P ys → All P zs
 all_kept P xs ys zs (inl is) one other = subst (All P) (sym is) (All-append P xs ys one other)
 all_kept P xs ys zs (inr is) one other = subst (All P) (sym is) one
 
 pub all_three : (p q r : Bool) → ((p && q) && r) ≡ true → (p ≡ true) × (q ≡ true) × (r ≡ true)
-all_three true true true all = (refl, refl, refl)
-all_three true true false all = absurd (true≢false (sym all))
-all_three true false r all = absurd (true≢false (sym all))
-all_three false q r all = absurd (true≢false (sym all))
+all_three p q r all =
+    let both = and_parts (p && q) r all in let each = and_parts p q both.0 in (each.0, each.1, both.1)
 
 module _ (first count : ℕ) (a b c d : List Left) (one two : List ℕ) where
   begins_both : Begins first count a b one → Begins first count c d two → Begins first count (a ++ c) (b ++ d) (one ++ two)
   begins_both x y = record {
     below = λ bound.
-        let old = sum_by-append (λ (h : Left). count_below bound h.begun) a c in
-        let new = sum_by-append (λ (h : Left). count_below bound h.begun) b d in
-        let named = below_append (min (bound - first) count) one two in
-        let p = x.below bound in
-        let q = y.below bound in omega arith;
-    number = let old = sum_by-append (λ (h : Left). length h.begun) a c in
-        let new = sum_by-append (λ (h : Left). length h.begun) b d in
-        let named = below_append count one two in
-        let p = x.number in
-        let q = y.number in omega arith;
-    later = let old = sum_by-append (λ (h : Left). h.faults) a c in
-        let new = sum_by-append (λ (h : Left). h.faults) b d in
-        let p = x.later in
-        let q = y.later in omega arith;
+        let old = sum_by-append (λ (h : Left). count_below bound h.begun) a c in let new = sum_by-append (λ (h : Left). count_below bound h.begun) b d in
+        omega (arith, old, new, below_append (min (bound - first) count) one two, x.below bound, y.below bound);
+    number = let old = sum_by-append (λ (h : Left). length h.begun) a c in let new = sum_by-append (λ (h : Left). length h.begun) b d in
+        omega (arith, old, new, below_append count one two, x.number, y.number);
+    later = let old = sum_by-append (λ (h : Left). h.faults) a c in let new = sum_by-append (λ (h : Left). h.faults) b d in
+        omega (arith, old, new, x.later, y.later);
   }
 
   runs_both : (xs ys : List Trial) → faults_of a ≤ faults_of b → faults_of c ≤ faults_of d → RunsAll first count a b one xs
       → RunsAll first count c d two ys → RunsAll first count (a ++ c) (b ++ d) (one ++ two) (xs ++ ys)
   runs_both xs ys left right x y =
-      let old = sum_by-append (λ (h : Left). h.faults) a c in
-      let new = sum_by-append (λ (h : Left). h.faults) b d in
+      let old = sum_by-append (λ (h : Left). h.faults) a c in let new = sum_by-append (λ (h : Left). h.faults) b d in
       record {
-        past = let drawn = length-append one two in
-            let named = below_append count one two in
-            let p = x.past in
-            let q = y.past in omega arith;
+        past = omega (arith, length-append one two, below_append count one two, x.past, y.past);
         numbers = λ bound.
             let all = ap (count_below bound) (numbers_both xs ys) ∙ below_append bound (numbers_of xs) (numbers_of ys) in
-            let named = below_append (min (bound - first) count) one two in
-            let p = x.numbers bound in
-            let q = y.numbers bound in omega arith;
-        asked = let before = sum_by-append (λ (h : Left). h.asked) a c in
-            let now = sum_by-append (λ (h : Left). h.asked) b d in
-            let entries = entries_both xs ys in
-            let p = x.asked in
-            let q = y.asked in omega arith;
-        broken = λ any. let some = by_fault (any_fault xs) (any_fault ys) x.broken y.broken (sym (fault_either xs ys) ∙ any) in omega arith;
-        calm = λ none. let none_of = neither (any_fault xs) (any_fault ys) (sym (fault_either xs ys) ∙ none) in
-            let p = x.calm none_of.0 in
-            let q = y.calm none_of.1 in omega arith;
+            omega (arith, all, below_append (min (bound - first) count) one two, x.numbers bound, y.numbers bound);
+        asked = let before = sum_by-append (λ (h : Left). h.asked) a c in let now = sum_by-append (λ (h : Left). h.asked) b d in
+            omega (arith, before, now, entries_both xs ys, x.asked, y.asked);
+        broken = λ any. elim (or_cases (any_fault xs) (any_fault ys) (sym (fault_either xs ys) ∙ any)) [
+          | inl here ↦ omega (arith, old, new, right, x.broken here)
+          | inr here ↦ omega (arith, old, new, left, y.broken here)
+        ];
+        calm = λ none. let none_of = or_parts (any_fault xs) (any_fault ys) (sym (fault_either xs ys) ∙ none) in
+            omega (arith, old, new, x.calm none_of.0, y.calm none_of.1);
       }
-    where
-      by_fault : (p q : Bool) → (p ≡ true → Rose (faults_of a) (faults_of b)) → (q ≡ true → Rose (faults_of c) (faults_of d))
-          → (p || q) ≡ true → Rose (faults_of a + faults_of c) (faults_of b + faults_of d)
-      by_fault true q was is any = let some = was refl in omega arith
-      by_fault false q was is any = let some = is any in omega arith
 
 module _ {H : Type 0} (runner : OfRunner H) (first : ℕ) (tests : List Test) where
   -- the same of a crew that gives what the hands do
@@ -226,15 +198,48 @@ module _ {H : Type 0} (runner : OfRunner H) (first : ℕ) (tests : List Test) wh
       → All (IsTrialAmong gave first tests) trials → (whole ≡ true → (p ≡ true) × (q ≡ true) × (trials ≡ xs ++ ys))
       → Works runner gave first tests (a ++ c) (b ++ d) (one ++ two) trials whole
   works_both gave a b c d one two xs ys trials p q whole x y given all =
-      let n : ℕ = length tests in
       let old = map-append (left runner) a c in
       let new = map-append (left runner) b d in
       record {
-        begins = rw old (rw new (begins_both first n _ _ _ _ one two x.begins y.begins));
+        begins = rw old (rw new (begins_both first (length tests) _ _ _ _ one two x.begins y.begins));
         room = map-append (room_of runner) b d ∙ ap (λ l. l ++ rooms_of runner d) x.room
             ∙ ap (λ l. rooms_of runner a ++ l) y.room ∙ sym (map-append (room_of runner) a c);
         hands = All-append (IsHandOf runner gave) b d x.hands y.hands;
         given = given;
         runs = λ is. let w = all is in
-            rw w.2 (rw old (rw new (runs_both first n _ _ _ _ one two xs ys x.begins.later y.begins.later (x.runs w.0) (y.runs w.1))));
+            rw w.2 (rw old (rw new (runs_both first (length tests) _ _ _ _ one two xs ys x.begins.later y.begins.later (x.runs w.0) (y.runs w.1))));
       }
+
+-- ---- jobs
+
+-- of workers who may begin the last one may, by a hand of the crew, and so may the others where there are some
+pub jobs_split : {H : Type 0} (runner : OfRunner H) (gave : Gave) (shared : Shared) (hands : List H) (seats : List ClaimSeat)
+    (hand : H) (seat : ClaimSeat) → HaveJobs runner gave shared (hands ++ hand ∷ []) (seats ++ seat ∷ [])
+    → HasJob runner shared hand seat × SameGave (runner.gave hand) gave × (length seats ≡ length hands)
+    × (0 < length hands → HaveJobs runner gave shared hands seats)
+jobs_split runner gave shared hands seats hand seat jobs =
+    let ready = All-pop (CanRun runner gave (length shared.tests.now)) _ hands (Some hand) refl jobs.fit in
+    let fresh = All-pop (IsFresh (claims_id shared.claims.now)) _ seats (Some seat) refl jobs.own in
+    let low = sum_by_push runner.asked hands hand in
+    let same : length seats ≡ length hands =
+    omega (arith, jobs.same, length_push hands hand, length_push seats seat) in (
+      record {
+        own = fresh.1.0;
+        fresh = fresh.1.1;
+        few = jobs.few;
+        first = jobs.first;
+        fit = (ready.1.0, ((λ test earlier request reply. (λ x. x, λ x. x)), ready.1.1.1));
+        low = omega (arith, low, jobs.low);
+      },
+      ready.1.1.0,
+      same,
+      λ some. record {
+        own = fresh.0;
+        same = same;
+        some = some;
+        few = jobs.few;
+        first = jobs.first;
+        fit = ready.0;
+        low = omega (arith, low, jobs.low);
+      },
+    )

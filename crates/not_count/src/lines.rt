@@ -1,11 +1,10 @@
 //! Lines, counted without memory.
-ghost use Rattle.std.specs.Prelude.{◌≡◌, ◌+◌, ◌≤◌, ◌^◌, count_by, drop, length, take};
-ghost use Rattle.tt_base.specs.Place.{is_newline};
+ghost use Rattle.std.specs.Prelude.{◌+◌, ◌^◌};
 ghost use Rattle.tt_outside.specs.Transfer.{TakesAtMost};
 ghost use Rattle.tt_run.specs.Run.{source_of};
-ghost use Rattle.not_count.specs.Lines.{IsCounted, lines_of};
+ghost use Rattle.not_count.specs.Lines.{IsCounted};
 
-use std::simd::prelude::*;
+use byte_counts::count_of;
 use tt_outside::{Failed as ReadFailed, Source};
 
 /// What counting came to.
@@ -24,40 +23,6 @@ pub const LIMIT: u64 = 1_099_511_627_776;
 
 /// How many bytes are read at once.
 const PIECE: usize = 1 << 16;
-
-/// How many bytes are looked at together.
-const LANES: usize = 16;
-
-/// How many newlines there are.
-fn newlines(piece: &[u8]) -> usize
-    ensures { result ≡ lines_of piece.now }
-{
-    let mut lines = 0;
-    let mut at = 0;
-    while piece.len() - at >= LANES {
-        lines += newlines_at(piece, at);
-        at += LANES;
-    }
-    lines + newlines_of(&piece[at..])
-}
-
-/// The same byte by byte.
-fn newlines_of(piece: &[u8]) -> usize
-    ensures { result ≡ lines_of piece.now }
-{
-    piece.iter().filter(|byte| **byte == b'\n').count()
-}
-
-/// How many newlines there are of so many bytes from an offset on.
-#[inline(always)]
-fn newlines_at(piece: &[u8], at: usize) -> usize
-    requires { at + LANES ≤ length piece.now }
-    ensures value { result ≡ lines_of (take LANES (drop at piece.now)) }
-    ensures few { result ≤ LANES }
-{
-    let bytes = u8x16::from_slice(&piece[at..]);
-    bytes.simd_eq(u8x16::splat(b'\n')).to_bitmask().count_ones() as usize
-}
 
 /// Counts the lines of a source.
 pub fn count_lines<I: Source>(input: &mut I) -> Counted
@@ -81,6 +46,6 @@ pub fn count_lines<I: Source>(input: &mut I) -> Counted
         if taken > LIMIT {
             return Counted::TooLong;
         }
-        lines += newlines(&piece[..count]) as u64;
+        lines += count_of(b'\n', &piece[..count]) as u64;
     }
 }

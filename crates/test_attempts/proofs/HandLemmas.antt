@@ -1,4 +1,6 @@
--- A hand behind requests, and behind more of them.
+-- What stays of a hand behind requests, and what it answered, one part of a run after the other. Each record is
+-- put together field by field: a part says what it left, and the next begins there. The hard one is
+-- `answered_on`, an entry more: its request counts, and the faults rise exactly where it is broken.
 use Rattle.std.proofs.Common.{◌≡◌, ◌≤◌, ◌∙◌, ℕ, List, [], ◌∷◌, ◌++◌, length, length-append, ap, arith}
 use Rattle.tt_outside.specs.Faults.{Rose}
 use Rattle.tt_outside.specs.Gave.{SameGave, last_of, one_more}

@@ -1,5 +1,4 @@
-use Rattle.std.proofs.Common.{◌≡◌, map, take}
-use Rattle.lit_find.specs.Files.{test_in}
+use Rattle.lit_find.proofs.Names.{◌≡◌, map, take, test_in}
 use Rattle.lit_find.proofs.discovery.names_in.Given as goal
 
 abbrev pub invariant-loop-file : goal.invariant-loop-file

@@ -1,4 +1,4 @@
-use Rattle.std.proofs.Common.{◌≡◌}
+use Rattle.lit_find.proofs.Names.{◌≡◌}
 use Rattle.lit_find.proofs.FileLemmas.{test_made}
 use Rattle.lit_find.proofs.discovery.test_in.Goals as goal
 

@@ -1,6 +1,5 @@
-use Rattle.std.proofs.Common.{◌≡◌, ◌++◌, map}
+use Rattle.lit_find.proofs.Names.{◌≡◌, ◌++◌, map, test_in}
 use Rattle.std.specs.Vec.Iter.{into_iter_items}
-use Rattle.lit_find.specs.Files.{test_in}
 use Rattle.lit_find.proofs.discovery.tests_in.Given as goal
 
 abbrev pub invariant-loop-file : goal.invariant-loop-file

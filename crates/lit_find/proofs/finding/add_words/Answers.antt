@@ -1,9 +1,8 @@
-use Rattle.std.proofs.Common.{◌∷◌, ◌++◌, ◌+◌, ◌<◌, [], length, map, take, drop, sym, ap, subst, ◌∙◌, arith}
+use Rattle.lit_find.proofs.Names.{◌∷◌, ◌++◌, ◌+◌, ◌<◌, [], length, map, take, drop, sym, ap, subst, ◌∙◌, arith, joined, IsCovered}
 use Rattle.std.proofs.lemmas.List.{map_more}
-use Rattle.lit_paths.specs.Paths.{joined}
 use Rattle.lit_look.proofs.TreeLemmas.{leaves_on}
-use Rattle.lit_find.specs.Walk.{IsCovered}
-use Rattle.lit_find.proofs.AnswerLemmas.{words_cut, words_refused}
+use Rattle.lit_find.proofs.AnswerLemmas.{words_refused}
+use Rattle.lit_look.proofs.ListLemmas.{map_cut}
 use Rattle.lit_find.proofs.finding.add_words.Goals as goal
 
 pub returns-in-Err-clause-gives : goal.returns-in-Err-clause-gives
@@ -18,7 +17,7 @@ returns-in-Err-clause-gives g c = λ nodes told nested is.
     let covered = c.loop-text.invariant.covered nodes told nested is in
     words_refused nodes (map (joined base) texts) early later c.as_slice-in-loop-text.result.now c.loop-text.seen
     c.add_word.new.seen c.loop-text.walk c.add_word.new.walk c.in-Err.fault covered
-    (words_cut (joined base) texts i c.text-item.result within c.text-item.is ∙ ap (λ one. early ++ one ∷ later) (sym word))
+    (map_cut (joined base) texts i c.text-item.result within c.text-item.is ∙ ap (λ one. early ++ one ∷ later) (sym word))
     (c.in-Err.ensures.gives nodes early (c.loop-text.invariant.tree.nodes ∙ told) nested covered)
 
 pub loop-text-preserved : goal.loop-text-preserved

@@ -1,9 +1,4 @@
-use Rattle.std.proofs.Common.{◌≡◌, List, [], Some, None, map, take, true}
-use Rattle.tt_outside.specs.TreeMap.{are_nested}
-use Rattle.tt_outside.specs.declared.tree.Node.{Node}
-use Rattle.lit_look.specs.Trees.{Leaves}
-use Rattle.lit_paths.specs.Paths.{joined}
-use Rattle.lit_find.specs.Walk.{IsCovered}
+use Rattle.lit_find.proofs.Names.{◌≡◌, List, [], Some, None, map, take, true, are_nested, Node, Leaves, joined, IsCovered}
 use Rattle.lit_find.proofs.finding.add_words.Given as goal
 
 abbrev pub invariant-loop-text : goal.invariant-loop-text

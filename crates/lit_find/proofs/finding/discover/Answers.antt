@@ -1,6 +1,4 @@
-use Rattle.std.proofs.Common.{◌≡◌, ◌<◌, List, [], ◌∷◌, length, true≢false, Ok, Err, refl, sym, subst, ◌∙◌, arith}
-use Rattle.lit_dirs.specs.declared.fault.DiscoverFault.TheVariants.{TooMany, NoTests}
-use Rattle.lit_find.specs.Found.{AreTests}
+use Rattle.lit_find.proofs.Names.{◌≡◌, ◌<◌, List, [], ◌∷◌, length, true≢false, Ok, Err, refl, sym, subst, ◌∙◌, arith, TooMany, NoTests, AreTests}
 use Rattle.lit_find.proofs.AnswerLemmas.{discovers, discovers_refusal}
 use Rattle.lit_find.proofs.finding.discover.Goals as goal
 

@@ -1,9 +1,4 @@
-use Rattle.std.proofs.Common.{Ok, Err, map, refl, ap, subst, ◌∙◌}
-use Rattle.std.specs.List.{list_any}
-use Rattle.lit_look.specs.Trees.{Told}
-use Rattle.lit_paths.specs.Paths.{joined}
-use Rattle.lit_find.specs.Refusals.{IsRefused}
-use Rattle.lit_find.specs.Walk.{IsCovered, same_text}
+use Rattle.lit_find.proofs.Names.{Ok, Err, map, refl, ap, subst, ◌∙◌, list_any, Told, joined, IsRefused, IsCovered, same_text}
 use Rattle.lit_find.proofs.AnswerLemmas.{nothing_yet, walks_where_told}
 use Rattle.lit_find.proofs.finding.walk_words.Goals as goal
 
@@ -13,8 +8,8 @@ returns-in-Ok-clause-walk g c =
     (Ok c.add_words.new.walk.found) c.base.ensures.root c.base.ensures.nested
     (λ nodes told nested.
     let begun = nothing_yet nodes c.new-seen.result
-    (record { found = c.new.result; walked = c.new-2.result; pending = c.new-3.result }) c.new-seen.ensures
-    (λ text. ap (list_any (λ key. same_text text key.items)) c.new-2.ensures.empty) c.new-3.ensures c.new.ensures in (
+    (record { found = c.new.result; walked = c.new-2.result; taken = 0; pending = c.new-3.result }) c.new-seen.ensures
+    (λ text. ap (list_any (λ key. same_text text key.items)) c.new-2.ensures.empty) refl c.new-3.ensures c.new.ensures in (
       c.add_words.new.seen,
       c.add_words.new.walk,
       subst (λ base. IsCovered nodes (map (joined base) c.args.paths.now) c.add_words.new.seen c.add_words.new.walk)
@@ -28,7 +23,7 @@ returns-clause-walk g c =
     (Err c.in-Err.fault) c.base.ensures.root c.base.ensures.nested
     (λ nodes told nested.
     let begun = nothing_yet nodes c.new-seen.result
-    (record { found = c.new.result; walked = c.new-2.result; pending = c.new-3.result }) c.new-seen.ensures
-    (λ text. ap (list_any (λ key. same_text text key.items)) c.new-2.ensures.empty) c.new-3.ensures c.new.ensures in
+    (record { found = c.new.result; walked = c.new-2.result; taken = 0; pending = c.new-3.result }) c.new-seen.ensures
+    (λ text. ap (list_any (λ key. same_text text key.items)) c.new-2.ensures.empty) refl c.new-3.ensures c.new.ensures in
     subst (λ base. Told (IsRefused nodes (map (joined base) c.args.paths.now)) c.in-Err.fault)
     (c.as_slice.ensures ∙ c.in_ok-base.ensures.path) (c.in-Err.ensures.gives nodes told nested begun))

@@ -1,4 +1,4 @@
-use Rattle.std.proofs.Common.{◌≡◌, map, take}
+use Rattle.lit_find.proofs.Names.{◌≡◌, map, take}
 use Rattle.lit_find.proofs.pending.key_of.Given as goal
 
 abbrev pub invariant-loop-part : goal.invariant-loop-part

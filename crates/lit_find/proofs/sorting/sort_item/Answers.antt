@@ -1,7 +1,4 @@
-use Rattle.std.proofs.Common.{sym, ap, subst, ◌∙◌}
-use Rattle.tt_outside.specs.TreeMap.{is_part}
-use Rattle.lit_look.specs.declared.root.SuiteRoot.{SuiteRoot}
-use Rattle.lit_find.specs.Files.{IsFiled}
+use Rattle.lit_find.proofs.Names.{sym, ap, subst, ◌∙◌, is_part, SuiteRoot, IsFiled}
 use Rattle.lit_find.proofs.FileLemmas.{filed}
 use Rattle.lit_find.proofs.sorting.sort_item.Goals as goal
 

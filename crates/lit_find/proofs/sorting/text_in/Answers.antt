@@ -1,6 +1,5 @@
-use Rattle.std.proofs.Common.{◌≡◌, ◌++◌, ◌∷◌, [], ap, ◌∙◌, append-nil}
+use Rattle.lit_find.proofs.Names.{◌≡◌, ◌++◌, ◌∷◌, [], ap, ◌∙◌, append-nil, text_of}
 use Rattle.std.proofs.lemmas.Result.{IfOk-weaker}
-use Rattle.lit_paths.specs.Paths.{text_of}
 use Rattle.lit_find.proofs.PathLemmas.{name_text}
 use Rattle.lit_find.proofs.sorting.text_in.Goals as goal
 

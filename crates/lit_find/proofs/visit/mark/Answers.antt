@@ -1,6 +1,4 @@
-use Rattle.std.proofs.Common.{ap, ◌∙◌}
-use Rattle.std.specs.List.{list_any}
-use Rattle.lit_find.specs.Walk.{same_text}
+use Rattle.lit_find.proofs.Names.{ap, ◌∙◌, list_any, same_text}
 use Rattle.lit_find.proofs.KeyLemmas.{has_inserted}
 use Rattle.lit_find.proofs.visit.mark.Goals as goal
 

@@ -1,21 +1,14 @@
-use Rattle.std.proofs.Common.{◌≡◌, List, [], MatchOption, subst, sym, ◌∙◌}
-use Rattle.tt_outside.specs.declared.tree.Node.{Node}
-use Rattle.lit_paths.specs.Paths.{Parts}
-use Rattle.lit_look.specs.declared.seen.Looked.{Looked}
+use Rattle.lit_find.proofs.Names.{◌≡◌, List, [], MatchOption, subst, sym, ◌∙◌, Node, Parts, Looked, IsFirst, IsWalk, Place, Walk}
 use Rattle.lit_look.proofs.TreeLemmas.{leaves_on}
-use Rattle.lit_find.specs.Places.{IsFirst}
-use Rattle.lit_find.specs.Walk.{IsWalk}
-use Rattle.lit_find.specs.declared.place.Place.{Place}
-use Rattle.lit_find.specs.declared.walk.Walk.{Walk}
 use Rattle.lit_find.proofs.visit.walk_all.Goals as goal
 
 -- a walk with what is before it written otherwise
 with_pending : {nodes : List Node} {words : List Parts} {word : Parts} {first seen : List Looked} {walk : Walk}
     (pending : List Place) → walk.pending ≡ pending → IsWalk nodes words word first seen walk
-    → IsWalk nodes words word first seen (record { found = walk.found; walked = walk.walked; pending = pending })
+    → IsWalk nodes words word first seen (record { found = walk.found; walked = walk.walked; taken = walk.taken; pending = pending })
 with_pending {nodes = nodes} {words = words} {word = word} {first = first} {seen = seen} {walk = walk} pending same is =
     subst (λ places. IsWalk nodes words word first seen
-    (record { found = walk.found; walked = walk.walked; pending = places })) same is
+    (record { found = walk.found; walked = walk.walked; taken = walk.taken; pending = places })) same is
 
 pub loop-place-preserved : goal.loop-place-preserved
 loop-place-preserved g c =

@@ -1,9 +1,4 @@
-use Rattle.std.proofs.Common.{◌≡◌, List, Some, None}
-use Rattle.tt_outside.specs.declared.tree.Node.{Node}
-use Rattle.lit_paths.specs.Paths.{Parts}
-use Rattle.lit_look.specs.Trees.{Leaves}
-use Rattle.lit_look.specs.declared.seen.Looked.{Looked}
-use Rattle.lit_find.specs.Walk.{IsWalk, room}
+use Rattle.lit_find.proofs.Names.{◌≡◌, List, Some, None, Node, Parts, Leaves, Looked, IsWalk, room}
 use Rattle.lit_find.proofs.visit.walk_all.Given as goal
 
 abbrev pub invariant-loop-place : goal.invariant-loop-place
@@ -15,4 +10,4 @@ invariant-loop-place g l = record {
 }
 
 abbrev pub decreases-loop-place : goal.decreases-loop-place
-decreases-loop-place g l = room l.seen l.walk
+decreases-loop-place g l = room l.walk

@@ -1,15 +1,8 @@
 -- A word that is a file: its test is found, or a directory up to its suite is refused.
 -- By what the call for the nearest suite gave, over the nodes that the tree tells, where it tells them.
 -- The long goal is `returns-in_ok-put-in-Ok-Some-clause-gives`.
-use Rattle.std.proofs.Common.{[], ◌∷◌, ◌++◌, sym, ap, subst, ◌∙◌, Ok, IfSome}
-use Rattle.std.specs.List.{list_all}
-use Rattle.tt_outside.specs.TreeMap.{is_part}
-use Rattle.lit_paths.specs.Paths.{text_of}
-use Rattle.lit_look.specs.Looks.{GivesNearest}
-use Rattle.lit_look.specs.Suites.{LiesIn}
+use Rattle.lit_find.proofs.Names.{[], ◌∷◌, ◌++◌, sym, ap, subst, ◌∙◌, Ok, IfSome, list_all, is_part, text_of, GivesNearest, LiesIn, test_in, IsCovered}
 use Rattle.lit_look.proofs.SeenLemmas.{looks_of}
-use Rattle.lit_find.specs.Files.{test_in}
-use Rattle.lit_find.specs.Walk.{IsCovered}
 use Rattle.lit_find.proofs.FileLemmas.{filed}
 use Rattle.lit_find.proofs.PathLemmas.{last_part, parts_left}
 use Rattle.lit_find.proofs.WordLemmas.{apart, dir_is_dir, file_added, file_refused, root_file}
@@ -43,9 +36,9 @@ returns-in_ok-put-in-Ok-Some-clause-gives g c = λ nodes words told nested is ki
     let found = c.in_ok-put-in-Ok-Some.ensures
     ∙ ap (λ text. walk.found ++ test_in (record { path = text; suite = root }) ∷ []) c.in_ok-path.ensures in
     subst (λ tests. IsCovered nodes (words ++ word ∷ []) c.nearest.new.seen
-    (record { found = tests; walked = walk.walked; pending = walk.pending })) (sym found)
+    (record { found = tests; walked = walk.walked; taken = walk.taken; pending = walk.pending })) (sym found)
     (file_added nodes words word dir c.in-Some.field-0-0.now c.args.seen.now c.nearest.new.seen root walk
-    c.in-Some.ensures.cases.0 c.requires.parts kind is lies seen near)
+    c.in-Some.ensures.cases.0 c.requires.parts kind is lies seen c.in-Ok-Some.ensures.extends near)
 
 pub returns-in_ok-text_of-in-Ok-None-clause-gives : goal.returns-in_ok-text_of-in-Ok-None-clause-gives
 returns-in_ok-text_of-in-Ok-None-clause-gives g c = λ nodes words told nested is kind.

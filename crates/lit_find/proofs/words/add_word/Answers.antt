@@ -1,11 +1,5 @@
-use Rattle.std.proofs.Common.{◌∷◌, ◌++◌, [], Ok, IfSome, sym, ap, subst, ◌∙◌}
-use Rattle.std.specs.List.{Contains}
+use Rattle.lit_find.proofs.Names.{◌∷◌, ◌++◌, [], Ok, IfSome, sym, ap, subst, ◌∙◌, Contains, GivesNearest, LiesIn, looked_up, IsLookedAt, path_order, put, IsCovered, IsWalk}
 use Rattle.lit_look.proofs.SeenLemmas.{further, looks_of}
-use Rattle.lit_look.specs.Looks.{GivesNearest}
-use Rattle.lit_look.specs.Suites.{LiesIn, looked_up}
-use Rattle.lit_find.specs.Discovery.{IsLookedAt}
-use Rattle.lit_find.specs.Places.{path_order, put}
-use Rattle.lit_find.specs.Walk.{IsCovered, IsWalk}
 use Rattle.lit_find.proofs.WordLemmas.{walk_begins, word_refused, word_walked}
 use Rattle.lit_find.proofs.words.add_word.Goals as goal
 
@@ -22,8 +16,8 @@ returns-in_ok-put-in-Ok-Some-clause-gives g c = λ nodes words told nested is.
     let waits = c.in_ok-put-in-Ok-Some.ensures
     ∙ ap (λ path. put path_order (record { path = path; suite = suite }) walk.pending) c.in_ok-key_of-in-Ok-Some.ensures in
     let begun = subst (λ places. IsWalk nodes (words ++ word ∷ []) word new new
-    (record { found = walk.found; walked = walk.walked; pending = places })) (sym waits)
-    (walk_begins nodes words word c.args.seen.now new suite walk kind is lies seen near is.done) in
+    (record { found = walk.found; walked = walk.walked; taken = walk.taken; pending = places })) (sym waits)
+    (walk_begins nodes words word c.args.seen.now new suite walk kind is lies seen c.in-Ok-Some.ensures.extends near is.done) in
     word_walked nodes words word new c.walk_all.new.seen c.walk_all.new.walk c.walk_all.result kind
     (λ none. let e = sym near ∙ none in cc)
     (further (IsLookedAt nodes words) (Contains (looked_up nodes word)) is.all seen) is.places c.walk_all.ensures.done

@@ -1,15 +1,15 @@
 -- The loop over rounds, with its four ways out: memory was wanting in a round, or for its trials, a trial was refused, and the end. Lemmas
--- of CrewLemmas tell of the hands and those of RunLemmas of the trials; what is left here is which name holds what. The hard ones are those
--- of a refusal, where the trials behind the refused one are cut off and it is taken off the end.
-use Rattle.std.proofs.Common.{rules, arith, ◌≡◌, ◌+◌, ◌<◌, ◌++◌, length, take, drop, vec_len, sym, ap, subst, ◌∙◌}
-use Rattle.std.proofs.lemmas.List.{drop_at, length-append, length-map, length-take}
+-- of CrewLemmas tell of the hands and those of RunLemmas of the trials; what is left here is which name holds what. The longest is the step
+-- to the next round (`loop-first-preserved`).
+use Rattle.std.proofs.Common.{rules, arith, ◌≡◌, ◌+◌, ◌++◌, length, take, drop, sym, ap, subst, ◌∙◌}
+use Rattle.std.proofs.lemmas.List.{drop_at, length-map}
 use Rattle.std.proofs.lemmas.Option.{slice_get_within}
 use Rattle.lit_desk.specs.Desk.{PutFrom}
 use Rattle.lit_round.specs.Hands.{left, room_of}
 use Rattle.lit_round.specs.Trials.{AreTrials}
-use Rattle.lit_pool.specs.Pool.{RefusesAt, returned}
+use Rattle.lit_pool.specs.Pool.{RefusesAt, stop_at}
 use Rattle.lit_pool.proofs.CrewLemmas.{can_run, hands_same, left_at_end, next_are, next_left, next_long, next_refused, next_went}
-use Rattle.lit_pool.proofs.RunLemmas.{front_of, last_taken, put_both, stopped_in}
+use Rattle.lit_pool.proofs.RunLemmas.{put_both, stopped_in}
 use Rattle.lit_pool.proofs.rounds.run_rounds.Goals as goal
 
 pub run_round-ran-requires-clause-ready : goal.run_round-ran-requires-clause-ready
@@ -22,7 +22,7 @@ run_round-ran-requires-clause-ready g c κs within =
     let part = c.split_at-in-loop-first.ensures.front_len in
     can_run R (g.C.Crew.gave c.args.crew.now) (length c.args.hands.items)
     (length c.args.tests.now) c.loop-first.first (length c.split_at-in-loop-first.result.0.now) hands
-    (sym (length-map hands (left R)) ∙ was.went.count) (was.rooms ∙ c.requires.rooms) was.went.number
+    (sym (length-map hands (left R)) ∙ was.went.count) (was.rooms ∙ c.requires.hired.rooms) was.went.number
     (omega arith) was.own
 
 pub returns-in_default-clause-left : goal.returns-in_default-clause-left
@@ -66,19 +66,12 @@ put_all-requires g c =
     ∙ drop_at xs ys c.loop-first.first was.went.long) in
     record { few = omega (arith, long, behind, c.requires.few, c.min-count.ensures, c.loop-first-test.true) }
 
-pub overflow_add-first : goal.overflow_add-first
-overflow_add-first g c =
+pub stop_at-requires : goal.stop_at-requires
+stop_at-requires g c =
     let refused = c.in-Err.ensures.refused in
     let low = slice_get_within c.split_at-in-loop-first-2.result.1.now c.in-Err.refusal.taken refused.other refused.at in
     let back = c.split_at-in-loop-first-2.ensures.back_len in
-    search (rules, arith)
-
-pub overflow_add-first-in-Err : goal.overflow_add-first-in-Err
-overflow_add-first-in-Err g c =
-    let refused = c.in-Err.ensures.refused in
-    let low = slice_get_within c.split_at-in-loop-first-2.result.1.now c.in-Err.refusal.taken refused.other refused.at in
-    let back = c.split_at-in-loop-first-2.ensures.back_len in
-    search (rules, arith)
+    record { within = search (rules, arith) }
 
 pub returns-in-Err-clause-count : goal.returns-in-Err-clause-count
 returns-in-Err-clause-count g c =
@@ -98,19 +91,11 @@ returns-in-Err-clause-stopped g c =
     let behind = c.split_at-in-loop-first-2.ensures.back ∙ ap (drop first) (c.deref.ensures.value ∙ all) ∙ drop_at xs ys first was.went.long in
     let refused = subst (λ zs. RefusesAt g.D.Desk.took g.D.Desk.kept c.loop-first.desk first zs taken c.in-Err.refusal.why c.put_all.new.desk)
     behind c.in-Err.ensures.refused in
-    let low = slice_get_within ys taken refused.other refused.at in
-    let cut = c.truncate.ensures.items ∙ ap (take (first + taken + 1)) all in
-    let cut_long = ap length cut ∙ length-take (first + taken + 1) (xs ++ ys) in
-    let all_long = length-append xs ys in
-    let was_long = was.went.long in
-    let some : 0 < vec_len c.truncate.new.self = (let ok = c.truncate.new.self.ok.0 in omega arith) in
-    let popped = last_taken c.pop-other.new.self.items (xs ++ take taken ys) c.pop-other.result _ refused.other
-    (c.pop-other.ensures.value refused.other some) (sym c.pop-other.ensures.items ∙ cut ∙ front_of first taken xs ys refused.other was.went.long refused.at) in
     stopped_in g.D.Desk.took g.D.Desk.kept (g.C.Crew.gave c.args.crew.now) c.args.tests.now first c.min-count.result taken xs ys c.args.desk.now
-    c.loop-first.desk c.put_all.new.desk c.in-Err.refusal.why c.stop-in-Err.result was.went.long was.are was.put
+    c.loop-first.desk c.put_all.new.desk c.in-Err.refusal.why c.stop_at.result was.went.long was.are was.put
     (subst (λ ts. AreTrials (g.C.Crew.gave c.args.crew.now) first ts ys)
     (c.split_at-in-loop-first.ensures.front ∙ ap (take c.min-count.result) c.split_at.ensures.back) runs.are) refused
-    (c.stop-in-Err.ensures ∙ (λ i. record { why = c.why_of.ensures i; trials = popped.0 i; other = popped.1 i }))
+    (c.stop_at.ensures ∙ ap (λ ts. stop_at ts (first + taken) c.in-Err.refusal.why) all)
 
 pub returns-in-Err-clause-left : goal.returns-in-Err-clause-left
 returns-in-Err-clause-left g c =
@@ -124,22 +109,13 @@ returns-in-Err-clause-left g c =
     let all : c.append.new.self.items ≡ xs ++ ys = search rules in
     let runs = rw c.in-Some.is at ran.trials in
     let behind = c.split_at-in-loop-first-2.ensures.back ∙ ap (drop first) (c.deref.ensures.value ∙ all) ∙ drop_at xs ys first was.went.long in
-    let refused = c.in-Err.ensures.refused in
-    let low = slice_get_within c.split_at-in-loop-first-2.result.1.now taken refused.other refused.at in
-    let short : taken < length ys = (let n = ap length behind in omega arith) in
-    let cut = c.truncate.ensures.items ∙ ap (take (first + taken + 1)) all in
-    let cut_long = ap length cut ∙ length-take (first + taken + 1) (xs ++ ys) in
-    let all_long = length-append xs ys in
-    let was_long = was.went.long in
-    let rest_long = ap length c.pop-other.ensures.rest ∙ length-take _ c.truncate.new.self.items in
-    let stop = c.stop-in-Err.ensures in
+    let refused = rw behind at c.in-Err.ensures.refused in
     next_refused (length c.args.hands.items) c.args.tests.now c.split_at-in-loop-first.result.0.now first c.min-count.result xs _ _ was.went
     c.loop-first-test.true c.min-count.ensures
     (c.split_at-in-loop-first.ensures.front ∙ ap (take c.min-count.result) c.split_at.ensures.back) ran.begun
     (hands_same (room_of R) (left R) c.loop-first.hands.items c.run_round-ran.result.hands.items ran.rooms)
-    (g.C.Crew.gave c.args.crew.now) ys runs taken c.stop-in-Err.result short
-    (ap returned stop ∙ sym c.pop-other.ensures.items ∙ cut)
-    (ap (λ s. length s.trials) stop ∙ (let ok = c.truncate.new.self.ok.0 in omega arith))
+    (g.C.Crew.gave c.args.crew.now) ys runs taken c.in-Err.refusal.why refused.other c.stop_at.result refused.at
+    (c.stop_at.ensures ∙ ap (λ ts. stop_at ts (first + taken) c.in-Err.refusal.why) all)
 
 pub loop-first-preserved : goal.loop-first-preserved
 loop-first-preserved g c =

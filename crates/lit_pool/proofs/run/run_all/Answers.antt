@@ -15,7 +15,7 @@ returns-clause-trials g c =
     let one = g.C.Crew.gave c.hire_all.new.crew in
     let two = g.C.Crew.gave c.args.crew.now in
     let tests = c.args.tests.now in
-    IfOk-weaker c.run_rounds-hands.result.ended (AreTrials one 0 tests) (AreTrials two 0 tests)
+    IfOk-weaker c.run_rounds-hands.result.1 (AreTrials one 0 tests) (AreTrials two 0 tests)
     (λ trials are. trials_same one two c.hire_all.ensures.gave 0 tests trials are) (rw c.as_slice.ensures at c.run_rounds-hands.ensures.trials)
 
 pub returns-clause-stopped : goal.returns-clause-stopped
@@ -26,6 +26,6 @@ returns-clause-stopped g c =
     let old = c.args.desk.now in
     let new = c.run_rounds-hands.new.desk in
     let D = g.D.Desk in
-    IfErr-weaker c.run_rounds-hands.result.ended (IsStopped D.took D.kept one tests old new) (IsStopped D.took D.kept two tests old new)
+    IfErr-weaker c.run_rounds-hands.result.1 (IsStopped D.took D.kept one tests old new) (IsStopped D.took D.kept two tests old new)
     (λ stop is. stopped_same D.took D.kept one two c.hire_all.ensures.gave tests old new stop is)
     (rw c.as_slice.ensures at c.run_rounds-hands.ensures.stopped)

@@ -1,43 +1,35 @@
 -- The last hand works in this thread, and any other in one of its own; what a worker did is added to what the others did. Lemmas of
 -- WorkLemmas add; what is left here is that hands and seats are those that were taken off their lists. The hard one is
 -- `join-worked-requires-after_bounds`: what the two sides of the join ask for, side by side.
-use Rattle.std.proofs.Common.{rules, arith, ◌≡◌, ◌++◌, ◌∷◌, [], ◌<◌, length, Some, ap, ◌∙◌}
+use Rattle.std.proofs.Common.{rules, arith, ◌≡◌, ◌++◌, ◌∷◌, [], ◌<◌, length, ap, ◌∙◌}
 use Rattle.std.proofs.lemmas.List.{length_push, nil_from_length}
-use Rattle.std.proofs.lemmas.List.Elements.{All-pop}
 use Rattle.std.proofs.lemmas.List.Sums.{sum_by_push}
 use Rattle.std.specs.List.{sum_by}
-use Rattle.lit_claims.specs.Seats.{IsFresh, claims_id, drawn_by, share_of}
-use Rattle.lit_round.specs.Hands.{CanRun}
+use Rattle.lit_claims.specs.Seats.{drawn_by, share_of}
 use Rattle.lit_round.specs.Trials.{IsTrialAmong}
-use Rattle.lit_round.proofs.WorkLemmas.{all_kept, works_both, works_same}
+use Rattle.lit_round.proofs.WorkLemmas.{all_kept, jobs_split, works_both, works_same}
 use Rattle.lit_round.proofs.team.+all_work+fn-all_work-join+arg3.Goals as goal
 
 pub returns-then-is_empty : goal.returns-then-is_empty
 returns-then-is_empty g t c =
     let R = g.C.Hand.Runner in
-    let jobs = c.requires.jobs in
     let hand = c.in-Some.hand in
     let seat = c.in-Some-pop.seat in
     let gave = g.C.Crew.gave c.args.crew.now in
     let popped : c.args.hands.items ≡ c.pop.new.self.items ++ hand ∷ [] = search rules in
     let seated : c.args.seats.items ≡ c.pop-2.new.self.items ++ seat ∷ [] = search rules in
     let none : c.pop.new.self.items ≡ [] = search rules in
-    let ready = All-pop (CanRun R gave (length c.args.shared.now.tests.now)) _ _ (Some hand) popped jobs.fit in
-    let fresh = All-pop (IsFresh (claims_id c.args.shared.now.claims.now)) _ _ (Some seat) seated jobs.own in
-    let hands = ap length popped ∙ length_push c.pop.new.self.items hand in
-    let seats = ap length seated ∙ length_push c.pop-2.new.self.items seat in
-    let same = jobs.same in
-    let left = ap length none in
-    let no_seat = ap (sum_by share_of) (nil_from_length c.pop-2.new.self.items (omega arith)) in
+    let jobs = jobs_split R gave c.args.shared.now _ _ hand seat (rw seated at (rw popped at c.requires.jobs)) in
+    let no_seat = ap (sum_by share_of) (nil_from_length c.pop-2.new.self.items (omega (arith, jobs.2, ap length none))) in
     let shares = ap (sum_by share_of) seated ∙ sum_by_push share_of c.pop-2.new.self.items seat in
     let worked = c.work-worked.ensures in
     record {
       did = (
         record {
-          own = worked.seat.0 ∙ fresh.1.0;
+          own = worked.seat.0 ∙ jobs.0.own;
           share = let share = worked.seat.1 in omega arith;
           works = rw popped (rw c.push_reserved.ensures.items (rw none (works_same R c.args.shared.now.first c.args.shared.now.tests.now
-              (R.gave hand) gave ready.1.1.0 _ _ _ _ _ worked.works)));
+              (R.gave hand) gave jobs.1 _ _ _ _ _ worked.works)));
         },
         search (rules, arith),
         search (rules, arith),
@@ -46,29 +38,15 @@ returns-then-is_empty g t c =
 
 pub join-worked-requires-after_bounds : goal.join-worked-requires-after_bounds
 join-worked-requires-after_bounds g t c κs within =
-    let R = g.C.Hand.Runner in
-    let jobs = c.requires.jobs in
     let hand = c.in-Some.hand in
     let seat = c.in-Some-pop.seat in
     let popped : c.args.hands.items ≡ c.pop.new.self.items ++ hand ∷ [] = search rules in
     let seated : c.args.seats.items ≡ c.pop-2.new.self.items ++ seat ∷ [] = search rules in
-    let ready = All-pop (CanRun R (g.C.Crew.gave c.args.crew.now) (length c.args.shared.now.tests.now)) _ _ (Some hand)
-    popped jobs.fit in
-    let fresh = All-pop (IsFresh (claims_id c.args.shared.now.claims.now)) _ _ (Some seat) seated jobs.own in
-    let asked = ap (sum_by R.asked) popped ∙ sum_by_push R.asked c.pop.new.self.items hand in
-    let hands = ap length popped ∙ length_push c.pop.new.self.items hand in
-    let seats = ap length seated ∙ length_push c.pop-2.new.self.items seat in
-    let same = jobs.same in
-    let least = jobs.low in
-    let some : 0 < length c.pop.new.self.items = search rules in (
-      record {
-        own = fresh.1.0;
-        fresh = fresh.1.1;
-        few = jobs.few;
-        first = jobs.first;
-        fit = (ready.1.0, ((λ test earlier request reply. (λ x. x, λ x. x)), ready.1.1.1));
-        low = omega arith;
-      },
+    let some : 0 < length c.pop.new.self.items = search rules in
+    let jobs = jobs_split g.C.Hand.Runner (g.C.Crew.gave c.args.crew.now) c.args.shared.now _ _ hand seat
+    (rw seated at (rw popped at c.requires.jobs)) in
+    let rest = jobs.3 some in (
+      jobs.0,
       (
         search (rules, arith),
         (
@@ -77,21 +55,7 @@ join-worked-requires-after_bounds g t c κs within =
             search rules,
             (
               search rules,
-              (
-                (
-                  search rules,
-                  record {
-                    own = fresh.0;
-                    same = omega arith;
-                    some = some;
-                    few = jobs.few;
-                    first = jobs.first;
-                    fit = ready.0;
-                    low = omega arith;
-                  },
-                ),
-                (search rules, search rules),
-              ),
+              ((search rules, rest), (search rules, search rules)),
             ),
           ),
         ),
@@ -115,10 +79,10 @@ returns g t c =
     let tests = c.args.shared.now.tests.now in
     let popped : c.args.hands.items ≡ c.pop.new.self.items ++ hand ∷ [] = search rules in
     let seated : c.args.seats.items ≡ c.pop-2.new.self.items ++ seat ∷ [] = search rules in
-    let ready = All-pop (CanRun R gave (length tests)) _ _ (Some hand) popped c.requires.jobs.fit in
+    let jobs = jobs_split R gave c.args.shared.now _ _ hand seat (rw seated at (rw popped at c.requires.jobs)) in
     let mine = c.join-worked.ensures.first in
     let theirs = c.join-worked.ensures.second.0 in
-    let worked = works_same R first tests (R.gave hand) gave ready.1.1.0 _ _ _ _ _ mine.works in
+    let worked = works_same R first tests (R.gave hand) gave jobs.1 _ _ _ _ _ mine.works in
     let one = c.join-worked.result.0 in
     let all = c.join-worked.result.1 in
     let added = c.add.ensures in

@@ -1,10 +1,11 @@
 use Rattle.std.proofs.Common.{rules, ◌++◌, ◌∙◌, ap, if◌then◌else◌, is_ok}
-use Rattle.lit_round.proofs.WorkLemmas.{all_three, taken_or_left}
+use Rattle.std.proofs.lemmas.Bool.{cases_cond}
+use Rattle.lit_round.proofs.WorkLemmas.{all_three}
 use Rattle.lit_round.proofs.team.add.Goals as goal
 
 pub returns-clause-trials : goal.returns-clause-trials
 returns-clause-trials g c =
-    taken_or_left (is_ok c.append.result) c.args.team.trials.items c.args.worked.trials.items _ c.append.ensures.items
+    cases_cond (is_ok c.append.result) _ c.args.team.trials.items _ c.append.ensures.items
 
 pub returns-clause-whole : goal.returns-clause-whole
 returns-clause-whole g c is =

@@ -44,9 +44,6 @@ loop-place-preserved g c =
     let drawn = c.draw-place-in-loop-place.ensures in
     let ends = last_on (drawn_by c.loop-place.seat) _ c.draw-place-in-loop-place.result drawn.drawn drawn.later in
     let more = rises (drawn_by c.loop-place.seat) place c.draw-place-in-loop-place.result was.last drawn.later in
-    let low = c.loop-place-test.true in
-    let entries = entries_both xs (x ∷ []) in
-    let long = length-append xs (x ∷ []) in
     rw pushed (record {
       own = drawn.seat.0 ∙ was.own;
       share = drawn.seat.1 ∙ was.share;
@@ -55,15 +52,15 @@ loop-place-preserved g c =
       begun = ran.begun ∙ ap (λ ns. ns ++ (first + place) ∷ []) was.begun ∙ append_assoc (g.H.Runner.begun c.args.hand) (numbers_of xs) _
           ∙ ap (λ n. g.H.Runner.begun c.args.hand ++ (numbers_of xs ++ n ∷ [])) (sym now.same.0)
           ∙ ap (λ ns. g.H.Runner.begun c.args.hand ++ ns) (sym (numbers_both xs (x ∷ [])));
-      counts = counts_on first (length tests) place c.draw-place-in-loop-place.result (drawn_by c.loop-place.seat) _ xs x now.same.0 low
-          drawn.drawn was.counts;
-      some = omega (arith, long, more, was.some);
+      counts = counts_on first (length tests) place c.draw-place-in-loop-place.result (drawn_by c.loop-place.seat) _ xs x now.same.0
+          c.loop-place-test.true drawn.drawn was.counts;
+      some = omega (arith, length-append xs (x ∷ []), more, was.some);
       room = (let long = length-append (g.H.Runner.begun c.loop-place.hand) ((first + place) ∷ []) in
           let all = ap length ran.begun in omega (arith, long, all, ran.room, was.room));
       given = All-push (IsTrialAmong gave first tests) xs x was.given (record {
         place = place;
         its = x.test;
-        at = slice_get-get_or tests place c.index-shared-place.result low ∙ ap Some (sym now.same.1);
+        at = slice_get-get_or tests place c.index-shared-place.result c.loop-place-test.true ∙ ap Some (sym now.same.1);
         is = record {
           number = now.same.0;
           test = refl;
@@ -72,7 +69,7 @@ loop-place-preserved g c =
         };
         few = now.few;
       });
-      asked = omega (arith, entries, was.asked, now.asked);
+      asked = omega (arith, entries_both xs (x ∷ []), was.asked, now.asked);
       broken = broken_on _ _ _ xs x was.later ran.later was.broken now.broken;
       calm = calm_on _ _ _ xs x was.calm now.calm;
       later = omega (arith, was.later, ran.later);

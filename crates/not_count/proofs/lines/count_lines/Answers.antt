@@ -1,7 +1,7 @@
 use Rattle.std.proofs.Common.{◌++◌, ◌∙◌, take, arith, length-append}
 use Rattle.std.proofs.lemmas.List.{length-take}
 use Rattle.std.proofs.KnownBytes.{Consumes-trans}
-use Rattle.not_count.proofs.LinesLemmas.{lines-append, lines_at_most}
+use Rattle.not_count.proofs.LinesLemmas.{lines-append}
 use Rattle.not_count.proofs.lines.count_lines.Goals as goal
 
 pub returns-then-taken-gt-LIMIT-clause-counted : goal.returns-then-taken-gt-LIMIT-clause-counted
@@ -29,14 +29,13 @@ pub loop-count-preserved : goal.loop-count-preserved
 loop-count-preserved g c =
     let kept = c.loop-count.invariant in
     let more = take c.in-Ok.count c.read.new.buf in
-    let counted = c.newlines.ensures in
-    let few = lines_at_most more in (
+    let counted = c.count_of.ensures in (
       kept.0 ++ more,
       Consumes-trans _ _ _ kept.0 more kept.1 c.in-Ok.ensures.bytes.0,
       omega (arith, length-append kept.0 more, c.in-Ok.ensures.bound, kept.2),
       omega arith,
-      omega (arith, lines-append kept.0 more, counted, kept.4),
-      omega (arith, few, counted, c.in-Ok.ensures.bound, kept.5),
+      omega (arith, lines-append kept.0 more, counted.value, kept.4),
+      omega (arith, counted.within, c.in-Ok.ensures.bound, kept.5),
       c.in-Ok.ensures.cause.calm ∙ kept.6,
       λ steady. (c.in-Ok.ensures.steady (kept.7 steady)).1,
     )

@@ -1,14 +1,8 @@
-use Rattle.std.proofs.Common.{◌≡◌, All, map, rules, sym, subst, List}
-use Rattle.std.specs.List.{dedup}
+use Rattle.lit_find.proofs.Names.{◌≡◌, All, map, rules, sym, subst, List, dedup, is_lt, on_texts, Test, IsFiled, test_in, IsInOrder}
 use Rattle.std.specs.List.Sorted.{IsSortedBy}
-use Rattle.std.specs.Ordering.{is_lt}
-use Rattle.std.specs.Cmp.Lexicographic.{on_texts}
 use Rattle.std.proofs.lemmas.Fn.{dedup_same}
 use Rattle.std.proofs.lemmas.List.Filters.{All-dedup}
 use Rattle.std.proofs.lemmas.List.Sorted.{All-permutation, answers_always, ranks_by}
-use Rattle.tt_outside.specs.declared.test_data.Test.{Test}
-use Rattle.lit_find.specs.Files.{IsFiled, test_in}
-use Rattle.lit_find.specs.Found.{IsInOrder}
 use Rattle.lit_find.proofs.SortLemmas.{file_cmp, in_order, same_path}
 use Rattle.lit_find.proofs.discovery.Discovery.in_order.Goals as goal
 

@@ -1,7 +1,5 @@
-use Rattle.std.proofs.Common.{◌≡◌, List, [], ◌∷◌, map, refl, ap, ◌∙◌}
+use Rattle.lit_find.proofs.Names.{◌≡◌, List, [], ◌∷◌, map, refl, ap, ◌∙◌, test_in, TestFile}
 use Rattle.std.proofs.lemmas.Result.{IfOk-weaker}
-use Rattle.lit_find.specs.Files.{test_in}
-use Rattle.lit_find.specs.declared.place.TestFile.{TestFile}
 use Rattle.lit_find.proofs.discovery.Discovery.names.Goals as goal
 
 names_of : (files : List TestFile) → map (λ file. (test_in file).name) files ≡ map (λ test. test.name) (map test_in files)

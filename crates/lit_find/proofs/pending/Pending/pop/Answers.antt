@@ -1,8 +1,5 @@
-use Rattle.std.proofs.Common.{List, map, ap, sym, subst}
+use Rattle.lit_find.proofs.Names.{List, map, ap, sym, subst, Parts, IsFirst, IsInside, place_of_entry, Place}
 use Rattle.std.proofs.lemmas.List.Elements.{All-rest, All-same}
-use Rattle.lit_paths.specs.Paths.{Parts}
-use Rattle.lit_find.specs.Places.{IsFirst, IsInside, place_of_entry}
-use Rattle.lit_find.specs.declared.place.Place.{Place}
 use Rattle.lit_find.proofs.KeyLemmas.{first_of}
 use Rattle.lit_find.proofs.pending.Pending.pop.Goals as goal
 

@@ -1,5 +1,4 @@
-use Rattle.std.proofs.Common.{map, ap, ◌∙◌}
-use Rattle.lit_find.specs.Places.{path_order, place_of_entry, put}
+use Rattle.lit_find.proofs.Names.{map, ap, ◌∙◌, path_order, place_of_entry, put}
 use Rattle.lit_find.proofs.KeyLemmas.{inserted}
 use Rattle.lit_find.proofs.PlaceLemmas.{put_inside}
 use Rattle.lit_find.proofs.pending.Pending.put.Goals as goal
