@@ -68,15 +68,16 @@ const WHOLE: &str = r"(a)\1 => cat( a alt( a ) )
 (a)|b\1 => alt( a cat( b alt( a ) ) )
 (a){2,3}\1+ => cat( 2-Some(3)(a) 1-None(alt( a )) )
 ((a)b)\1\2 => cat( cat( a b ) alt( cat( a b ) ) alt( a ) )
+((b*)\2)\1 => cat( cat( 0-None(b) alt( 0-None(b) ) ) alt( cat( 0-None(b) alt( 0-None(b) ) ) ) )
 ^(^a)\1$ => cat( ^ cat( ^ a ) alt( cat( empty a ) ) $ )
 ((a{250}){250})\1 => cat( 250-Some(250)(250-Some(250)(a)) 0-None([256]) )";
 
-/// Pieces and what they become: one number on several groups, on one behind the reference, on none; and letters that a
+/// Pieces and what they become: one number on several groups, on one behind the reference, on none, where any text may stand; and letters that a
 /// reference in either case finds in one case alone.
 const PIECES: &str = r"(a) (b)\1 => cat( a cat( b alt( a b ) ) )
 (a)* \1 (b) => cat( 0-None(a) alt( a b ) b )
 \1 (a) => cat( alt( a ) a )
-\1 a => cat( alt( ) a )
+\1 a => cat( 0-None([256]) a )
 (a) \1i => cat( a 0-None([256]) )
 (1) \1i => cat( 1 alt( 1 ) )
 ([a-c]) \1i => cat( [abc] 0-None([256]) )";

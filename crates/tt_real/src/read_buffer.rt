@@ -7,7 +7,7 @@ use std::io::{ErrorKind, Read};
 use std::marker::Model;
 
 /// For how many bytes there is room at first.
-const FIRST: usize = 4096;
+const FIRST: usize = 256;
 
 /// For how many there is room before each read, at most: as many as a pipe holds.
 pub(crate) const PIECE: usize = 1 << 16;
