@@ -48,7 +48,7 @@ pub(crate) fn no_text<'a>(alloc: Global) -> Text<'a>
     pieces_alone(Pieces::new(alloc))
 }
 
-/// The texts for the two streams, and the status, of which a contract sees the answer. It has all memory that writing takes.
+/// The texts for the two streams, and the status, of which a contract sees the answer. It has all memory that writing needs.
 #[derive(Drop)]
 pub struct Telling<'a> {
     out: Text<'a>,
@@ -136,7 +136,7 @@ fn gathered(alloc: Global, pen: &mut Pen, text: &mut Text<'_>) -> Result<Bytes, 
 }
 
 impl<'a> Telling<'a> {
-    /// Writes the answer of a tool, and answers its status, or 3 where a stream fails. It takes no memory.
+    /// Writes the answer of a tool, and answers its status, or 3 where a stream fails. It does so where there is no more memory, too.
     pub fn write<O: Sink, E: Sink>(self, frame: ToolFrame, out: &mut O, err: &mut E) -> u8
         requires { self.status ≤ 3 }
         ensures written { Written (cannot_write frame.name.now) self.entry result

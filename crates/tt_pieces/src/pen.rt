@@ -11,11 +11,14 @@ use tt_outside::{Failed, Sink, write_all};
 /// How many bytes wait at most.
 const ROOM: usize = 65536;
 
+/// For how many there is room at first.
+const FIRST: usize = 512;
+
 /// A run of blanks.
 const BLANKS: &[u8] = b"                                                                ";
 
-/// A buffer for what is told, and whether a write failed. It takes all its memory when it is made. A message is told part by part to
-/// one stream, and what still waits is written at its end.
+/// A buffer for what is told, and whether a write failed. It grows up to 64 KiB as long as there is memory; else it is written sooner. A
+/// message is told part by part to one stream, and what still waits is written at its end.
 #[derive(Drop, Debug)]
 pub struct Pen {
     pub(crate) waiting: Vec<u8>,
@@ -40,7 +43,7 @@ impl Pen {
     pub fn new(alloc: Global) -> Result<Pen, NoMemory>
         ensures { IfOk result IsIdle }
     {
-        match Vec::with_capacity(alloc, ROOM) {
+        match Vec::with_capacity(alloc, FIRST) {
             Ok(waiting) => Ok(Pen {
                 waiting,
                 failed: false,
