@@ -1,6 +1,7 @@
 //! The search of a positive directive.
 ghost use Rattle.std.specs.Prelude.{◌≡◌, ◌≤◌, IfOk, length};
 ghost use Rattle.check_group.specs.Changes.{IsReady};
+ghost use Rattle.check_group.specs.declared.fault.FaultKind.TheVariants.{NotFound};
 ghost use Rattle.check_group.specs.Matches.{FitsIn, answered, looked_in};
 
 use crate::directive::Check;
@@ -25,14 +26,14 @@ pub struct Matched {
     pub to: usize,
 }
 
-/// A search's answer as a match or a fault; `absent` is the fault where nothing is found.
+/// The answer of a search from an offset on as a match or a fault, behind `done` matches of the same directive.
 #[inline(always)]
-pub(crate) fn answered(answer: Sought, absent: FaultKind) -> Result<Met, FaultKind>
-    ensures { result ≡ answered answer absent }
+pub(crate) fn answered(answer: Sought, from: usize, done: u32) -> Result<Met, FaultKind>
+    ensures { result ≡ answered answer (NotFound from done) }
 {
     match answer {
         Sought::Found { span, fresh } => Ok(Met { span, fresh }),
-        Sought::Absent => Err(absent),
+        Sought::Absent => Err(FaultKind::NotFound { from, done }),
         Sought::UndefinedNames(names) => Err(FaultKind::Undefined(names)),
         Sought::Range => Err(FaultKind::Range),
         Sought::ZeroDivisor => Err(FaultKind::ZeroDivisor),
@@ -55,5 +56,5 @@ pub fn look<L: Ledger>(
     ensures fits { IfOk result (λ met. IfOk met (FitsIn context.now from)) }
 {
     let answer = seek(context, &check.pattern, check.line, from, steps)?;
-    Ok(answered(answer, FaultKind::NotFound { from, done }))
+    Ok(answered(answer, from, done))
 }

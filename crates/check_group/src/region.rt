@@ -137,6 +137,26 @@ pub fn test_region<L: Ledger>(
     requires ready { All (IsReady context.now.vars.now) nots.now }
     ensures { OnOk result (faults.new ≡ faults.old ++ region_in context.now from nots.now) }
 {
+    if nots.is_empty() {
+        return Ok(());
+    }
+    test_each(context, nots, from, faults, steps)
+}
+
+/// The same of NOTs, each one.
+#[tactic(auto, unfolding(crate::specs::Region::region))]
+#[inline(never)]
+fn test_each<L: Ledger>(
+    context: &Context<'_>,
+    nots: &[Check],
+    from: usize,
+    faults: &mut Items<Fault>,
+    steps: &mut Steps<L>,
+) -> Result<(), NoMemory>
+    requires inside { from ≤ length context.now.text.now }
+    requires ready { All (IsReady context.now.vars.now) nots.now }
+    ensures { OnOk result (faults.new ≡ faults.old ++ region_in context.now from nots.now) }
+{
     let known = windows_of(context.alloc, nots, context.text.split_at(from).1)?;
     for check in nots {
         if let Some(kind) = tested(context, check, &known, from, steps)? {

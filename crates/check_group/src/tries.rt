@@ -84,6 +84,17 @@ impl Tries {
         }
     }
 
+    /// Makes what a directive's tries share.
+    #[inline(never)]
+    fn make(&mut self, context: &Context<'_>, check: &Check) -> Result<(), NoMemory>
+        requires ready { IsReady context.now.vars.now check.now }
+        requires same { AreFor self.old check.now context.now.vars.now }
+        ensures same { AreFor self.new check.now context.now.vars.now }
+    {
+        *self = made(context, check)?;
+        Ok(())
+    }
+
     /// The directive sought in the slice from an offset to the text's end, behind `done` matches of the same directive.
     #[inline(always)]
     pub(crate) fn look<L: Ledger>(
@@ -102,12 +113,12 @@ impl Tries {
         ensures same { AreFor self.new check.now context.now.vars.now }
     {
         if let Tries::Fresh = self {
-            *self = made(context, check)?;
+            self.make(context, check)?;
         }
         match self {
             Tries::Built(ready) => {
                 let answer = sought_again(context, ready, check, from, steps)?;
-                Ok(answered(answer, FaultKind::NotFound { from, done }))
+                Ok(answered(answer, from, done))
             }
             Tries::Plain | Tries::Fresh => look(context, check, done, from, steps),
         }

@@ -1,6 +1,6 @@
 use Rattle.std.proofs.Common.{◌≡◌, ◌++◌, drop}
 use Rattle.check_group.specs.Region.{AreOf, region}
-use Rattle.check_group.proofs.region.test_region.Given as goal
+use Rattle.check_group.proofs.region.test_each.Given as goal
 
 abbrev pub invariant-loop-check : goal.invariant-loop-check
 invariant-loop-check g l = record {
