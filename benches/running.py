@@ -1,25 +1,28 @@
 #!/usr/bin/env python3
 """Times how lit runs tests, beside LLVM's lit where it is installed, and beside the floor.
 
-    benches/running.py [--rounds N] [--lit LIT] [--tests N] [--programs FOLDER] [--only WORD] [--processor]
+    benches/running.py [--rounds N] [--lit LIT] [--tests N] [--programs FOLDER] [--only WORD] [--processor] [--ahead]
 
 The programs are those that ./run builds, or with --programs those in a folder, under their names. LIT is LLVM's lit.py;
 without it, one is looked for. It runs the same tests in its own shell, with one worker, and its own FileCheck. The floor is
 a C program that starts the same commands by posix_spawn, one after the other, hands each the output of the one before, and
 reads both streams to their end; without a C compiler there is none. The floor that does as much also keeps what it reads, as a report
-may have to show it, and asks for the kind of each name in the test's folder. Wall time, the best of the rounds, in which all run
-in alternation; with --processor it is that of a processor, of all commands too, for a machine that others use. Memory is the greatest
-resident set of a process. A goal is the greatest ratio that is wanted.
+may have to show it, and asks for the kind of each name in the test's folder. For many tests of one command there is one more C
+program, which makes the very calls of the system that lit makes, in their order. Wall time, the best of the rounds, in which all run
+in alternation, and of the ratio to the floor also that of the medians; with --processor it is the time of a processor, of all commands
+too. With --ahead all run at a real-time priority, so that other processes don't come between; that is for the superuser. Memory is
+the greatest resident set of a process. A goal is the greatest ratio that is wanted.
 """
 import argparse
 import glob
 import os
 import shutil
+import statistics
 import subprocess
 import sys
 import tempfile
 
-from filecheck import BY_PROCESSOR, MIB, best_of, built, other_programs, peak
+from filecheck import BY_PROCESSOR, MIB, built, other_programs, peak, run_once
 
 SUITE = """version = 1
 name = "demo"
@@ -42,7 +45,9 @@ config.environment["PATH"] = "{path}"
 FLOOR = r"""
 #define _GNU_SOURCE
 #include <dirent.h>
+#include <errno.h>
 #include <fcntl.h>
+#include <limits.h>
 #include <poll.h>
 #include <pthread.h>
 #include <spawn.h>
@@ -144,12 +149,73 @@ static void list(const char *folder) {
     closedir(opened);
 }
 
+// Asks what stands at a path; there may be nothing.
+static void look(int at, const char *path, int how) {
+    struct statx found;
+    if (statx(at, path, how, STATX_ALL, &found) && errno != ENOENT) exit(2);
+}
+
+// Starts a program of the path, and has what it writes read by 256 bytes.
+static void start(const char *folder, char *name) {
+    int to[2], from[2], errors[2], status;
+    char *command[] = {name, NULL}, at[PATH_MAX], piece[256];
+    struct statx found;
+    if (pipe2(to, O_CLOEXEC) || pipe2(from, O_CLOEXEC) || pipe2(errors, O_CLOEXEC)) exit(2);
+    look(AT_FDCWD, folder, 0);
+    for (const char *path = getenv("PATH");; path = strchrnul(path, ':') + 1) {
+        snprintf(at, sizeof at, "%.*s/%s", (int)(strchrnul(path, ':') - path), path, name);
+        if (!statx(AT_FDCWD, at, 0, STATX_ALL, &found)) break;
+        if (!*strchrnul(path, ':')) exit(2);
+    }
+    posix_spawn_file_actions_t actions;
+    posix_spawnattr_t manner;
+    sigset_t signals;
+    posix_spawn_file_actions_init(&actions), posix_spawnattr_init(&manner), sigemptyset(&signals);
+    posix_spawn_file_actions_adddup2(&actions, to[0], 0);
+    posix_spawn_file_actions_adddup2(&actions, from[1], 1);
+    posix_spawn_file_actions_adddup2(&actions, errors[1], 2);
+    posix_spawn_file_actions_addchdir_np(&actions, folder);
+    posix_spawn_file_actions_addclosefrom_np(&actions, 3);
+    posix_spawnattr_setsigmask(&manner, &signals), sigaddset(&signals, SIGPIPE), posix_spawnattr_setsigdefault(&manner, &signals);
+    posix_spawnattr_setflags(&manner, POSIX_SPAWN_SETSIGDEF | POSIX_SPAWN_SETSIGMASK);
+    pid_t child;
+    if (posix_spawn(&child, at, &actions, &manner, command, environ)) exit(2);
+    posix_spawn_file_actions_destroy(&actions);
+    close(to[0]), close(from[1]), close(errors[1]), close(to[1]);
+    struct pollfd polled[2] = {{from[0], POLLIN, 0}, {errors[0], POLLIN, 0}};
+    poll(polled, 2, -1);
+    while (read(errors[0], piece, sizeof piece) > 0) {}
+    close(errors[0]);
+    while (read(from[0], piece, sizeof piece) > 0) {}
+    close(from[0]);
+    if (waitpid(child, &status, 0) != child || status != 0) exit(1);
+}
+
+// Makes lit's calls for a test: it reads the test, sees to the folder of its output, and starts its command.
+static void same_calls(const char *folder, int number, char *name) {
+    char path[PATH_MAX], text[4096];
+    snprintf(path, sizeof path, "%s/t%04d.txt", folder, number);
+    int test = open(path, O_RDONLY | O_NOCTTY | O_CLOEXEC);
+    if (test < 0) exit(2);
+    look(test, "", AT_EMPTY_PATH);
+    while (read(test, text, sizeof text) > 0) {}
+    close(test);
+    snprintf(path, sizeof path, "%s/Output", folder);
+    mkdir(path, 0777);
+    look(AT_FDCWD, path, 0);
+    start(folder, name);
+}
+
 int main(int given, char **all) {
     pthread_t others[64];
+    signal(SIGPIPE, SIG_IGN);
+    if (given == 5 && strcmp(all[1], "same-calls") == 0) {
+        for (int number = 0; number < atoi(all[3]); number++) same_calls(all[2], number, all[4]);
+        return 0;
+    }
     if (given > 3 && strcmp(all[1], "as-much") == 0) keeps = 1, list(all[2]), given -= 2, all += 2;
     int threads = atoi(all[1]);
     if (threads < 1 || threads > 64) exit(2);
-    signal(SIGPIPE, SIG_IGN);
     times = atoi(all[2]), words = all + 3, count = given - 3;
     for (int at = 1; at < threads; at++)
         if (pthread_create(&others[at], NULL, work, NULL)) exit(2);
@@ -200,11 +266,15 @@ def floor_program(top):
 
 
 def table_row(case, goals, commands, rounds):
-    """Runs a case by ours, the floor, the floor that does as much and LLVM's, those that there are, and prints its row."""
+    """Runs a case by ours, the floor, the floor that does as much, the one that makes the same calls and LLVM's, those that there are, and
+    prints its row."""
     there = [command for command in commands if command]
-    times = dict(zip(map(id, there), best_of(there, os.devnull, 0, rounds)))
+    runs = [[run_once(command, os.devnull, 0) for command in there] for _ in range(rounds)]
+    all_times = dict(zip(map(id, there), zip(*runs)))
     memory = {id(command): peak(command, os.devnull) for command in there}
-    ours, floor, much, llvm = [(times.get(id(command)), memory.get(id(command))) if command else (None, None) for command in commands]
+    ours, floor, much, same, llvm = [(min(all_times[id(command)]), memory[id(command)]) if command else (None, None)
+                                     for command in commands]
+    middle = [statistics.median(all_times[id(command)]) if command else None for command in commands]
 
     def ratio(one, other):
         return f"{one / other:.2f}" if one and other else "?"
@@ -213,8 +283,9 @@ def table_row(case, goals, commands, rounds):
         return [f"{pair[0] * 1000:.1f} ms" if pair[0] else "?", f"{pair[1] / 1024:.1f} MiB" if pair[1] else "?"]
 
     cells = [case, *shown(ours), *shown(llvm), f"{ratio(ours[0], llvm[0])} (goal {goals[0]})",
-             ratio(ours[1], llvm[1]) + (f" (goal {goals[1]})" if goals[1] else ""), shown(floor)[0], f"{ratio(ours[0], floor[0])} (goal 1.3)",
-             shown(much)[0], ratio(ours[0], much[0])]
+             ratio(ours[1], llvm[1]) + (f" (goal {goals[1]})" if goals[1] else ""), shown(floor)[0],
+             f"{ratio(ours[0], floor[0])}, medians {ratio(*middle[:2])} (goal 1.3)", shown(much)[0], ratio(ours[0], much[0]), ratio(ours[0], same[0]),
+             ratio(same[0], floor[0])]
     print("| " + " | ".join(cells) + " |", flush=True)
 
 
@@ -226,14 +297,18 @@ def main():
     wants.add_argument("--programs", help="the folder in which lit and filecheck stand")
     wants.add_argument("--only", default="", help="the cases whose title has this")
     wants.add_argument("--processor", action="store_true", help="the time of a processor in place of the wall's")
+    wants.add_argument("--ahead", action="store_true", help="at a real-time priority")
     given = wants.parse_args()
     BY_PROCESSOR[0] = given.processor
+    if given.ahead:
+        os.sched_setscheduler(0, os.SCHED_RR, os.sched_param(10))
     program, filecheck = [os.path.join(os.path.abspath(given.programs), name) if given.programs else built(name) for name in ("lit", "filecheck")]
     found = [os.path.abspath(given.lit)] if given.lit else sorted(glob.glob("/usr/lib/llvm-*/build/utils/lit/lit.py"))[-1:]
     others = other_programs()[:1]
     path = ":".join([os.path.dirname(os.path.realpath(one)) for one in others] + [os.environ["PATH"]])
-    print("| case | ours | memory | LLVM | memory | time, ours / LLVM | memory, ours / LLVM | floor | time, ours / floor | floor that does as much | time, ours / that |")
-    print("|---|---|---|---|---|---|---|---|---|---|---|")
+    print("| case | ours | memory | LLVM | memory | time, ours / LLVM | memory, ours / LLVM | floor | time, ours / floor "
+          "| floor that does as much | time, ours / that | time, ours / the same calls | the same calls / floor |")
+    print("|---" * 13 + "|")
     with tempfile.TemporaryDirectory() as top:
         trees(top, given.tests, filecheck, path)
         os.chdir(top)
@@ -246,7 +321,8 @@ def main():
             llvm = [sys.executable, found[0], "-q", "-j1", os.path.join("llvm", where)] if found else None
             least = [floor, "1", str(times), *pipe] if floor else None
             much = [floor, "as-much", os.path.join("ours", where.split(os.sep)[0]), *least[1:]] if floor else None
-            table_row(title, goals, [ours, least, much, llvm], given.rounds)
+            same = [floor, "same-calls", os.path.join("ours", where), str(times), *pipe] if floor and where == "true" else None
+            table_row(title, goals, [ours, least, much, same, llvm], given.rounds)
 
         large = os.path.join("ours", "inputs", "large")
         case(f"{given.tests:,} tests `RUN: true`", ("0.35", "0.25"), "true", given.tests, ["true"])
