@@ -1,5 +1,5 @@
 //! What writes a message by way of a buffer.
-ghost use Rattle.std.specs.Prelude.{◌≡◌, [], IfOk, OnOk, replicate};
+ghost use Rattle.std.specs.Prelude.{◌≡◌, [], true, IfOk, OnErr, OnOk, replicate};
 ghost use Rattle.std.specs.Fmt.{decimal};
 ghost use Rattle.tt_pieces.specs.Telling.{Finishes, Flushes, IsIdle, Puts, Writes, seen, state, with_kept};
 
@@ -105,6 +105,7 @@ impl Pen {
     pub fn finish<S: Sink>(&mut self, sink: &mut S) -> Result<(), Failed>
         ensures ends { Finishes (state S.Sink self.old sink.old) result (seen S.Sink sink.new) }
         ensures idle { OnOk result (IsIdle self.new) }
+        ensures failed { OnErr result (self.new.failed ≡ true) }
     {
         self.flush(sink);
         if self.failed { Err(Failed) } else { Ok(()) }
