@@ -92,7 +92,7 @@ pub fn match_alone<L: Ledger>(
                     to: m.span.to,
                 };
                 tries = tries.behind(&m.fresh);
-                vars.bind(m.fresh);
+                m.bind(vars);
             }
             Err(kind) => return Ok(Err(check.fault(kind))),
         }

@@ -1,14 +1,15 @@
 //! The search of a positive directive.
-ghost use Rattle.std.specs.Prelude.{◌≡◌, ◌≤◌, IfOk, length};
+ghost use Rattle.std.specs.Prelude.{◌≡◌, ◌≤◌, IfOk, length, true};
 ghost use Rattle.check_group.specs.Changes.{IsReady};
 ghost use Rattle.check_group.specs.declared.fault.FaultKind.TheVariants.{NotFound};
 ghost use Rattle.check_group.specs.Matches.{FitsIn, answered, looked_in};
+ghost use Rattle.pattern_vars.specs.Vars.{bound_all, have_places};
 
 use crate::directive::Check;
 use crate::fault::FaultKind;
 use ere_auto::Steps;
 use pattern_scan::{Context, Sought, seek};
-use pattern_vars::Bindings;
+use pattern_vars::{Bindings, Vars};
 use std::sync::ledger::Ledger;
 use tt_base::{NoMemory, Span};
 
@@ -17,6 +18,20 @@ use tt_base::{NoMemory, Span};
 pub struct Met {
     pub span: Span,
     pub fresh: Bindings,
+}
+
+impl Met {
+    /// Binds what the match gives.
+    #[inline]
+    pub(crate) fn bind(self, vars: &mut Vars)
+        requires { have_places vars.old self.fresh ≡ true }
+        ensures { vars.new ≡ bound_all vars.old self.fresh }
+    {
+        // Most matches give nothing.
+        if !self.fresh.is_empty() {
+            vars.bind(self.fresh);
+        }
+    }
 }
 
 /// Where a positive directive or a group begins and ends.

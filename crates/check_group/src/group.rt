@@ -140,7 +140,7 @@ pub fn place_group<L: Ledger>(
                 place_among(&mut ranges, m.span)?;
                 reached = reach(reached, m.span);
                 behind = next_try(m.span, place);
-                vars.bind(m.fresh);
+                m.bind(vars);
             }
             Err(kind) => return Ok(Err(check.fault(kind))),
         }

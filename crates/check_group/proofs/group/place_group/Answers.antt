@@ -81,9 +81,9 @@ loop-index-preserved g c =
       known = l.invariant.known;
       in_order = subst AreInOrder (sym placed_now) (order_placed m.span l.ranges.items l.invariant.in_order free);
       resumes = λ one some.
-          subst (λ prev. Resumes a.text.now c.bind.new.self c.place_among.new.ranges.items a.place prev c.next_try-behind.result)
+          subst (λ prev. Resumes a.text.now c.bind.new.vars c.place_among.new.ranges.items a.place prev c.next_try-behind.result)
           (member_before a.checks.now l.index c.index-checks-index.result one c.loop-index-test.true c.index-checks-index.is)
-          (resumes_on a.text.now l.vars c.bind.new.self l.ranges.items c.place_among.new.ranges.items a.place c.index-checks-index.result m
+          (resumes_on a.text.now l.vars c.bind.new.vars l.ranges.items c.place_among.new.ranges.items a.place c.index-checks-index.result m
           c.next_try-behind.result c.requires.here l.invariant.in_order l.invariant.within fits.high free met placed_now
           c.next_try-behind.ensures);
       within = subst (All (EndsBy (length a.text.now))) (sym placed_now)
