@@ -10,7 +10,7 @@ use tt_pieces::{Gathered, Pen};
 
 /// What is written of a check file.
 fn written(alloc: Global, file: &MadeFile) -> Result<Bytes, MakeFail> {
-    let mut pen = Pen::new(alloc)?;
+    let mut pen = Pen::new(alloc);
     let mut sink = Gathered::new(alloc);
     put_file(&mut pen, file, &mut sink);
     match pen.finish(&mut sink) {

@@ -38,11 +38,12 @@ fn report_row(alloc: Global, report: &Report) -> Result<Telling<'_>, NoMemory>
     match report {
         Report::Found(findings, dumped) => found_row(alloc, findings.as_slice(), dumped),
         Report::Made(made) => made_row(alloc, *made),
-        Report::Checks(file) => text_row(alloc, file),
+        Report::Checks(file) => Ok(text_row(alloc, file)),
     }
 }
 
 /// The answer of a verdict, with the annotated input behind its messages.
+#[tactic(auto, using(crate::proofs::AnswerLemmas::found_is))]
 fn found_row<'a>(
     alloc: Global,
     findings: &'a [Finding],
@@ -55,7 +56,7 @@ fn found_row<'a>(
     append_told(&mut pieces, findings)?;
     let rest = rest_of(alloc, dumped)?;
     let status = verdict_status(findings);
-    telling_of(alloc, no_text(alloc), Text { pieces, rest }, status)
+    Ok(telling_of(alloc, no_text(alloc), Text { pieces, rest }, status))
 }
 
 /// The status of a verdict.
@@ -74,13 +75,13 @@ fn made_row<'a>(alloc: Global, made: Made) -> Result<Telling<'a>, NoMemory>
     let mut out = Pieces::new(alloc);
     append_made(&mut out, made)?;
     let status = if made.faults == 0 { 0 } else { 1 };
-    telling_of(alloc, pieces_alone(out), no_text(alloc), status)
+    Ok(telling_of(alloc, pieces_alone(out), no_text(alloc), status))
 }
 
 /// The answer of a check file that is made.
-fn text_row(alloc: Global, file: &MadeFile) -> Result<Telling<'_>, NoMemory>
-    ensures value { IfOk result (λ answer. answer ≡ text_row file.now) }
-    ensures small { IfOk result (λ answer. answer.status ≤ 3) }
+fn text_row(alloc: Global, file: &MadeFile) -> Telling<'_>
+    ensures value { result ≡ text_row file.now }
+    ensures small { result.status ≤ 3 }
 {
     let out = Text {
         pieces: Pieces::new(alloc),
@@ -107,22 +108,18 @@ fn row_of(alloc: Global, stop: &Stop) -> Result<Telling<'_>, NoMemory>
     match stop {
         Stop::Refused(refusal) => {
             append_refusal(&mut err, refusal)?;
-            message_alone(alloc, err, 2)
+            Ok(message_alone(alloc, err, 2))
         }
         Stop::NotReadable(name) => {
             append_named(&mut err, b"cannot read '", name, b"'")?;
-            message_alone(alloc, err, 3)
+            Ok(message_alone(alloc, err, 3))
         }
     }
 }
 
 /// An answer that tells something on the error stream alone.
-fn message_alone<'a>(
-    alloc: Global,
-    message: Pieces<'a>,
-    status: u8,
-) -> Result<Telling<'a>, NoMemory>
-    ensures { IfOk result (λ answer. answer ≡ telling status message.entry) }
+fn message_alone<'a>(alloc: Global, message: Pieces<'a>, status: u8) -> Telling<'a>
+    ensures { result ≡ telling status message.entry }
 {
     telling_of(alloc, no_text(alloc), pieces_alone(message), status)
 }

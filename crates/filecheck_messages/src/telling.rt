@@ -69,22 +69,16 @@ impl<'a> Model for Telling<'a> {
     ghost invariant = { λ telling. IsIdle telling.pen };
 }
 
-/// An answer of texts.
-pub(crate) fn telling_of<'a>(
-    alloc: Global,
-    out: Text<'a>,
-    err: Text<'a>,
-    status: u8,
-) -> Result<Telling<'a>, NoMemory>
-    ensures { IfOk result (λ telling. telling ≡ answer_of out.entry err.entry status) }
+/// An answer of texts. It takes no memory.
+pub(crate) fn telling_of<'a>(alloc: Global, out: Text<'a>, err: Text<'a>, status: u8) -> Telling<'a>
+    ensures { result ≡ answer_of out.entry err.entry status }
 {
-    let pen = Pen::new(alloc)?;
-    Ok(Telling {
+    Telling {
         out,
         err,
         status,
-        pen,
-    })
+        pen: Pen::new(alloc),
+    }
 }
 
 /// Tells what stands behind pieces.

@@ -43,7 +43,7 @@ pub fn dump(alloc: Global, text: &[u8], marks: &[Mark], shown: &Shown) -> Result
     ensures { IfOk result (λ told. told ≡ dump text.now marks.now shown.now) }
 {
     let mut rows = Rows::new(alloc, text, marks, shown)?;
-    let mut pen = Pen::new(alloc)?;
+    let mut pen = Pen::new(alloc);
     let mut sink = Gathered::new(alloc);
     put_dump(&mut pen, &mut rows, &mut sink);
     match pen.finish(&mut sink) {

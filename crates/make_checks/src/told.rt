@@ -84,7 +84,7 @@ pub fn put_file<S: Sink>(pen: &mut Pen, file: &MadeFile, sink: &mut S)
 pub(crate) fn bytes_of(alloc: Global, file: &MadeFile) -> Result<Bytes, NoMemory>
     ensures { IfOk result (λ bytes. bytes ≡ file.now) }
 {
-    let mut pen = Pen::new(alloc)?;
+    let mut pen = Pen::new(alloc);
     let mut sink = Gathered::new(alloc);
     put_file(&mut pen, file, &mut sink);
     match pen.finish(&mut sink) {

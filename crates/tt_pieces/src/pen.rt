@@ -1,18 +1,14 @@
 //! What writes a message by way of a buffer.
-ghost use Rattle.std.specs.Prelude.{◌≡◌, [], true, IfOk, OnErr, OnOk, replicate};
+ghost use Rattle.std.specs.Prelude.{◌≡◌, [], true, OnErr, OnOk, replicate};
 ghost use Rattle.std.specs.Fmt.{decimal};
 ghost use Rattle.tt_pieces.specs.Telling.{Finishes, Flushes, IsIdle, Puts, Writes, seen, state, with_kept};
 
 use itoa::Buffer;
 use std::alloc::Global;
-use tt_base::NoMemory;
 use tt_outside::{Failed, Sink, write_all};
 
 /// How many bytes wait at most.
 const ROOM: usize = 65536;
-
-/// For how many there is room at first.
-const FIRST: usize = 512;
 
 /// A run of blanks.
 const BLANKS: &[u8] = b"                                                                ";
@@ -39,16 +35,13 @@ fn write_unless<S: Sink>(failed: bool, piece: &[u8], sink: &mut S) -> bool
 }
 
 impl Pen {
-    /// A pen with which nothing is told yet.
-    pub fn new(alloc: Global) -> Result<Pen, NoMemory>
-        ensures { IfOk result IsIdle }
+    /// A pen with which nothing is told yet. It takes no memory.
+    pub fn new(alloc: Global) -> Pen
+        ensures { IsIdle result }
     {
-        match Vec::with_capacity(alloc, FIRST) {
-            Ok(waiting) => Ok(Pen {
-                waiting,
-                failed: false,
-            }),
-            Err(_) => Err(NoMemory),
+        Pen {
+            waiting: Vec::new(alloc),
+            failed: false,
         }
     }
 

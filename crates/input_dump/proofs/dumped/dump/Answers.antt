@@ -6,6 +6,6 @@ use Rattle.input_dump.proofs.dumped.dump.Goals as goal
 
 pub returns-in-Ok : goal.returns-in-Ok
 returns-in-Ok c =
-    let told = told_by ghosts c.in_ok-pen.pen c.new-sink.result _ _ c.in_ok-pen.ensures c.put_dump.ensures in
+    let told = told_by ghosts c.new-pen.result c.new-sink.result _ _ c.new-pen.ensures c.put_dump.ensures in
     let ended = c.in-Ok.ensures.ends _ _ told in
     gathered_whole _ _ _ _ c.new-sink.ensures c.into_bytes.ensures ended.0 ∙ ap framed c.in_ok-rows.ensures
