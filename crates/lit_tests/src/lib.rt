@@ -1,10 +1,6 @@
-//! Tests of which tests there are: how they are found and kept, suites, and paths. Whole runs are rows of `rows/`.
+//! Tests of which tests there are: directories, suites, paths, what a test has, and trees that no system has. Whole runs are rows of `rows/`.
 #![tactic(auto)]
 
-#[cfg(test)]
-mod discoveries;
-#[cfg(test)]
-mod kept;
 #[cfg(test)]
 mod looks;
 #[cfg(test)]

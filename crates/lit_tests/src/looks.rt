@@ -1,11 +1,21 @@
 //! What a directory tells.
 use crate::rows::{Tells, are_bytes, each_is_told};
 use crate::trees::{refusal, tree_of};
-use lit_dirs::{list_dir, look_in};
+use lit_dirs::{DiscoverFault, list_dir, look_in};
 use lit_paths::read_path;
+use lit_suite::Suite;
 use std::alloc::Global;
 use tt_base::{Bytes, NoMemory};
 use tt_outside::MemTree;
+
+/// The name of a suite that was found, or the refusal.
+fn shown(alloc: Global, found: &Result<Option<Suite>, DiscoverFault>) -> Result<Bytes, NoMemory> {
+    match found {
+        Ok(Some(suite)) => Bytes::from_slice(alloc, suite.name.as_slice()),
+        Ok(None) => Bytes::from_slice(alloc, b"no suite".as_slice()),
+        Err(fault) => refusal(alloc, fault),
+    }
+}
 
 /// What a directory of a tree tells: the name of its suite, or the refusal.
 fn looked(alloc: Global, tree: &mut MemTree, dir: &str) -> Result<Bytes, NoMemory> {
@@ -15,11 +25,8 @@ fn looked(alloc: Global, tree: &mut MemTree, dir: &str) -> Result<Bytes, NoMemor
         Ok(None) => return Bytes::from_slice(alloc, b"file".as_slice()),
         Err(fault) => return refusal(alloc, &fault),
     };
-    match look_in(alloc, tree, dir.as_slice(), items.as_slice()) {
-        Ok(Some(suite)) => Ok(suite.name),
-        Ok(None) => Bytes::from_slice(alloc, b"no suite".as_slice()),
-        Err(fault) => refusal(alloc, &fault),
-    }
+    let found = look_in(alloc, tree, dir.as_slice(), items.as_slice());
+    shown(alloc, &found)
 }
 
 const FILES: &str = r#"/w/p/lit.suite.toml => version = 1~name = "demo"~suffixes = [".txt"]~

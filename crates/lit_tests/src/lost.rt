@@ -1,7 +1,8 @@
 //! A tree that loses what it listed, and tells nothing of what it holds.
 use crate::rows::{Tells, each_is_told, no_row};
 use crate::trees::refusal;
-use lit_find::discover;
+use lit_dirs::DiscoverFault;
+use lit_find::{Discovery, discover};
 use std::alloc::Global;
 use tt_base::{Bytes, Items, NoMemory};
 use tt_outside::{Counted, Item, ItemKind, Tree, TreeFault};
@@ -84,6 +85,14 @@ impl Tree for LosingTree {
     }
 }
 
+/// Whether tests were found, or the refusal.
+fn shown(alloc: Global, found: &Result<Discovery, DiscoverFault>) -> Result<Bytes, NoMemory> {
+    match found {
+        Ok(_) => Bytes::from_slice(alloc, b"tests".as_slice()),
+        Err(fault) => refusal(alloc, fault),
+    }
+}
+
 /// What is told of a discovery in a tree with such a loss.
 fn told(alloc: Global, name: &str, loss: Loss) -> Result<Bytes, NoMemory> {
     let mut words = Items::new(alloc);
@@ -92,10 +101,8 @@ fn told(alloc: Global, name: &str, loss: Loss) -> Result<Bytes, NoMemory> {
         name: Bytes::from_slice(alloc, name.as_bytes())?,
         loss,
     };
-    match discover(alloc, &mut tree, words.as_slice()) {
-        Ok(_) => Bytes::from_slice(alloc, b"tests".as_slice()),
-        Err(fault) => refusal(alloc, &fault),
-    }
+    let found = discover(alloc, &mut tree, words.as_slice());
+    shown(alloc, &found)
 }
 
 fn loss_of(word: &str) -> Loss {

@@ -1,5 +1,4 @@
-//! Rows of tests: a line each, with arrows between the fields. In a text `~` stands for a newline, and `^` for a byte that
-//! no text has.
+//! Rows of tests: a line each, with arrows between the fields. In a text `~` stands for a newline.
 use std::alloc::Global;
 use std::process::Abort;
 use tt_base::{Bytes, NoMemory};
@@ -40,22 +39,11 @@ pub(crate) fn no_row(alloc: Global) -> Result<Bytes, NoMemory> {
     Bytes::from_slice(alloc, b"no row")
 }
 
-/// The three fields of a row.
-pub(crate) fn three(row: &str) -> Option<(&str, &str, &str)> {
-    let (first, rest) = row.split_once(" => ")?;
-    let (second, third) = rest.split_once(" => ")?;
-    Some((first, second, third))
-}
-
 /// The bytes of a text.
 pub(crate) fn bytes_of(alloc: Global, field: &str) -> Result<Bytes, NoMemory> {
     let mut bytes = Bytes::with_capacity(alloc, field.len())?;
-    for byte in field.bytes() {
-        let byte = match byte {
-            b'~' => b'\n',
-            b'^' => 255,
-            _ => byte,
-        };
+    for byte in field.as_bytes() {
+        let byte = if *byte == b'~' { b'\n' } else { *byte };
         bytes.append(&[byte])?;
     }
     Ok(bytes)

@@ -1,6 +1,6 @@
 //! A tree with one directory of very many files, which tells nothing of what it holds.
 use lit_dirs::DiscoverFault;
-use lit_find::discover;
+use lit_find::{Discovery, discover};
 use std::alloc::Global;
 use tt_base::{Bytes, Items, NoMemory};
 use tt_outside::{Counted, Item, ItemKind, Tree, TreeFault};
@@ -33,11 +33,19 @@ fn name_of(alloc: Global, number: usize) -> Result<Bytes, NoMemory> {
     Ok(name)
 }
 
+/// A test of a number.
+fn test(alloc: Global, number: usize) -> Result<Item, NoMemory> {
+    Ok(Item {
+        name: name_of(alloc, number)?,
+        kind: ItemKind::File,
+    })
+}
+
 fn items_of(alloc: Global, tests: usize) -> Result<Items<Item>, NoMemory> {
     let mut items = Items::new(alloc);
     items.push(file(alloc, b"lit.suite.toml".as_slice())?)?;
     for number in 0..tests {
-        items.push(file(alloc, name_of(alloc, number)?.as_slice())?)?;
+        items.push(test(alloc, number)?)?;
     }
     Ok(items)
 }
@@ -84,48 +92,53 @@ impl Tree for WideTree {
     }
 }
 
-/// How a discovery ends in a tree of so many tests, where so many were counted.
-fn ended_grown(alloc: Global, counted: usize, tests: usize) -> Result<&'static str, NoMemory> {
-    let mut words = Items::new(alloc);
-    words.push(Bytes::from_slice(alloc, b"/w".as_slice())?)?;
-    let mut tree = WideTree { counted, tests };
-    match discover(alloc, &mut tree, words.as_slice()) {
-        Ok(found) => {
-            if found.len() == tests {
-                Ok("all")
-            } else {
-                Ok("some")
-            }
-        }
-        Err(DiscoverFault::TooMany) => Ok("too many tests"),
-        Err(DiscoverFault::TooManyItems) => Ok("too many files"),
-        Err(_) => Ok("another refusal"),
+/// How a discovery ended that has so many tests due.
+fn end_of(found: &Result<Discovery, DiscoverFault>, tests: usize) -> &'static str {
+    match found {
+        Ok(found) => { if found.len() == tests { "all" } else { "some" } }
+        Err(DiscoverFault::TooMany) => "too many tests",
+        Err(DiscoverFault::TooManyItems) => "too many files",
+        Err(_) => "another refusal",
     }
 }
 
-/// How a discovery in a tree of so many tests ends.
-fn ended(alloc: Global, tests: usize) -> Result<&'static str, NoMemory> {
-    ended_grown(alloc, tests, tests)
+/// The one word `/w`.
+fn words(alloc: Global) -> Result<Items<Bytes>, NoMemory> {
+    let mut words = Items::new(alloc);
+    words.push(Bytes::from_slice(alloc, b"/w".as_slice())?)?;
+    Ok(words)
+}
+
+/// Whether a discovery ends so in a tree of so many tests, where so many were counted.
+fn ends_grown(alloc: Global, counted: usize, tests: usize, due: &str) -> bool {
+    let Ok(words) = words(alloc) else {
+        return false;
+    };
+    let mut tree = WideTree { counted, tests };
+    let found = discover(alloc, &mut tree, words.as_slice());
+    end_of(&found, tests) == due
+}
+
+/// Whether a discovery in a tree of so many tests ends so.
+fn ends(alloc: Global, tests: usize, due: &str) -> bool {
+    ends_grown(alloc, tests, tests, due)
 }
 
 #[test]
-fn a_directory_may_have_more_than_when_it_was_counted(rt: HostRuntime) -> Result<(), NoMemory> {
-    assert!(rt; ended_grown(rt.alloc(), 2, 20)? == "all");
-    assert!(rt; ended_grown(rt.alloc(), 20, 2)? == "all");
-    Ok(())
+fn a_directory_may_have_more_than_when_it_was_counted(rt: HostRuntime) {
+    assert!(rt; ends_grown(rt.alloc(), 2, 20, "all"));
+    assert!(rt; ends_grown(rt.alloc(), 20, 2, "all"));
 }
 
 #[test]
-fn a_run_has_up_to_100000_tests(rt: HostRuntime) -> Result<(), NoMemory> {
-    assert!(rt; ended(rt.alloc(), 100_000)? == "all");
-    assert!(rt; ended(rt.alloc(), 100_001)? == "too many tests");
-    Ok(())
+fn a_run_has_up_to_100000_tests(rt: HostRuntime) {
+    assert!(rt; ends(rt.alloc(), 100_000, "all"));
+    assert!(rt; ends(rt.alloc(), 100_001, "too many tests"));
 }
 
 #[test]
-fn up_to_a_million_items_are_looked_at(rt: HostRuntime) -> Result<(), NoMemory> {
-    assert!(rt; ended(rt.alloc(), 999_999)? == "too many tests");
-    assert!(rt; ended(rt.alloc(), 1_000_000)? == "too many files");
-    assert!(rt; ended_grown(rt.alloc(), 2, 1_000_000)? == "too many files");
-    Ok(())
+fn up_to_a_million_items_are_looked_at(rt: HostRuntime) {
+    assert!(rt; ends(rt.alloc(), 999_999, "too many tests"));
+    assert!(rt; ends(rt.alloc(), 1_000_000, "too many files"));
+    assert!(rt; ends_grown(rt.alloc(), 2, 1_000_000, "too many files"));
 }
