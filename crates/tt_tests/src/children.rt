@@ -1,8 +1,10 @@
 //! Programs that a hand runs: how they are fed and drained, how they end, and what they leave.
+use crate::hired::reply_to;
 use crate::rows::three;
 use std::alloc::{AllocError, Global};
+use std::process::Abort;
 use tt_base::{Bytes, Items, NoMemory};
-use tt_outside::{Crew, Finish, Pair, Reply, Request, Runner, SharedBytes, Stream};
+use tt_outside::{Crew, Finish, Pair, Reply, Request, SharedBytes, Stream};
 use tt_real::StdCrew;
 
 /// A variable.
@@ -15,17 +17,30 @@ fn pair(alloc: Global) -> Result<Items<Pair>, NoMemory> {
     Ok(env)
 }
 
-/// A request to run a program: its words, with a comma and a blank between them. It runs in the root, with a variable more.
-fn spawn(alloc: Global, program: &str, input: &[u8], limit: u64) -> Result<Request, NoMemory> {
+/// The words of a program, with a comma and a blank between them.
+fn words_of(alloc: Global, program: &str) -> Result<Items<Bytes>, NoMemory> {
     let mut words = Items::new(alloc);
     for word in program.split(", ") {
         words.push(Bytes::from_slice(alloc, word.as_bytes())?)?;
     }
+    Ok(words)
+}
+
+/// The root, and an input.
+fn place(alloc: Global, input: &[u8]) -> Result<(Bytes, SharedBytes), NoMemory> {
+    let dir = Bytes::from_slice(alloc, b"/")?;
+    Ok((dir, SharedBytes::from_slice(alloc, input)?))
+}
+
+/// A request to run a program. It runs in the root, with a variable more.
+fn spawn(alloc: Global, program: &str, input: &[u8], limit: u64) -> Result<Request, NoMemory> {
+    let (dir, input) = place(alloc, input)?;
+    let env = pair(alloc)?;
     Ok(Request::Spawn {
-        words,
-        dir: Bytes::from_slice(alloc, b"/")?,
-        env: pair(alloc)?,
-        input: SharedBytes::from_slice(alloc, input)?,
+        words: words_of(alloc, program)?,
+        dir,
+        env,
+        input,
         limit,
     })
 }
@@ -65,40 +80,26 @@ fn in_words(alloc: Global, reply: &Reply) -> Result<String, AllocError> {
     format!(in alloc; "{word} {number} {out} {err}")
 }
 
-/// The reply of a hand that is hired for it alone, and dismissed.
-fn run_child<C: Crew>(
-    alloc: Global,
-    crew: &mut C,
-    program: &str,
-    input: &[u8],
-    limit: u64,
-) -> Result<Reply, NoMemory>
-    requires { C.ready crew.old }
-    ensures { C.ready crew.new }
-{
-    let request = spawn(alloc, program, input, limit)?;
-    let mut hand = crew.hire(alloc, 1)?;
-    hand.begin(0);
-    let reply = hand.ask(alloc, &[], &request);
-    crew.dismiss(hand);
-    reply
+/// Whether a text was made, and is this.
+fn is_text(told: Result<String, AllocError>, due: &str) -> Result<bool, NoMemory> {
+    match told {
+        Ok(told) => Ok(told.as_str() == due),
+        Err(AllocError) => Err(NoMemory),
+    }
 }
 
-/// Whether this is told of a program that is run.
-fn tells<C: Crew>(
+/// Whether this is told of a request.
+fn answers<C: Crew>(
     alloc: Global,
     crew: &mut C,
-    program: &str,
-    input: &[u8],
-    limit: u64,
+    request: &Request,
     due: &str,
 ) -> Result<bool, NoMemory>
     requires { C.ready crew.old }
     ensures { C.ready crew.new }
 {
-    let reply = run_child(alloc, crew, program, input, limit)?;
-    let told = in_words(alloc, &reply).or(Err(NoMemory))?;
-    Ok(told.as_str() == due)
+    let reply = reply_to(alloc, crew, 0, request)?;
+    is_text(in_words(alloc, &reply), due)
 }
 
 /// The four fields of a row, of which two are numbers.
@@ -106,6 +107,12 @@ fn fields(row: &str) -> Option<(&str, usize, u64, &str)> {
     let (program, length, rest) = three(row)?;
     let (limit, due) = rest.split_once(" => ")?;
     Some((program, length.parse().ok()?, limit.parse().ok()?, due))
+}
+
+/// The request of a program that is fed so many bytes.
+fn fed(alloc: Global, program: &str, length: usize, limit: u64) -> Result<Request, NoMemory> {
+    let input = Vec::from_elem(alloc, b'x', length).or(Err(NoMemory))?;
+    spawn(alloc, program, input.as_slice(), limit)
 }
 
 /// Whether the program of a row is told of so.
@@ -116,8 +123,32 @@ fn is_told<C: Crew>(alloc: Global, crew: &mut C, row: &str) -> Result<bool, NoMe
     let Some((program, length, limit, due)) = fields(row) else {
         return Ok(false);
     };
-    let input = Vec::from_elem(alloc, b'x', length).or(Err(NoMemory))?;
-    tells(alloc, crew, program, input.as_slice(), limit, due)
+    let request = fed(alloc, program, length, limit)?;
+    answers(alloc, crew, &request, due)
+}
+
+/// Sees that the programs of rows are told of so by the hands of a crew.
+fn each_is_told(
+    rt: &impl Abort,
+    alloc: Global,
+    crew: &mut StdCrew<HostRuntime>,
+    rows: &str,
+) -> Result<(), NoMemory> {
+    for row in rows.lines() {
+        assert!(rt; is_told(alloc, crew, row)?, "{row}");
+    }
+    Ok(())
+}
+
+/// The same of a crew of their own.
+fn all_are_told(
+    rt: &impl Abort,
+    alloc: Global,
+    crew: StdCrew<HostRuntime>,
+    rows: &str,
+) -> Result<(), NoMemory> {
+    let mut crew = crew;
+    each_is_told(rt, alloc, &mut crew, rows)
 }
 
 /// A program, the length of its input, the limit of its output, and its reply in words.
@@ -138,12 +169,7 @@ no-such-program => 0 => 10 => missing 0 0 0";
 
 #[test]
 fn children_are_fed_drained_and_waited_for(rt: HostRuntime) -> Result<(), NoMemory> {
-    let alloc = rt.alloc();
-    let mut crew = StdCrew::new(alloc, rt);
-    for row in FED.lines() {
-        assert!(rt; is_told(alloc, &mut crew, row)?, "{row}");
-    }
-    Ok(())
+    all_are_told(&rt, rt.alloc(), StdCrew::new(rt.alloc(), rt), FED)
 }
 
 const ENDS: &str = "true => 0 => 10 => code 0 0 0
@@ -153,12 +179,7 @@ sh, -c, kill -9 $$ => 0 => 10 => signal 9 0 0
 
 #[test]
 fn the_end_of_a_child_is_told(rt: HostRuntime) -> Result<(), NoMemory> {
-    let alloc = rt.alloc();
-    let mut crew = StdCrew::new(alloc, rt);
-    for row in ENDS.lines() {
-        assert!(rt; is_told(alloc, &mut crew, row)?, "{row}");
-    }
-    Ok(())
+    all_are_told(&rt, rt.alloc(), StdCrew::new(rt.alloc(), rt), ENDS)
 }
 
 /// A child that tells whether its parent has few descriptors and few children, once each that has ended was waited for.
@@ -166,10 +187,13 @@ const FEW_ARE_OPEN: &str = "sh, -c, \
 for i in $(seq 100); do \
 z=$(for c in $(cat /proc/$PPID/task/*/children); do grep 'State:.Z' /proc/$c/status; done 2> /dev/null); \
 test -z \"$z\" && break; sleep 0.1; done; \
-test -z \"$z\" -a $(ls /proc/$PPID/fd | wc -l) -lt 64 -a $(cat /proc/$PPID/task/*/children 2> /dev/null | wc -w) -lt 64";
+test -z \"$z\" -a $(ls /proc/$PPID/fd | wc -l) -lt 64 -a $(cat /proc/$PPID/task/*/children 2> /dev/null | wc -w) -lt 64 => 0 => 4096 => code 0 0 0";
 
 /// How many programs are started: more than the descriptors and the children that their parent may have then.
 const STARTS: u64 = 100;
+
+/// A program that is started.
+const STARTED: &str = "true => 1 => 10 => code 0 0 0";
 
 /// Programs that are ended since they write too much; the last one would go on, and has a child of its own.
 const ENDED: &str = "yes => 0 => 65536 => too much output 0 0 0
@@ -180,15 +204,11 @@ sh, -c, yes >&2 & sleep 99 => 0 => 65536 => too many errors 0 0 0";
 fn children_leave_no_descriptor_and_no_process(rt: HostRuntime) -> Result<(), NoMemory> {
     let alloc = rt.alloc();
     let mut crew = StdCrew::new(alloc, rt);
-    for start in 0..STARTS {
-        let is_fed = tells(alloc, &mut crew, "true", b"x", 10, "code 0 0 0")?;
-        assert!(rt; is_fed, "start {start}");
+    for _ in 0..STARTS {
+        each_is_told(&rt, alloc, &mut crew, STARTED)?;
     }
-    for row in ENDED.lines() {
-        assert!(rt; is_told(alloc, &mut crew, row)?, "{row}");
-    }
-    assert!(rt; tells(alloc, &mut crew, FEW_ARE_OPEN, b"", 4096, "code 0 0 0")?);
-    Ok(())
+    each_is_told(&rt, alloc, &mut crew, ENDED)?;
+    each_is_told(&rt, alloc, &mut crew, FEW_ARE_OPEN)
 }
 
 /// The same of inputs of 64 MiB.
@@ -197,10 +217,5 @@ cat => 67108864 => 67108863 => too much output 0 0 0";
 
 #[test]
 fn a_child_may_have_64_mebibytes_each_way(rt: HostRuntime) -> Result<(), NoMemory> {
-    let alloc = rt.alloc();
-    let mut crew = StdCrew::new(alloc, rt);
-    for row in LARGE.lines() {
-        assert!(rt; is_told(alloc, &mut crew, row)?, "{row}");
-    }
-    Ok(())
+    all_are_told(&rt, rt.alloc(), StdCrew::new(rt.alloc(), rt), LARGE)
 }

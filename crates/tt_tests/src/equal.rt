@@ -18,16 +18,29 @@ fn pairs(alloc: Global, name: &[u8], value: &[u8]) -> Result<Items<Pair>, NoMemo
     Ok(pairs)
 }
 
-/// A program that is started with this word and this input.
-fn spawned(alloc: Global, word: &[u8], input: &[u8]) -> Result<Request, NoMemory> {
+/// The words `llc` and this.
+fn words(alloc: Global, word: &[u8]) -> Result<Items<Bytes>, NoMemory> {
     let mut words = Items::new(alloc);
     words.push(text(alloc, b"llc")?)?;
     words.push(text(alloc, word)?)?;
+    Ok(words)
+}
+
+/// A directory, and an input.
+fn place(alloc: Global, input: &[u8]) -> Result<(Bytes, SharedBytes), NoMemory> {
+    let dir = text(alloc, b"/w")?;
+    Ok((dir, SharedBytes::from_slice(alloc, input)?))
+}
+
+/// A program that is started with this word and this input.
+fn spawned(alloc: Global, word: &[u8], input: &[u8]) -> Result<Request, NoMemory> {
+    let (dir, input) = place(alloc, input)?;
+    let env = pairs(alloc, b"LANG", b"C")?;
     Ok(Request::Spawn {
-        words,
-        dir: text(alloc, b"/w")?,
-        env: pairs(alloc, b"LANG", b"C")?,
-        input: SharedBytes::from_slice(alloc, input)?,
+        words: words(alloc, word)?,
+        dir,
+        env,
+        input,
         limit: 10,
     })
 }
@@ -46,18 +59,28 @@ fn asked(alloc: Global, line: &str) -> Result<Request, NoMemory> {
     }
 }
 
+/// Whether a line asks the same as a request.
+fn asks_the_same(alloc: Global, request: &Request, line: &str) -> Result<bool, NoMemory> {
+    let other = asked(alloc, line)?;
+    Ok(request.same(&other))
+}
+
 /// Whether two lines ask the same.
 fn ask_the_same(alloc: Global, one: &str, other: &str) -> Result<bool, NoMemory> {
     let one = asked(alloc, one)?;
-    let other = asked(alloc, other)?;
-    Ok(one.same(&other))
+    asks_the_same(alloc, &one, other)
+}
+
+/// Whether a copy of a request asks the same.
+fn is_copied(alloc: Global, request: &Request) -> Result<bool, NoMemory> {
+    let copy = request.copy(alloc)?;
+    Ok(request.same(&copy))
 }
 
 /// Whether a copy asks the same.
 fn copy_asks_the_same(alloc: Global, line: &str) -> Result<bool, NoMemory> {
     let asked = asked(alloc, line)?;
-    let copy = asked.copy(alloc)?;
-    Ok(asked.same(&copy))
+    is_copied(alloc, &asked)
 }
 
 #[test]
@@ -85,18 +108,28 @@ fn replied(alloc: Global) -> Result<Entry, NoMemory> {
 }
 
 /// Whether an entry and its copy are the same.
-fn copy_is_the_same(alloc: Global) -> Result<bool, NoMemory> {
-    let entry = replied(alloc)?;
+fn is_its_copy(alloc: Global, entry: &Entry) -> Result<bool, NoMemory> {
     let copy = entry.copy(alloc)?;
     Ok(entry.same(&copy))
 }
 
-/// Whether an entry and its copy are the same where the copy gets another reply.
+/// Whether it is the same with another reply.
+fn is_the_same_with_another(alloc: Global, entry: &Entry) -> Result<bool, NoMemory> {
+    let other = Entry {
+        request: entry.request.copy(alloc)?,
+        reply: Reply::TooLarge(Stream::Out),
+    };
+    Ok(entry.same(&other))
+}
+
+fn copy_is_the_same(alloc: Global) -> Result<bool, NoMemory> {
+    let entry = replied(alloc)?;
+    is_its_copy(alloc, &entry)
+}
+
 fn other_reply_is_the_same(alloc: Global) -> Result<bool, NoMemory> {
     let entry = replied(alloc)?;
-    let mut other = entry.copy(alloc)?;
-    other.reply = Reply::TooLarge(Stream::Out);
-    Ok(entry.same(&other))
+    is_the_same_with_another(alloc, &entry)
 }
 
 #[test]
@@ -106,13 +139,18 @@ fn entries_are_equal_in_request_and_reply(rt: HostRuntime) -> Result<(), NoMemor
     Ok(())
 }
 
+/// Whether one that holds `abc` is given it.
+fn is_given(alloc: Global, shared: SharedBytes) -> Result<bool, NoMemory> {
+    let bytes = shared.into_bytes(alloc)?;
+    Ok(bytes.as_slice() == b"abc".as_slice())
+}
+
 /// Whether each of two that hold bytes is given them, the second as the only one.
 fn are_given_to_both(alloc: Global) -> Result<bool, NoMemory> {
     let one = SharedBytes::from_slice(alloc, b"abc")?;
     let other = one.share()?;
-    let first = one.into_bytes(alloc)?;
-    let second = other.into_bytes(alloc)?;
-    Ok(first.as_slice() == b"abc".as_slice() && second.as_slice() == b"abc".as_slice())
+    let is_first = is_given(alloc, one)?;
+    Ok(is_given(alloc, other)? && is_first)
 }
 
 #[test]

@@ -11,6 +11,8 @@ mod equal;
 #[cfg(test)]
 mod folders;
 #[cfg(test)]
+mod hired;
+#[cfg(test)]
 mod options;
 #[cfg(test)]
 mod outside;

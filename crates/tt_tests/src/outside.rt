@@ -1,10 +1,11 @@
 //! The public calls on objects in memory, with ample memory.
+use crate::hired::reply_to;
 use crate::rows::limited;
 use std::alloc::Global;
 use tt_base::{Bytes, Items, NoMemory};
 use tt_outside::{
     Crew, Failed, Files, FilesFault, Left, MemCrew, MemFiles, MemSink, MemSource, Named, Planned,
-    Reply, Request, Runner, SharedBytes, Sink, Source, TakeFault, take_all, write_all,
+    Reply, Request, SharedBytes, Sink, Source, TakeFault, take_all, write_all,
 };
 
 /// What taking a text up to a limit gives: its bytes, or that they are too many.
@@ -182,11 +183,8 @@ fn answer_in<C: Crew>(
     requires { C.ready crew.old }
     ensures { C.ready crew.new }
 {
-    let mut hand = crew.hire(alloc, 1)?;
-    hand.begin(test);
-    let reply = hand.ask(alloc, &[], request);
-    crew.dismiss(hand);
-    Ok(name_of(&reply?))
+    let reply = reply_to(alloc, crew, test, request)?;
+    Ok(name_of(&reply))
 }
 
 fn name_of(reply: &Reply) -> &'static str {

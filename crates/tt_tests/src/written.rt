@@ -1,10 +1,11 @@
 //! Files and directories that a hand makes.
+use crate::hired::reply_to;
 use crate::paths::own_path;
 use crate::rows::three;
 use std::alloc::{AllocError, Global};
 use std::{fs, io, process};
-use tt_base::{Bytes, Items, NoMemory};
-use tt_outside::{Crew, Reply, Request, Runner, SharedBytes};
+use tt_base::{Bytes, NoMemory};
+use tt_outside::{Crew, Reply, Request, SharedBytes};
 use tt_real::StdCrew;
 
 /// What a row asks of a path below a folder.
@@ -43,11 +44,8 @@ fn answers<C: Crew>(
     requires { C.ready crew.old }
     ensures { C.ready crew.new }
 {
-    let mut hand = crew.hire(alloc, 1)?;
-    hand.begin(0);
-    let reply = hand.ask(alloc, &[], request);
-    crew.dismiss(hand);
-    Ok(shown(&reply?) == due.as_bytes())
+    let reply = reply_to(alloc, crew, 0, request)?;
+    Ok(shown(&reply) == due.as_bytes())
 }
 
 /// Whether what a row asks below a folder is answered so. What is written stands behind the name.
