@@ -77,19 +77,30 @@ fn asked_told(alloc: Global, asked: &Asked) -> Result<Bytes, NoMemory> {
     Ok(text)
 }
 
-/// What the words of a line ask for.
-fn told(alloc: Global, line: &str) -> Result<Bytes, NoMemory> {
-    let Ok(words) = words_of(alloc, line) else {
-        return Err(NoMemory);
-    };
-    match asked_by(alloc, words.as_slice()) {
-        Ok(Job::Check(asked)) => asked_told(alloc, &asked),
+/// What was asked for, or that words were refused.
+fn job_told(alloc: Global, job: &Result<Job, WordsFail>) -> Result<Bytes, NoMemory> {
+    match job {
+        Ok(Job::Check(asked)) => asked_told(alloc, asked),
         Ok(Job::Generate(3)) => Bytes::from_slice(alloc, b"three"),
         Ok(Job::Generate(20_000)) => Bytes::from_slice(alloc, b"most"),
         Ok(Job::Generate(_)) => Bytes::from_slice(alloc, b"some"),
-        Ok(Job::Make(making)) => making_told(alloc, &making),
+        Ok(Job::Make(making)) => making_told(alloc, making),
         Err(WordsFail::Bad(_)) => Bytes::from_slice(alloc, b"refused"),
         Err(WordsFail::NoMemory) => Err(NoMemory),
+    }
+}
+
+/// What words ask for.
+fn words_told(alloc: Global, words: &[String]) -> Result<Bytes, NoMemory> {
+    let job = asked_by(alloc, words);
+    job_told(alloc, &job)
+}
+
+/// What the words of a line ask for.
+fn told(alloc: Global, line: &str) -> Result<Bytes, NoMemory> {
+    match words_of(alloc, line) {
+        Ok(words) => words_told(alloc, words.as_slice()),
+        Err(_) => Err(NoMemory),
     }
 }
 

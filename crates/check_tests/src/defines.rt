@@ -50,19 +50,36 @@ fn formats_are_known_behind_a_bad_value(rt: HostRuntime) -> Result<(), NoMemory>
 
 /// The variables that these values start with, and places under these names. A refused value counts as want of memory.
 fn started(alloc: Global, line: &str, names: &str) -> Result<Vars, NoMemory> {
+    let names = list(alloc, names)?;
     let Defined { fresh, .. } = defined(alloc, line)?;
     match fresh {
-        Ok(bindings) => start_vars(alloc, list(alloc, names)?, bindings),
+        Ok(bindings) => start_vars(alloc, names, bindings),
         Err(_) => Err(NoMemory),
     }
 }
 
+/// What is amiss with these variables.
+fn amiss(vars: &Vars) -> &'static str {
+    if !vars.has_place(b"Z") || vars.has_place(b"Y") {
+        return "places";
+    }
+    if vars.number(b"N") != Some(3) {
+        return "number";
+    }
+    match vars.text(b"X") {
+        Some(text) if text.as_slice() == b"b".as_slice() => "nothing",
+        _ => "text",
+    }
+}
+
+fn amiss_of(alloc: Global) -> Result<&'static str, NoMemory> {
+    let vars = started(alloc, "X=a|#N=3|X=b", "N|Z")?;
+    Ok(amiss(&vars))
+}
+
 #[test]
 fn variables_start_with_what_is_defined(rt: HostRuntime) -> Result<(), NoMemory> {
-    let vars = started(rt.alloc(), "X=a|#N=3|X=b", "N|Z")?;
-    assert!(rt; vars.has_place(b"Z") && !vars.has_place(b"Y"), "places");
-    assert!(rt; vars.number(b"N") == Some(3), "number");
-    let text = vars.text(b"X").map(|text| text.as_slice());
-    assert!(rt; text == Some(b"b".as_slice()), "text");
+    let amiss = amiss_of(rt.alloc())?;
+    assert!(rt; amiss == "nothing", "{amiss}");
     Ok(())
 }

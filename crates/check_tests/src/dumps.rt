@@ -2,9 +2,10 @@
 //! the rows between the frame. Newlines stand as `/`.
 ghost use Rattle.std.specs.Prelude.{◌≡◌, ◌≤◌, All, IsTrue};
 
-use crate::fields::field_of;
+use crate::fields::{are_bytes, field_of};
 use input_dump::{HEAD, Mark, Shown, TAIL, dump};
 use std::alloc::Global;
+use std::slice;
 use tt_base::{Bytes, NoMemory};
 
 /// Marks, as `3X` for a sign at an offset, with the text `m` and the number of the mark.
@@ -45,6 +46,30 @@ fn are_within(marks: &[Mark], size: usize) -> bool
     marks.iter().all(|mark| mark.at <= size)
 }
 
+/// What is due between the frame.
+fn framed(alloc: Global, due: &str) -> Result<Bytes, NoMemory> {
+    let rows = field_of(alloc, due)?;
+    let mut whole = Bytes::from_slice(alloc, HEAD)?;
+    whole.append(rows.as_slice())?;
+    whole.append(TAIL)?;
+    Ok(whole)
+}
+
+/// Whether the dump of a text with marks has the rows that are due.
+fn is_dumped(
+    alloc: Global,
+    text: &[u8],
+    marks: &[Mark],
+    shown: &str,
+    due: &str,
+) -> Result<bool, NoMemory> {
+    if text.len() > 1000 || !are_within(marks, text.len()) {
+        return Ok(false);
+    }
+    let due = framed(alloc, due)?;
+    are_bytes(dump(alloc, text, marks, &shown_of(shown)), due.as_slice())
+}
+
 /// Whether a dump has the rows that are due.
 fn is_due(alloc: Global, row: &str) -> Result<bool, NoMemory> {
     let mut fields = row.split('~');
@@ -58,66 +83,67 @@ fn is_due(alloc: Global, row: &str) -> Result<bool, NoMemory> {
     };
     let text = field_of(alloc, text)?;
     let marks = marks_of(alloc, marks)?;
-    let (text, marks) = (text.as_slice(), marks.as_slice());
-    if text.len() > 1000 || !are_within(marks, text.len()) {
-        return Ok(false);
-    }
-    let told = dump(alloc, text, marks, &shown_of(shown))?;
-    let mut whole = Bytes::from_slice(alloc, HEAD)?;
-    whole.append(field_of(alloc, due)?.as_slice())?;
-    whole.append(TAIL)?;
-    Ok(told.as_slice() == whole.as_slice())
+    is_dumped(alloc, text.as_slice(), marks.as_slice(), shown, due)
 }
 
-const DUMPS: [&str; 18] = [
-    "bar/~0X~5~     1: bar/        X m0/",
-    "foo/~~all~     1: foo/",
-    "foo/~~5~   .../",
-    "~~all~",
-    "~~5~",
-    "~0X~5~     1: /        X m0/",
-    "~0X~all~     1: /        X m0/",
-    "a/~2X~0~   .../     2: /        X m0/",
-    "a/~2X~1~     1: a/     2: /        X m0/",
-    "a~1!~0~     1: a/         ! m0/",
-    "a/b/c~~all~     1: a/     2: b/     3: c/",
-    "a/b/c/d/e/f/g/~6!~1~   .../     3: c/     4: d/        ! m0/     5: e/   .../",
-    "a/b/c/d/e/f/g/~0! 12X~1~     1: a/        ! m0/     2: b/   .../     6: f/     7: g/        X m1/",
-    "a/b/c/d/e/f/g/~12X 0!~0~     1: a/        ! m1/   .../     7: g/        X m0/",
-    "abc~2X 0! 2!~0~     1: abc/        ! m1/          X m0/          ! m2/",
-    "abc//d~3X 4! 5!~0~     1: abc/           X m0/     2: /        ! m1/     3: d/        ! m2/",
-    "a/b/c~0X~18446744073709551615~     1: a/        X m0/     2: b/     3: c/",
-    "a//~~all~     1: a/     2: /",
-];
+const DUMPS: &str = "bar/~0X~5~     1: bar/        X m0/
+foo/~~all~     1: foo/
+foo/~~5~   .../
+~~all~
+~~5~
+~0X~5~     1: /        X m0/
+~0X~all~     1: /        X m0/
+a/~2X~0~   .../     2: /        X m0/
+a/~2X~1~     1: a/     2: /        X m0/
+a~1!~0~     1: a/         ! m0/
+a/b/c~~all~     1: a/     2: b/     3: c/
+a/b/c/d/e/f/g/~6!~1~   .../     3: c/     4: d/        ! m0/     5: e/   .../
+a/b/c/d/e/f/g/~0! 12X~1~     1: a/        ! m0/     2: b/   .../     6: f/     7: g/        X m1/
+a/b/c/d/e/f/g/~12X 0!~0~     1: a/        ! m1/   .../     7: g/        X m0/
+abc~2X 0! 2!~0~     1: abc/        ! m1/          X m0/          ! m2/
+abc//d~3X 4! 5!~0~     1: abc/           X m0/     2: /        ! m1/     3: d/        ! m2/
+a/b/c~0X~18446744073709551615~     1: a/        X m0/     2: b/     3: c/
+a//~~all~     1: a/     2: /";
 
 #[test]
 fn a_dump_shows_marked_lines_and_those_near(rt: HostRuntime) -> Result<(), NoMemory> {
-    for row in DUMPS {
+    for row in DUMPS.lines() {
         assert!(rt; is_due(rt.alloc(), row)?, "{row}");
     }
     Ok(())
 }
 
-/// The dump of so many lines, of which one has a mark.
-fn is_told_of(alloc: Global, lines: usize, marked: usize, due: &str) -> Result<bool, NoMemory> {
+/// So many lines.
+fn lines_of(alloc: Global, lines: usize) -> Result<Bytes, NoMemory> {
     let mut text = Bytes::new(alloc);
     for _ in 0..lines {
         text.append(b"a\n")?;
     }
-    let mark = Mark {
-        at: marked.saturating_sub(1).saturating_mul(2),
-        sign: b'X',
-        text: Bytes::from_slice(alloc, b"m")?,
-    };
+    Ok(text)
+}
+
+/// The dump of a text with a mark, and a line of context.
+fn told_of(alloc: Global, text: &[u8], mark: &Mark) -> Result<Bytes, NoMemory> {
     let shown = Shown {
         all: false,
         context: 1,
     };
     if text.len() > 10_000 || mark.at > text.len() {
-        return Ok(false);
+        return Ok(Bytes::new(alloc));
     }
-    let told = dump(alloc, text.as_slice(), &[mark], &shown)?;
-    Ok(told.as_slice() == field_of(alloc, due)?.as_slice())
+    dump(alloc, text, slice::from_ref(mark), &shown)
+}
+
+/// The dump of so many lines, of which one has a mark.
+fn is_told_of(alloc: Global, lines: usize, marked: usize, due: &str) -> Result<bool, NoMemory> {
+    let due = field_of(alloc, due)?;
+    let text = lines_of(alloc, lines)?;
+    let mark = Mark {
+        at: marked.saturating_sub(1).saturating_mul(2),
+        sign: b'X',
+        text: Bytes::from_slice(alloc, b"m")?,
+    };
+    are_bytes(told_of(alloc, text.as_slice(), &mark), due.as_slice())
 }
 
 #[test]

@@ -120,12 +120,18 @@ CHECK-NOTE: CHECK: a => 1 13 20 19 20
 RUN CHECK: a => 1 5 12 11 12
 x CHECK-COUNT-2: y => 1 3 18 17 18";
 
+/// The directives that were read; none of a text that was refused.
+fn directives_of(read: &Result<Items<Directive>, CheckFail>) -> &[Directive] {
+    match read {
+        Ok(directives) => directives.as_slice(),
+        Err(_) => &[],
+    }
+}
+
 /// The numbers of the one directive of a text.
 fn numbers_told(alloc: Global, text: &[u8]) -> Result<Bytes, NoMemory> {
-    match read(alloc, text) {
-        Ok(directives) => one_told(alloc, directives.as_slice()),
-        Err(_) => no_row(alloc),
-    }
+    let read = read(alloc, text);
+    one_told(alloc, directives_of(&read))
 }
 
 fn one_told(alloc: Global, directives: &[Directive]) -> Result<Bytes, NoMemory> {
@@ -167,15 +173,18 @@ CHECK{LITERAL}: {{a => Plain true
 CHECK-NEXT{ LITERAL }: a => Next true
 CHECK-COUNT-2{LITERAL}: [[ => Count(2) true";
 
-/// The kind of the second directive of a text, and whether it is literal.
-fn kind_of(alloc: Global, text: &[u8]) -> Result<String, AllocError> {
-    let Ok(directives) = read(alloc, text) else {
-        return String::from_str(alloc, "refused");
-    };
-    match directives.as_slice() {
+/// The kind of the second of two directives, and whether it is literal.
+fn second_told(alloc: Global, directives: &[Directive]) -> Result<String, AllocError> {
+    match directives {
         [_, Directive { kind, literal, .. }] => format!(in alloc; "{kind:?} {literal}"),
         _ => String::from_str(alloc, "not two directives"),
     }
+}
+
+/// The same of a text's.
+fn kind_of(alloc: Global, text: &[u8]) -> Result<String, AllocError> {
+    let read = read(alloc, text);
+    second_told(alloc, directives_of(&read))
 }
 
 /// The kind of a line behind a first directive.
@@ -232,14 +241,14 @@ fn kind_text(alloc: Global, kind: CheckKind) -> Result<String, AllocError> {
 
 /// Where and why a text is refused, or that it is read.
 fn refusal_of(alloc: Global, text: &[u8]) -> Result<String, AllocError> {
-    match read(alloc, text) {
-        Err(CheckFail::Bad(CheckFault { place, kind, .. })) => {
+    match read(alloc, text).err() {
+        Some(CheckFail::Bad(CheckFault { place, kind, .. })) => {
             let (line, col) = (place.line, place.col);
             let kind = kind_text(alloc, kind)?;
             format!(in alloc; "{line}:{col} {kind}")
         }
-        Err(CheckFail::NoMemory) => Err(AllocError),
-        Ok(_) => String::from_str(alloc, "read"),
+        Some(CheckFail::NoMemory) => Err(AllocError),
+        None => String::from_str(alloc, "read"),
     }
 }
 
@@ -371,28 +380,44 @@ fn repeated(alloc: Global, text: &str, count: usize) -> Result<Bytes, NoMemory> 
     Ok(all)
 }
 
+/// The size of a text, how many directives it has, and the lines of the first and the last.
+fn measured(alloc: Global, text: &Bytes) -> Result<(usize, (usize, u32, u32)), CheckFail> {
+    let directives = read(alloc, text.as_slice())?;
+    Ok((text.len(), lines_of(&directives)))
+}
+
+/// The same of a text that was made.
+fn measured_of(
+    alloc: Global,
+    made: Result<Bytes, NoMemory>,
+) -> Result<(usize, (usize, u32, u32)), CheckFail> {
+    let text = made?;
+    measured(alloc, &text)
+}
+
 #[test]
 fn a_hundred_thousand_directives_are_read(rt: HostRuntime) -> Result<(), CheckFail> {
-    let text = repeated(rt.alloc(), "CHECK: a\n", 100_000)?;
-    assert!(rt; text.len() == 900_000);
-    let directives = read(rt.alloc(), text.as_slice())?;
-    assert!(rt; lines_of(&directives) == (100_000, 1, 100_000));
+    let text = repeated(rt.alloc(), "CHECK: a\n", 100_000);
+    assert!(rt; measured_of(rt.alloc(), text)? == (900_000, (100_000, 1, 100_000)));
     Ok(())
+}
+
+/// So many letters.
+fn letters(alloc: Global, length: usize) -> Result<Bytes, NoMemory> {
+    let large = vec![in alloc; b'a'; length].or(Err(NoMemory))?;
+    Bytes::from_slice(alloc, large.as_slice())
 }
 
 /// A line of so many letters and a directive, in canonical form.
 fn long_line(alloc: Global, length: usize) -> Result<Bytes, NoMemory> {
-    let large = vec![in alloc; b'a'; length].or(Err(NoMemory))?;
-    let mut text = Bytes::from_slice(alloc, large.as_slice())?;
+    let mut text = letters(alloc, length)?;
     text.append(b" CHECK: b")?;
     canon(alloc, text.as_slice(), false)
 }
 
 #[test]
 fn a_line_of_a_mebibyte_is_read(rt: HostRuntime) -> Result<(), CheckFail> {
-    let text = long_line(rt.alloc(), 1 << 20)?;
-    assert!(rt; text.len() == (1 << 20) + 9);
-    let directives = read(rt.alloc(), text.as_slice())?;
-    assert!(rt; lines_of(&directives) == (1, 1, 1));
+    let text = long_line(rt.alloc(), 1 << 20);
+    assert!(rt; measured_of(rt.alloc(), text)? == ((1 << 20) + 9, (1, 1, 1)));
     Ok(())
 }

@@ -1,6 +1,6 @@
 //! Check files that are made from outputs. A row is a line with fields between `~`: an old check file, an output, a lead, and the check file
 //! that is due, or `bad lead`, `line N` or `large`.
-use crate::fields::{are_bytes, field_of};
+use crate::fields::{are_bytes, field_of, in_bytes};
 use make_checks::{
     MadeFile, MakeFail, MakeFault, make_checks, make_file, put_file, refresh, refresh_file,
 };
@@ -33,12 +33,7 @@ fn told_of(alloc: Global, made: Result<Bytes, MakeFail>) -> Result<Bytes, NoMemo
         Ok(bytes) => Ok(bytes),
         Err(MakeFail::Bad(MakeFault::BadLead)) => Bytes::from_slice(alloc, b"bad lead"),
         Err(MakeFail::Bad(MakeFault::LineTooLong(number))) => {
-            let mut told = Bytes::from_slice(alloc, b"line ")?;
-            let Ok(digits) = number.to_string(alloc) else {
-                return Err(NoMemory);
-            };
-            told.append(digits.as_bytes())?;
-            Ok(told)
+            in_bytes(alloc, format!(in alloc; "line {number}"))
         }
         Err(MakeFail::Bad(MakeFault::TooLarge)) => Bytes::from_slice(alloc, b"large"),
         Err(MakeFail::NoMemory) => Err(NoMemory),
@@ -93,36 +88,35 @@ fn is_due(alloc: Global, row: &str) -> Result<bool, NoMemory> {
     )
 }
 
-const MADE: [&str; 24] = [
-    "~a [x]//b/~~CHECK-NOT: {{.|[[:space:]]}}/CHECK: {{^}}a {{\\[}}x]{{$}}/CHECK-EMPTY:/CHECK-NEXT: {{^}}b{{$}}/CHECK-NOT: {{.}}/",
-    "~~~CHECK-NOT: {{.}}/",
-    "~//%//~; ~; CHECK-NOT: {{.}}/",
-    "~  ~~CHECK-NOT: {{.|[[:space:]]}}/CHECK: {{^}} {{$}}/CHECK-NOT: {{.}}/",
-    "~k~; ~; CHECK-NOT: {{.|[[:space:]]}}/; CHECK: {{^}}k{{$}}/; CHECK-NOT: {{.}}/",
-    "~a  b%/~~CHECK-NOT: {{.|[[:space:]]}}/CHECK: {{^}}a b{{$}}/CHECK-NOT: {{.}}/",
-    "~a%~~CHECK-NOT: {{.|[[:space:]]}}/CHECK: {{^}}a%{{$}}/CHECK-NOT: {{.}}/",
-    "~/a~~CHECK-NOT: {{.|[[:space:]]}}/CHECK: {{^}}{{$}}/CHECK-NEXT: {{^}}a{{$}}/CHECK-NOT: {{.}}/",
-    "~{{[[~~CHECK-NOT: {{.|[[:space:]]}}/CHECK: {{^}}{{[{]}}{{[{]}}{{\\[}}{{\\[}}{{$}}/CHECK-NOT: {{.}}/",
-    "~a}}]]\\~~CHECK-NOT: {{.|[[:space:]]}}/CHECK: {{^}}a}}]]\\{{$}}/CHECK-NOT: {{.}}/",
-    "~k~a~bad lead",
-    "~k~Z ~bad lead",
-    "~k~9~bad lead",
-    "~k~-- ~bad lead",
-    "~k~_~bad lead",
-    "~k~;/~bad lead",
-    "~k~;%~bad lead",
-    "; RUN: p/; CHECK: z/~k~; ~; RUN: p/; CHECK-NOT: {{.|[[:space:]]}}/; CHECK: {{^}}k{{$}}/; CHECK-NOT: {{.}}/",
-    "//a%/CHECK-NEXT: b/c~~~//a%/c/CHECK-NOT: {{.}}/",
-    "COM: CHECK: x/CHECK-COUNT-0: a/CHECK-NOTE: b/MYCHECK: c/CHECK:/~~~COM: CHECK: x/CHECK-NOTE: b/MYCHECK: c/CHECK-NOT: {{.}}/",
-    "CHECK{  LITERAL   }: x/~~~CHECK-NOT: {{.}}/",
-    "/~~~/CHECK-NOT: {{.}}/",
-    "a%/CHECK: b%~~~a%/CHECK-NOT: {{.}}/",
-    "CHECK-NOTE%~~~CHECK-NOTE%/CHECK-NOT: {{.}}/",
-];
+const MADE: &str =
+    "~a [x]//b/~~CHECK-NOT: {{.|[[:space:]]}}/CHECK: {{^}}a {{\\[}}x]{{$}}/CHECK-EMPTY:/CHECK-NEXT: {{^}}b{{$}}/CHECK-NOT: {{.}}/
+~~~CHECK-NOT: {{.}}/
+~//%//~; ~; CHECK-NOT: {{.}}/
+~  ~~CHECK-NOT: {{.|[[:space:]]}}/CHECK: {{^}} {{$}}/CHECK-NOT: {{.}}/
+~k~; ~; CHECK-NOT: {{.|[[:space:]]}}/; CHECK: {{^}}k{{$}}/; CHECK-NOT: {{.}}/
+~a  b%/~~CHECK-NOT: {{.|[[:space:]]}}/CHECK: {{^}}a b{{$}}/CHECK-NOT: {{.}}/
+~a%~~CHECK-NOT: {{.|[[:space:]]}}/CHECK: {{^}}a%{{$}}/CHECK-NOT: {{.}}/
+~/a~~CHECK-NOT: {{.|[[:space:]]}}/CHECK: {{^}}{{$}}/CHECK-NEXT: {{^}}a{{$}}/CHECK-NOT: {{.}}/
+~{{[[~~CHECK-NOT: {{.|[[:space:]]}}/CHECK: {{^}}{{[{]}}{{[{]}}{{\\[}}{{\\[}}{{$}}/CHECK-NOT: {{.}}/
+~a}}]]\\~~CHECK-NOT: {{.|[[:space:]]}}/CHECK: {{^}}a}}]]\\{{$}}/CHECK-NOT: {{.}}/
+~k~a~bad lead
+~k~Z ~bad lead
+~k~9~bad lead
+~k~-- ~bad lead
+~k~_~bad lead
+~k~;/~bad lead
+~k~;%~bad lead
+; RUN: p/; CHECK: z/~k~; ~; RUN: p/; CHECK-NOT: {{.|[[:space:]]}}/; CHECK: {{^}}k{{$}}/; CHECK-NOT: {{.}}/
+//a%/CHECK-NEXT: b/c~~~//a%/c/CHECK-NOT: {{.}}/
+COM: CHECK: x/CHECK-COUNT-0: a/CHECK-NOTE: b/MYCHECK: c/CHECK:/~~~COM: CHECK: x/CHECK-NOTE: b/MYCHECK: c/CHECK-NOT: {{.}}/
+CHECK{  LITERAL   }: x/~~~CHECK-NOT: {{.}}/
+/~~~/CHECK-NOT: {{.}}/
+a%/CHECK: b%~~~a%/CHECK-NOT: {{.}}/
+CHECK-NOTE%~~~CHECK-NOTE%/CHECK-NOT: {{.}}/";
 
 #[test]
 fn check_files_are_made_from_outputs(rt: HostRuntime) -> Result<(), NoMemory> {
-    for row in MADE {
+    for row in MADE.lines() {
         assert!(rt; is_due(rt.alloc(), row)?, "{row}");
     }
     Ok(())

@@ -246,6 +246,18 @@ fn shown(
     Ok(all)
 }
 
+/// The same of what came of it.
+fn verdict_told(
+    alloc: Global,
+    names: &[Bytes],
+    verdict: &Result<(Verdict, Vars), NoMemory>,
+) -> Result<Bytes, NoMemory> {
+    match verdict {
+        Ok((verdict, vars)) => shown(alloc, names, verdict, vars),
+        Err(NoMemory) => Err(NoMemory),
+    }
+}
+
 /// Where a program is refused, in words.
 fn refusal(alloc: Global, directive: usize, at: usize) -> Result<Bytes, NoMemory> {
     in_bytes(alloc, format!(in alloc; "{directive} refused at {at}"))
@@ -262,8 +274,8 @@ fn program_told(
     requires { IsScannable program }
 {
     let names = copied(alloc, program.names.as_slice())?;
-    let (verdict, vars) = verdict_of(alloc, program, options.contains('s'), defined, input)?;
-    shown(alloc, names.as_slice(), &verdict, &vars)
+    let verdict = verdict_of(alloc, program, options.contains('s'), defined, input);
+    verdict_told(alloc, names.as_slice(), &verdict)
 }
 
 /// What is told of the fields of a row.

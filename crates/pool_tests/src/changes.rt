@@ -48,16 +48,26 @@ fn joined(alloc: Global, status: u8, err: &MemSink, out: &MemSink) -> Result<Byt
     Ok(told)
 }
 
-/// What is told of a run on these words, behind its status, where a call of the files fails and `out` has so much room.
+/// What is told of a run on these words and files, behind its status, where `out` has so much room.
+fn told_by(
+    alloc: Global,
+    words: &[String],
+    files: &mut MemFiles,
+    room: usize,
+) -> Result<Bytes, NoMemory> {
+    let mut out = MemSink::new(alloc, room)?;
+    let mut err = MemSink::new(alloc, 1000)?;
+    let status = changes_run(alloc, words, files, &mut out, &mut err);
+    joined(alloc, status, &err, &out)
+}
+
+/// The same of a line of words, where a call of the files fails.
 fn told_of(alloc: Global, line: &str, call: u64, room: usize) -> Result<Bytes, NoMemory> {
     let Ok(words) = words_of(alloc, line) else {
         return Err(NoMemory);
     };
     let mut files = files_of(alloc, call)?;
-    let mut out = MemSink::new(alloc, room)?;
-    let mut err = MemSink::new(alloc, 1000)?;
-    let status = changes_run(alloc, words.as_slice(), &mut files, &mut out, &mut err);
-    joined(alloc, status, &err, &out)
+    told_by(alloc, words.as_slice(), &mut files, room)
 }
 
 /// Words, the call of the files that fails, the room of `out`, and the status with what is told; `/` ends a line.

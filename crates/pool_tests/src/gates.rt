@@ -2,10 +2,10 @@
 //! thread runs them all, and where each worker has tests of its own, some test waits in vain for one behind it.
 use crate::demo::{Demo, demo_of};
 use crate::desks::Noted;
-use crate::rows::add_number;
+use crate::rows::{add_number, are_bytes};
 use crate::shown::end_text;
 use lit_pool::run_all;
-use lit_test::{Outcome, run_test};
+use lit_test::{Outcome, Trial, run_test};
 use std::alloc::Global;
 use std::sync::Wait;
 use std::thread::Threads;
@@ -70,20 +70,24 @@ fn told<R: Threads + Wait + Sync>(
 #[test]
 fn two_workers_take_tests_as_they_come(rt: HostRuntime) -> Result<(), NoMemory> {
     for held in [0, 1, 2] {
-        let told = told(&rt, rt.alloc(), 2, held, TURNS)?;
-        assert!(rt;
-            told.as_slice() == b"0 PASS, 1 PASS, 2 PASS, ".as_slice(),
-            "{held}"
-        );
+        let told = told(&rt, rt.alloc(), 2, held, TURNS);
+        assert!(rt; are_bytes(told, b"0 PASS, 1 PASS, 2 PASS, ")?, "{held}");
     }
     Ok(())
 }
 
 #[test]
 fn one_worker_waits_in_vain_for_the_tests_behind(rt: HostRuntime) -> Result<(), NoMemory> {
-    let told = told(&rt, rt.alloc(), 1, 0, 1000)?;
-    assert!(rt; told.as_slice() == b"0 UNRESOLVED, 1 PASS, 2 PASS, ".as_slice());
+    let told = told(&rt, rt.alloc(), 1, 0, 1000);
+    assert!(rt; are_bytes(told, b"0 UNRESOLVED, 1 PASS, 2 PASS, ")?);
     Ok(())
+}
+
+fn result(trial: &Result<Trial, NoMemory>) -> Result<Outcome, NoMemory> {
+    match trial {
+        Ok(trial) => Ok(trial.result),
+        Err(NoMemory) => Err(NoMemory),
+    }
 }
 
 /// The result of a test that a hand runs which is hired for it alone.
@@ -96,7 +100,7 @@ fn result_of(
     let mut hand = crew.hire(alloc, 1)?;
     let trial = run_test(alloc, number, test, &mut hand);
     drop(hand);
-    Ok(trial?.result)
+    result(&trial)
 }
 
 /// What comes of tests that are run one behind the other, in this order.
@@ -135,7 +139,7 @@ fn told_in_order(alloc: Global, order: [usize; 3]) -> Result<Bytes, NoMemory> {
 fn fixed_shares_wait_in_vain_for_a_test_of_the_same_worker(
     rt: HostRuntime,
 ) -> Result<(), NoMemory> {
-    let told = told_in_order(rt.alloc(), [1, 0, 2])?;
-    assert!(rt; told.as_slice() == b"1 PASS, 0 UNRESOLVED, 2 PASS, ".as_slice());
+    let told = told_in_order(rt.alloc(), [1, 0, 2]);
+    assert!(rt; are_bytes(told, b"1 PASS, 0 UNRESOLVED, 2 PASS, ")?);
     Ok(())
 }

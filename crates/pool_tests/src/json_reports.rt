@@ -90,15 +90,26 @@ fn fault_text(alloc: Global, fault: ReportFault) -> Result<Bytes, NoMemory> {
     Ok(text)
 }
 
+/// What was read, as a row has it.
+fn told_of(alloc: Global, read: &Result<Items<Line>, ReportFail>) -> Result<Bytes, NoMemory> {
+    match read {
+        Ok(lines) => lines_text(alloc, lines.as_slice()),
+        Err(ReportFail::Bad(fault)) => fault_text(alloc, *fault),
+        Err(ReportFail::NoMemory) => Err(NoMemory),
+    }
+}
+
+/// What reading bytes comes to, as a row has it.
+fn read_told(alloc: Global, bytes: &[u8]) -> Result<Bytes, NoMemory> {
+    let read = read_report(alloc, bytes);
+    told_of(alloc, &read)
+}
+
 /// What reading a text comes to, as a row has it.
 fn read_text(alloc: Global, text: &str) -> Result<Bytes, NoMemory> {
-    let Ok(text) = text.replace(alloc, "/", "\n") else {
-        return Err(NoMemory);
-    };
-    match read_report(alloc, text.as_bytes()) {
-        Ok(lines) => lines_text(alloc, lines.as_slice()),
-        Err(ReportFail::Bad(fault)) => fault_text(alloc, fault),
-        Err(ReportFail::NoMemory) => Err(NoMemory),
+    match text.replace(alloc, "/", "\n") {
+        Ok(text) => read_told(alloc, text.as_bytes()),
+        Err(_) => Err(NoMemory),
     }
 }
 
@@ -197,10 +208,10 @@ fn changes_are_the_paths_whose_results_differ_in_byte_order(
 }
 
 fn is_no_json(alloc: Global, bytes: &[u8]) -> bool {
-    match read_report(alloc, bytes) {
-        Err(ReportFail::Bad(ReportFault::NotJson)) => true,
-        _ => false,
-    }
+    matches!(
+        read_report(alloc, bytes).err(),
+        Some(ReportFail::Bad(ReportFault::NotJson))
+    )
 }
 
 #[test]

@@ -1,6 +1,6 @@
 //! Tests that are run by several workers.
 use crate::demo::{Demo, demo_of};
-use crate::rows::{add, add_number, are_both};
+use crate::rows::{add, add_number, are_both, are_bytes};
 use crate::shown::end_text;
 use lit_desk::LitDesk;
 use lit_pool::run_all;
@@ -58,6 +58,12 @@ fn add_asked(out: &mut Bytes, hands: &[Left]) -> Result<(), NoMemory> {
     add_count(out, asked)
 }
 
+/// Writes the header of so many tests. What can't be written counts as want of memory.
+pub(crate) fn write_header(alloc: Global, out: &mut MemSink, tests: u64) -> Result<(), NoMemory> {
+    let text = header(alloc, Detail::Plain, tests)?;
+    write_all(out, text.as_slice()).or(Err(NoMemory))
+}
+
 /// Runs tests by so many workers, on lit's desk behind the header, and tells the trials or the stop.
 fn ran<R: Threads + Wait + Sync>(
     rt: &R,
@@ -68,10 +74,10 @@ fn ran<R: Threads + Wait + Sync>(
     out: &mut MemSink,
 ) -> Result<Bytes, NoMemory> {
     let count = tests.len() as u64;
-    let text = header(alloc, Detail::Plain, count)?;
-    if write_all(out, text.as_slice()).is_err() || workers == 0 || workers > 64 || count > 1000 {
+    if workers == 0 || workers > 64 || count > 1000 {
         return Err(NoMemory);
     }
+    write_header(alloc, out, count)?;
     let mut desk = LitDesk {
         out,
         detail: Detail::Plain,
@@ -118,6 +124,14 @@ fn told_of<R: Threads + Wait + Sync>(
     told
 }
 
+/// A text, and behind a newline what a sink holds.
+pub(crate) fn with_held(told: Result<Bytes, NoMemory>, held: &[u8]) -> Result<Bytes, NoMemory> {
+    let mut told = told?;
+    told.append(b"\n")?;
+    told.append(held)?;
+    Ok(told)
+}
+
 /// The same of the tests of a line, and what a sink holds then that takes so many bytes.
 fn told<R: Threads + Wait + Sync>(
     rt: &R,
@@ -126,11 +140,10 @@ fn told<R: Threads + Wait + Sync>(
     capacity: usize,
     line: &str,
 ) -> Result<Bytes, NoMemory> {
+    let demo = demo_of(alloc, line)?;
     let mut out = MemSink::new(alloc, capacity)?;
-    let mut told = told_of(rt, alloc, workers, demo_of(alloc, line)?, &mut out)?;
-    told.append(b"\n")?;
-    told.append(out.as_slice())?;
-    Ok(told)
+    let told = told_of(rt, alloc, workers, demo, &mut out);
+    with_held(told, out.as_slice())
 }
 
 /// Tests, each with the code of its program, and what comes of them.
@@ -168,12 +181,21 @@ fn equal_tests(alloc: Global, count: usize) -> Result<Bytes, NoMemory> {
     Ok(line)
 }
 
+/// What comes of 300 tests, where the sink has room for the header.
+fn told_of_300<R: Threads + Wait + Sync>(rt: &R, alloc: Global) -> Result<Bytes, NoMemory> {
+    let line = equal_tests(alloc, 300)?;
+    told(
+        rt,
+        alloc,
+        2,
+        25,
+        str::from_utf8(line.as_slice()).unwrap_or(""),
+    )
+}
+
 #[test]
 fn a_round_of_256_tests_is_run_before_the_first_is_put(rt: HostRuntime) -> Result<(), NoMemory> {
-    let line = equal_tests(rt.alloc(), 300)?;
-    let line = str::from_utf8(line.as_slice()).unwrap_or("");
-    let told = told(&rt, rt.alloc(), 2, 25, line)?;
     let due = b"a fault at 0 PASS, begun 256, each once, asked 768\n-- Testing: 300 tests --\n";
-    assert!(rt; told.as_slice() == due.as_slice());
+    assert!(rt; are_bytes(told_of_300(&rt, rt.alloc()), due)?);
     Ok(())
 }

@@ -1,4 +1,5 @@
 //! What a report says of the results of tests, and what a desk writes of it.
+use crate::pools::write_header;
 use crate::rows::{are_both, both, three};
 use lit_desk::{DeskStop, LitDesk, MAX_KEPT};
 use lit_report::{Reported, end_of, header, part_of, status_of};
@@ -6,7 +7,7 @@ use lit_words::Detail;
 use std::alloc::Global;
 use test_outcome::Outcome;
 use tt_base::{Bytes, Items, NoMemory};
-use tt_outside::{MemSink, write_all};
+use tt_outside::MemSink;
 
 /// A test that was run.
 #[derive(Drop)]
@@ -140,45 +141,41 @@ fn a_report_tells_each_test_and_their_numbers(rt: HostRuntime) -> Result<(), NoM
     Ok(())
 }
 
-/// What a desk answers to the test of a field, the first of five, behind the header and with so many bytes kept, and what its
-/// sink holds then.
-fn put(
-    alloc: Global,
-    capacity: usize,
-    before: u64,
-    field: &str,
-) -> Result<(&'static str, Bytes), NoMemory> {
-    let mut out = MemSink::new(alloc, capacity)?;
-    let text = header(alloc, Detail::Plain, 5)?;
-    let answer = match (write_all(&mut out, text.as_slice()), test_of(alloc, field)?) {
-        (Ok(()), Some(test)) => {
-            let mut desk = LitDesk {
-                out: &mut out,
-                detail: Detail::Plain,
-                tests: 5,
-                kept: before,
-            };
-            match desk.put(alloc, 0, 7, &test) {
-                Ok(()) => "taken",
-                Err(DeskStop::SinkFault) => "fault",
-                Err(DeskStop::TooMuch) => "too much",
-                Err(DeskStop::NoMemory) => return Err(NoMemory),
-            }
-        }
-        _ => "nothing",
+/// What a desk answers to the first of five tests, with so many bytes kept.
+fn put(alloc: Global, before: u64, out: &mut MemSink, test: &Ended) -> &'static str {
+    let mut desk = LitDesk {
+        out,
+        detail: Detail::Plain,
+        tests: 5,
+        kept: before,
     };
-    Ok((answer, out.into_bytes()))
+    match desk.put(alloc, 0, 7, test) {
+        Ok(()) => "taken",
+        Err(DeskStop::SinkFault) => "fault",
+        Err(DeskStop::TooMuch) => "too much",
+        Err(DeskStop::NoMemory) => "no memory",
+    }
 }
 
-/// Whether a desk answers so, and its sink then holds this.
+/// The same of the test `a.txt`, which passed.
+fn put_passed(alloc: Global, before: u64, out: &mut MemSink) -> Result<&'static str, NoMemory> {
+    match test_of(alloc, "PASS a.txt")? {
+        Some(test) => Ok(put(alloc, before, out, &test)),
+        None => Ok("nothing"),
+    }
+}
+
+/// Whether a desk answers so behind the header, and its sink of so many bytes then holds this.
 fn is_put(
     alloc: Global,
     capacity: usize,
     before: u64,
     due: (&str, &str),
 ) -> Result<bool, NoMemory> {
-    let (answer, held) = put(alloc, capacity, before, "PASS a.txt")?;
-    Ok(answer == due.0 && held.as_slice() == due.1.as_bytes())
+    let mut out = MemSink::new(alloc, capacity)?;
+    write_header(alloc, &mut out, 5)?;
+    let answer = put_passed(alloc, before, &mut out)?;
+    Ok(answer == due.0 && out.as_slice() == due.1.as_bytes())
 }
 
 #[test]

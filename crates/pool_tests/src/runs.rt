@@ -1,16 +1,16 @@
 //! Tests that are run by one hand.
 use crate::demo::{Demo, demo_of};
 use crate::desks::Noted;
+use crate::pools::{with_held, write_header};
 use crate::rows::{add_number, are_both, three};
 use crate::shown::{add_left, add_status, end_text};
 use lit_desk::{LitDesk, MAX_KEPT};
 use lit_pool::{Desk, PoolStop, run_serial};
-use lit_report::header;
 use lit_test::Trial;
 use lit_words::Detail;
 use std::alloc::Global;
 use tt_base::{Bytes, Items, NoMemory};
-use tt_outside::{Crew, MemCrew, MemSink, Test, write_all};
+use tt_outside::{Crew, MemCrew, MemSink, Test};
 
 /// The trials that were put, and the status of a run that wasn't stopped.
 fn status_text(alloc: Global, end: &Result<Items<Trial>, PoolStop>) -> Result<Bytes, NoMemory> {
@@ -69,20 +69,15 @@ fn told<D: Desk>(alloc: Global, line: &str, desk: &mut D) -> Result<Bytes, NoMem
 fn told_on_desk(alloc: Global, capacity: usize, left: u64, line: &str) -> Result<Bytes, NoMemory> {
     let mut out = MemSink::new(alloc, capacity)?;
     let tests = line.split("; ").count() as u64;
-    let text = header(alloc, Detail::Plain, tests)?;
-    if write_all(&mut out, text.as_slice()).is_err() {
-        return Err(NoMemory);
-    }
+    write_header(alloc, &mut out, tests)?;
     let mut desk = LitDesk {
         out: &mut out,
         detail: Detail::Plain,
         tests,
         kept: MAX_KEPT.saturating_sub(left),
     };
-    let mut told = told(alloc, line, &mut desk)?;
-    told.append(b"\n")?;
-    told.append(out.as_slice())?;
-    Ok(told)
+    let told = told(alloc, line, &mut desk);
+    with_held(told, out.as_slice())
 }
 
 /// Whether the tests of a row come to what stands behind its last arrow, where so many bytes are taken and may be kept.

@@ -232,6 +232,7 @@ fn a_report_is_written_as_far_as_there_is_room(rt: HostRuntime) -> Result<(), No
 /// The call of the tree that fails, and how much room `out` has; words; and the status, the number of hands, that of their requests,
 /// and what is told, errors first.
 const FAULTS: &str = "0 4096 => --show-tests demo => 3 0 0 lit: error: cannot read the tree~
+1 4096 => --show-tests demo => 3 0 0 lit: error: cannot read the tree~
 0 4096 => demo => 3 0 0 lit: error: cannot read the tree~
 - 5 => --show-tests demo => 3 0 0 lit: error: cannot write~-- Av
 - 5 => demo => 3 0 0 lit: error: cannot write~-- Te

@@ -99,27 +99,51 @@ fn played<'a>(
     run_attempts(alloc, lines, test, retries, entries, 0, &mut hand)
 }
 
-fn shown(
-    alloc: Global,
-    what: Part,
-    lines: &[Line],
-    words: &str,
-    retries: u32,
-) -> Result<Bytes, NoMemory> {
-    let test = test_at_w(alloc)?;
-    let mut entries = Items::new(alloc);
-    let done = played(alloc, lines, &test, words, retries, &mut entries)?;
-    match what {
-        Part::Asked => asked(alloc, entries.as_slice()),
-        Part::Told => told(alloc, &done),
-    }
-}
-
 /// What is shown of lines and replies, where lines may be played again so often.
 #[derive(Drop)]
 struct Plays {
     what: Part,
     retries: u32,
+}
+
+/// What was asked, or told, of lines that were played.
+fn shown(
+    alloc: Global,
+    what: Part,
+    done: &Result<Finished<'_>, NoMemory>,
+    entries: &[Entry],
+) -> Result<Bytes, NoMemory> {
+    match done {
+        Ok(done) => match what {
+            Part::Asked => asked(alloc, entries),
+            Part::Told => told(alloc, done),
+        },
+        Err(NoMemory) => Err(NoMemory),
+    }
+}
+
+/// The same of lines that a test plays.
+fn shown_of(
+    alloc: Global,
+    plays: &Plays,
+    lines: &[Line],
+    test: &Test,
+    words: &str,
+) -> Result<Bytes, NoMemory> {
+    let mut entries = Items::new(alloc);
+    let done = played(alloc, lines, test, words, plays.retries, &mut entries);
+    shown(alloc, plays.what, &done, entries.as_slice())
+}
+
+/// The same of the test `/w/p.txt`.
+fn shown_at_w(
+    alloc: Global,
+    plays: &Plays,
+    lines: &[Line],
+    words: &str,
+) -> Result<Bytes, NoMemory> {
+    let test = test_at_w(alloc)?;
+    shown_of(alloc, plays, lines, &test, words)
 }
 
 impl Tells for Plays {
@@ -128,7 +152,7 @@ impl Tells for Plays {
             return no_row(alloc);
         };
         let lines = lines_of(alloc, lines)?;
-        shown(alloc, self.what, lines.as_slice(), words, self.retries)
+        shown_at_w(alloc, self, lines.as_slice(), words)
     }
 }
 

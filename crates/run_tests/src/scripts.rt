@@ -30,12 +30,18 @@ fn runs_of(alloc: Global, script: &Script) -> Result<Bytes, NoMemory> {
     Ok(shown)
 }
 
-/// The RUN lines of a text, or that it is no script.
-fn runs_told(alloc: Global, text: &[u8]) -> Result<Bytes, NoMemory> {
-    match read_short(alloc, text) {
-        Ok(script) => runs_of(alloc, &script),
+/// The RUN lines that were read, or that there is no script.
+fn runs_read(alloc: Global, read: &Result<Script, ScriptFail>) -> Result<Bytes, NoMemory> {
+    match read {
+        Ok(script) => runs_of(alloc, script),
         Err(_) => Bytes::from_slice(alloc, b"no script"),
     }
+}
+
+/// The RUN lines of a text, or that it is no script.
+fn runs_told(alloc: Global, text: &[u8]) -> Result<Bytes, NoMemory> {
+    let read = read_short(alloc, text);
+    runs_read(alloc, &read)
 }
 
 /// The RUN lines of a text.
@@ -67,13 +73,19 @@ fn run_lines_are_joined_and_numbered(rt: HostRuntime) -> Result<(), NoMemory> {
     each_is_told(&rt, rt.alloc(), RUNS, &Runs)
 }
 
-/// The fault of a text, or that there is none.
-fn refused(alloc: Global, text: &[u8]) -> Result<Bytes, NoMemory> {
-    match read_short(alloc, text) {
+/// The fault that a text was refused for, or that there is none.
+fn fault_of(alloc: Global, read: &Result<Script, ScriptFail>) -> Result<Bytes, NoMemory> {
+    match read {
         Err(ScriptFail::Bad(fault)) => in_bytes(alloc, format!(in alloc; "{fault:?}")),
         Err(ScriptFail::NoMemory) => Err(NoMemory),
         Ok(_) => Bytes::from_slice(alloc, b"none"),
     }
+}
+
+/// The fault of a text, or that there is none.
+fn refused(alloc: Global, text: &[u8]) -> Result<Bytes, NoMemory> {
+    let read = read_short(alloc, text);
+    fault_of(alloc, &read)
 }
 
 /// The fault of a text.
@@ -134,12 +146,22 @@ fn script_told(alloc: Global, script: &Script, features: &[Bytes]) -> Result<Byt
     Ok(shown)
 }
 
-/// What the three lists of a text show, and its retries.
-fn lists_of(alloc: Global, text: &[u8], features: &[Bytes]) -> Result<Bytes, NoMemory> {
-    match read_short(alloc, text) {
-        Ok(script) => script_told(alloc, &script, features),
+/// The same of what was read.
+fn lists_read(
+    alloc: Global,
+    read: &Result<Script, ScriptFail>,
+    features: &[Bytes],
+) -> Result<Bytes, NoMemory> {
+    match read {
+        Ok(script) => script_told(alloc, script, features),
         Err(_) => Bytes::from_slice(alloc, b"no script"),
     }
+}
+
+/// What the three lists of a text show, and its retries.
+fn lists_of(alloc: Global, text: &[u8], features: &[Bytes]) -> Result<Bytes, NoMemory> {
+    let read = read_short(alloc, text);
+    lists_read(alloc, &read, features)
 }
 
 /// The same where two features are there.
@@ -226,12 +248,15 @@ fn hostile_scripts_are_read_or_refused(rt: HostRuntime) -> Result<(), NoMemory> 
     each_is_told(&rt, rt.alloc(), HOSTILE, &Hostile)
 }
 
+/// Whether a text was refused for want of a RUN line.
+fn is_no_run(read: &Result<Script, ScriptFail>) -> bool {
+    matches!(read, Err(ScriptFail::Bad(ScriptFault::NoRun)))
+}
+
 /// Whether a text is refused for want of a RUN line.
 fn has_no_run(alloc: Global, text: &[u8]) -> bool {
-    matches!(
-        read_short(alloc, text),
-        Err(ScriptFail::Bad(ScriptFault::NoRun))
-    )
+    let read = read_short(alloc, text);
+    is_no_run(&read)
 }
 
 // No text of one byte or two has a keyword.

@@ -75,13 +75,19 @@ fn refusal(alloc: Global, fault: ShellFault) -> Result<Bytes, NoMemory> {
     in_bytes(alloc, format!(in alloc; "{kind:?} {at}"))
 }
 
-/// What a line is, or what is wrong with it and where.
-fn told(alloc: Global, text: &[u8]) -> Result<Bytes, NoMemory> {
-    match parse_line(alloc, text) {
-        Ok(line) => shown(alloc, &line),
-        Err(ShellFail::Bad(fault)) => refusal(alloc, fault),
+/// What was read of a line, or what is wrong with it and where.
+fn told_of(alloc: Global, read: &Result<Line, ShellFail>) -> Result<Bytes, NoMemory> {
+    match read {
+        Ok(line) => shown(alloc, line),
+        Err(ShellFail::Bad(fault)) => refusal(alloc, *fault),
         Err(ShellFail::NoMemory) => Err(NoMemory),
     }
+}
+
+/// What a line is, or what is wrong with it and where.
+fn told(alloc: Global, text: &[u8]) -> Result<Bytes, NoMemory> {
+    let read = parse_line(alloc, text);
+    told_of(alloc, &read)
 }
 
 /// What a line is.
@@ -164,14 +170,19 @@ fn refused_lines_tell_the_first_place(rt: HostRuntime) -> Result<(), NoMemory> {
     each_is_told(&rt, rt.alloc(), REFUSED, &Lines)
 }
 
-/// What is told of as many of a byte as a line may have; nothing of lines that are read.
+/// What is wrong with a line and where; nothing of lines that are read.
+fn refused(alloc: Global, text: &[u8]) -> Result<Bytes, NoMemory> {
+    match parse_line(alloc, text).err() {
+        Some(ShellFail::Bad(fault)) => refusal(alloc, fault),
+        Some(ShellFail::NoMemory) => Err(NoMemory),
+        None => Ok(Bytes::new(alloc)),
+    }
+}
+
+/// The same of as many of a byte as a line may have.
 fn told_of_many(alloc: Global, byte: u8) -> Result<Bytes, NoMemory> {
     let many = vec![in alloc; byte; 1 << 20].or(Err(NoMemory))?;
-    match parse_line(alloc, many.as_slice()) {
-        Err(ShellFail::Bad(fault)) => refusal(alloc, fault),
-        Err(ShellFail::NoMemory) => Err(NoMemory),
-        Ok(_) => Ok(Bytes::new(alloc)),
-    }
+    refused(alloc, many.as_slice())
 }
 
 /// What is told of as many of a byte.
@@ -204,7 +215,7 @@ fn long_lines_of_one_byte_are_answered(rt: HostRuntime) -> Result<(), NoMemory> 
 
 /// Whether a text is read or refused.
 fn is_answered(alloc: Global, text: &[u8]) -> bool {
-    !matches!(parse_line(alloc, text), Err(ShellFail::NoMemory))
+    !matches!(parse_line(alloc, text).err(), Some(ShellFail::NoMemory))
 }
 
 #[test]

@@ -34,10 +34,15 @@ fn shown(alloc: Global, trial: &Trial) -> Result<Bytes, NoMemory> {
     Ok(out)
 }
 
+/// What is told of a test, whose requests are answered by these words.
+fn told_of(alloc: Global, test: &Test, file: Option<&str>, words: &str) -> Result<Bytes, NoMemory> {
+    let trial = trial_of(alloc, test, file, words)?;
+    shown(alloc, &trial)
+}
+
 fn told(alloc: Global, file: &str, words: &str) -> Result<Bytes, NoMemory> {
     let test = test_at_w(alloc)?;
-    let trial = trial_of(alloc, &test, file_of(file), words)?;
-    shown(alloc, &trial)
+    told_of(alloc, &test, file_of(file), words)
 }
 
 /// Whether this is told of a row's file and replies.
@@ -138,6 +143,14 @@ fn grown(alloc: Global, row: &str) -> Result<String, AllocError> {
     Ok(grown)
 }
 
+/// Whether this is told of a row in which each `*` is many bytes.
+fn is_told_grown(alloc: Global, row: &str) -> Result<bool, NoMemory> {
+    match grown(alloc, row) {
+        Ok(row) => is_told(alloc, row.as_str()),
+        Err(AllocError) => Err(NoMemory),
+    }
+}
+
 /// The same rows, in which `*` stands for many bytes.
 const LONG: &str = "RUN: p => 2c0* => PASS 3 RUN: line 1: p~# output:~*~
 RUN: p => 2c1*~!y*~ => FAIL 3 RUN: line 1: p~# output:~*~# errors:~y*~# status: 1~
@@ -148,28 +161,36 @@ RUN: p > f 2>&1; q => 2c0*!* 4c0* => PASS 5 RUN: line 1: p > f 2>&1; q~# output:
 RUN: p~RUN: q => 2c0* 3c3 => FAIL 4 RUN: line 1: p~# output:~*~RUN: line 2: q~# status: 3~";
 
 #[test]
-fn long_streams_are_told_whole(rt: HostRuntime) -> Result<(), AllocError> {
+fn long_streams_are_told_whole(rt: HostRuntime) -> Result<(), NoMemory> {
     let alloc = rt.alloc();
     for row in LONG.lines() {
-        let row = grown(alloc, row)?;
-        assert!(rt; is_told(alloc, row.as_str()).or(Err(AllocError))?, "{row}");
+        assert!(rt; is_told_grown(alloc, row)?, "{row}");
     }
     Ok(())
 }
 
-/// A test whose path has as many bytes as a test may keep.
-fn test_with_long_path(alloc: Global) -> Result<Test, NoMemory> {
-    let mut test = test_at_w(alloc)?;
+/// A path of as many bytes as a test may keep.
+fn long_path(alloc: Global) -> Result<Bytes, NoMemory> {
     let path = vec![in alloc; b'a'; 1 << 24].or(Err(NoMemory))?;
-    test.path = Bytes::from_slice(alloc, path.as_slice())?;
+    Bytes::from_slice(alloc, path.as_slice())
+}
+
+/// A test of such a path.
+fn test_with_long_path(alloc: Global) -> Result<Test, NoMemory> {
+    let path = long_path(alloc)?;
+    let mut test = test_at_w(alloc)?;
+    test.path = path;
     Ok(test)
+}
+
+fn told_of_long_path(alloc: Global) -> Result<Bytes, NoMemory> {
+    let test = test_with_long_path(alloc)?;
+    told_of(alloc, &test, None, "")
 }
 
 #[test]
 fn a_file_is_not_asked_for_that_has_no_room(rt: HostRuntime) -> Result<(), NoMemory> {
-    let test = test_with_long_path(rt.alloc())?;
-    let trial = trial_of(rt.alloc(), &test, None, "")?;
-    let told = shown(rt.alloc(), &trial)?;
-    assert!(rt; told.as_slice() == b"UNRESOLVED 0 # unresolved: TooMuch\n".as_slice());
+    let due = b"UNRESOLVED 0 # unresolved: TooMuch\n".as_slice();
+    assert!(rt; are_bytes(told_of_long_path(rt.alloc()), due)?);
     Ok(())
 }
