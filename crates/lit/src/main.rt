@@ -20,6 +20,7 @@ const PAGES: Pages = Pages {
     version: VERSION,
 };
 
+// What is large is let go by a call, since a drop in place is proved field by field.
 fn main(rt: HostRuntime) -> ExitCode {
     let alloc = rt.alloc();
     let mut out = StdOut::new(rt.stdout());
@@ -57,10 +58,6 @@ fn main(rt: HostRuntime) -> ExitCode {
     );
     end.clear();
     let status = run.status;
-    // Calls, since a drop in place is proved field by field.
-    drop(run);
-    drop(out);
-    drop(err);
-    drop(crew);
+    drop((run, out, err, crew));
     ExitCode::from(status)
 }
