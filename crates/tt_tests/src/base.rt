@@ -1,5 +1,6 @@
 //! Cases of the public calls with ample memory.
 use crate::plain::{plain_first, plain_place};
+use crate::rows::are_bytes;
 use std::alloc::Global;
 use tt_base::{Bytes, Items, NoMemory, Place, Span, find_in, line_of, place_of};
 
@@ -35,39 +36,55 @@ fn one_item(alloc: Global, item: u8) -> Result<Items<u8>, NoMemory> {
 
 #[test]
 fn lists_grow_and_searches_find(rt: HostRuntime) -> Result<(), NoMemory> {
-    assert!(rt; two_bytes(rt.alloc())?.as_slice() == b"ab".as_slice());
-    assert!(rt; one_item(rt.alloc(), 1)?.as_slice() == [1u8].as_slice());
+    assert!(rt; are_bytes(two_bytes(rt.alloc()), b"ab")?);
+    assert!(rt; is_one(one_item(rt.alloc(), 1)?, 1));
     assert!(rt; find_in(b"abab", b"ab", 1, 4) == Some(2));
     assert!(rt; find_in(b"abab", b"ab", 1, 3).is_none());
     Ok(())
 }
 
-/// So many items.
-fn many_items(alloc: Global, count: u16) -> Result<Items<u16>, NoMemory> {
+/// The length of a list of so many items.
+fn many_items(alloc: Global, count: u16) -> Result<usize, NoMemory> {
     let mut items = Items::new(alloc);
     for item in 0..count {
         items.push(item)?;
     }
-    Ok(items)
+    Ok(items.len())
 }
 
-/// A large text, so many bytes behind it one by one, and the large text again.
-fn many_bytes(alloc: Global, count: u16) -> Result<Bytes, NoMemory> {
-    let large = vec![in alloc; b'a'; 1 << 21].or(Err(NoMemory))?;
-    let mut bytes = Bytes::from_slice(alloc, large.as_slice())?;
+/// Adds so many bytes, one by one.
+fn add_bytes(bytes: &mut Bytes, count: u16) -> Result<(), NoMemory> {
     for _ in 0..count {
         bytes.append(b"b")?;
     }
-    bytes.append(large.as_slice())?;
-    Ok(bytes)
+    Ok(())
+}
+
+/// The length of a text, so many bytes behind it one by one, and the text again.
+fn around(alloc: Global, text: &[u8], count: u16) -> Result<usize, NoMemory> {
+    let mut bytes = Bytes::from_slice(alloc, text)?;
+    add_bytes(&mut bytes, count)?;
+    bytes.append(text)?;
+    Ok(bytes.len())
+}
+
+/// The same of a large text.
+fn many_bytes(alloc: Global, count: u16) -> Result<usize, NoMemory> {
+    let large = vec![in alloc; b'a'; 1 << 21].or(Err(NoMemory))?;
+    around(alloc, large.as_slice(), count)
+}
+
+/// Whether a list with much room has nothing.
+fn is_empty(alloc: Global) -> Result<bool, NoMemory> {
+    Ok(Bytes::with_capacity(alloc, 1 << 21)?.is_empty())
 }
 
 #[test]
 fn lists_grow_as_far_as_there_is_memory(rt: HostRuntime) -> Result<(), NoMemory> {
     let alloc = rt.alloc();
-    assert!(rt; many_items(alloc, 2_000)?.len() == 2_000);
-    assert!(rt; many_bytes(alloc, 5_000)?.len() == (1 << 22) + 5_000);
-    assert!(rt; Bytes::with_capacity(alloc, 1 << 21)?.is_empty());
+    assert!(rt; many_items(alloc, 2_000)? == 2_000);
+    assert!(rt; many_bytes(alloc, 5_000)? == (1 << 22) + 5_000);
+    assert!(rt; is_empty(alloc)?);
     Ok(())
 }
 

@@ -26,6 +26,12 @@ fn words_of(alloc: Global, program: &str) -> Result<Items<Bytes>, NoMemory> {
     Ok(words)
 }
 
+/// The words of a program, and a variable.
+fn command(alloc: Global, program: &str) -> Result<(Items<Bytes>, Items<Pair>), NoMemory> {
+    let words = words_of(alloc, program)?;
+    Ok((words, pair(alloc)?))
+}
+
 /// The root, and an input.
 fn place(alloc: Global, input: &[u8]) -> Result<(Bytes, SharedBytes), NoMemory> {
     let dir = Bytes::from_slice(alloc, b"/")?;
@@ -34,10 +40,10 @@ fn place(alloc: Global, input: &[u8]) -> Result<(Bytes, SharedBytes), NoMemory> 
 
 /// A request to run a program. It runs in the root, with a variable more.
 fn spawn(alloc: Global, program: &str, input: &[u8], limit: u64) -> Result<Request, NoMemory> {
+    let (words, env) = command(alloc, program)?;
     let (dir, input) = place(alloc, input)?;
-    let env = pair(alloc)?;
     Ok(Request::Spawn {
-        words: words_of(alloc, program)?,
+        words,
         dir,
         env,
         input,

@@ -26,6 +26,12 @@ fn words(alloc: Global, word: &[u8]) -> Result<Items<Bytes>, NoMemory> {
     Ok(words)
 }
 
+/// These words, and a variable.
+fn command(alloc: Global, word: &[u8]) -> Result<(Items<Bytes>, Items<Pair>), NoMemory> {
+    let words = words(alloc, word)?;
+    Ok((words, pairs(alloc, b"LANG", b"C")?))
+}
+
 /// A directory, and an input.
 fn place(alloc: Global, input: &[u8]) -> Result<(Bytes, SharedBytes), NoMemory> {
     let dir = text(alloc, b"/w")?;
@@ -34,10 +40,10 @@ fn place(alloc: Global, input: &[u8]) -> Result<(Bytes, SharedBytes), NoMemory> 
 
 /// A program that is started with this word and this input.
 fn spawned(alloc: Global, word: &[u8], input: &[u8]) -> Result<Request, NoMemory> {
+    let (words, env) = command(alloc, word)?;
     let (dir, input) = place(alloc, input)?;
-    let env = pairs(alloc, b"LANG", b"C")?;
     Ok(Request::Spawn {
-        words: words(alloc, word)?,
+        words,
         dir,
         env,
         input,
@@ -153,12 +159,17 @@ fn are_given_to_both(alloc: Global) -> Result<bool, NoMemory> {
     Ok(is_given(alloc, other)? && is_first)
 }
 
+/// Whether no bytes are none, also once they are given.
+fn are_none(alloc: Global) -> Result<bool, NoMemory> {
+    let none = SharedBytes::new(alloc, Bytes::new(alloc))?;
+    let is_empty = none.is_empty();
+    Ok(none.into_bytes(alloc)?.is_empty() && is_empty)
+}
+
 #[test]
 fn shared_bytes_are_given_to_each_that_holds_them(rt: HostRuntime) -> Result<(), NoMemory> {
     assert!(rt; are_given_to_both(rt.alloc())?);
-    let none = SharedBytes::new(rt.alloc(), Bytes::new(rt.alloc()))?;
-    assert!(rt; none.is_empty());
-    assert_eq!(rt; none.into_bytes(rt.alloc())?.len(), 0);
+    assert!(rt; are_none(rt.alloc())?);
     Ok(())
 }
 

@@ -1,6 +1,6 @@
 //! The public calls on objects in memory, with ample memory.
 use crate::hired::reply_to;
-use crate::rows::limited;
+use crate::rows::{are_bytes, limited};
 use std::alloc::Global;
 use tt_base::{Bytes, Items, NoMemory};
 use tt_outside::{
@@ -23,7 +23,7 @@ fn is_taken(alloc: Global, row: &str) -> Result<bool, NoMemory> {
     let Some((text, limit, due)) = limited(row) else {
         return Ok(false);
     };
-    Ok(taken(alloc, text, limit)?.as_slice() == due.as_bytes())
+    are_bytes(taken(alloc, text, limit), due.as_bytes())
 }
 
 /// A text, a limit, and what is taken.
@@ -40,17 +40,29 @@ fn all_bytes_are_taken_up_to_the_limit(rt: HostRuntime) -> Result<(), NoMemory> 
     Ok(())
 }
 
-/// Whether so many bytes are taken whole, and written whole.
-fn pass_whole(alloc: Global, length: usize) -> Result<bool, NoMemory> {
-    let bytes = vec![in alloc; b'a'; length].or(Err(NoMemory))?;
-    let mut source = MemSource::new(alloc, bytes.as_slice(), &[])?;
-    match take_all(alloc, &mut source, 1 << 26) {
-        Ok(taken) => {
-            let is_same = taken.as_slice() == bytes.as_slice();
-            Ok(is_same && is_written_whole(alloc, taken.as_slice())?)
-        }
+/// Whether bytes were taken whole, and are written whole.
+fn are_whole(
+    alloc: Global,
+    taken: &Result<Bytes, TakeFault>,
+    bytes: &[u8],
+) -> Result<bool, NoMemory> {
+    match taken {
+        Ok(taken) => Ok(taken.as_slice() == bytes && is_written_whole(alloc, bytes)?),
         Err(_) => Ok(false),
     }
+}
+
+/// Whether bytes are taken whole, and written whole.
+fn pass(alloc: Global, bytes: &[u8]) -> Result<bool, NoMemory> {
+    let mut source = MemSource::new(alloc, bytes, &[])?;
+    let taken = take_all(alloc, &mut source, 1 << 26);
+    are_whole(alloc, &taken, bytes)
+}
+
+/// The same of so many bytes.
+fn pass_whole(alloc: Global, length: usize) -> Result<bool, NoMemory> {
+    let bytes = vec![in alloc; b'a'; length].or(Err(NoMemory))?;
+    pass(alloc, bytes.as_slice())
 }
 
 /// Whether bytes are written whole where there is just room for them.
@@ -126,14 +138,18 @@ fn is_read(alloc: Global, files: &mut MemFiles, row: &str) -> Result<bool, NoMem
     let Some((name, limit, due)) = limited(row) else {
         return Ok(false);
     };
-    Ok(read(alloc, files, name, u64::from(limit))?.as_slice() == due.as_bytes())
+    are_bytes(read(alloc, files, name, u64::from(limit)), due.as_bytes())
+}
+
+/// Whether one of so many files is read so.
+fn is_read_of(alloc: Global, count: u16, row: &str) -> Result<bool, NoMemory> {
+    let mut files = MemFiles::new(alloc, numbered(alloc, count)?, &[])?;
+    is_read(alloc, &mut files, row)
 }
 
 #[test]
 fn two_thousand_files_are_kept(rt: HostRuntime) -> Result<(), NoMemory> {
-    let alloc = rt.alloc();
-    let mut files = MemFiles::new(alloc, numbered(alloc, 2_000)?, &[])?;
-    assert!(rt; is_read(alloc, &mut files, "1999 => 4 => 1999")?);
+    assert!(rt; is_read_of(rt.alloc(), 2_000, "1999 => 4 => 1999")?);
     Ok(())
 }
 

@@ -1,4 +1,10 @@
 //! Rows of tests: a line each, with arrows between the fields.
+use tt_base::{Bytes, NoMemory};
+
+/// Whether bytes were made, and are those that are due.
+pub(crate) fn are_bytes(made: Result<Bytes, NoMemory>, due: &[u8]) -> Result<bool, NoMemory> {
+    Ok(made?.as_slice() == due)
+}
 
 /// The three fields of a row.
 pub(crate) fn three(row: &str) -> Option<(&str, &str, &str)> {

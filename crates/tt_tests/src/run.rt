@@ -1,7 +1,7 @@
 //! What reading objects in memory gives, with ample memory, and how an answer ends where a stream is full.
 ghost use Rattle.std.specs.Prelude.{◌≡◌, IfOk};
 
-use crate::rows::limited;
+use crate::rows::{are_bytes, limited};
 use std::alloc::Global;
 use tt_base::{Bytes, Items, NoMemory};
 use tt_outside::{MemFiles, MemSink, MemSource, Named};
@@ -148,8 +148,7 @@ fn a_fault_of_the_output_is_told_once(rt: HostRuntime) -> Result<(), NoMemory> {
         (0, 2, "3  t:"),
         (3, 2, "3 out er"),
     ] {
-        let ended = ended(rt.alloc(), out_room, err_room)?;
-        let is_due = ended.as_slice() == due.as_bytes();
+        let is_due = are_bytes(ended(rt.alloc(), out_room, err_room), due.as_bytes())?;
         assert!(rt; is_due, "room for {out_room} and {err_room}: {due}");
     }
     Ok(())

@@ -1,4 +1,5 @@
 //! `count` and `not` over memory, where a read of their input fails.
+use crate::rows::are_bytes;
 use not_count::{count_run, not_run};
 use std::alloc::Global;
 use tt_base::{Bytes, Items, NoMemory};
@@ -22,10 +23,6 @@ fn counted(alloc: Global, words: &[String]) -> Result<Bytes, NoMemory> {
     let mut told = MemSink::new(alloc, 1 << 10)?;
     let status = count_run(words, &mut input, &mut told);
     joined(alloc, status, &told)
-}
-
-fn are_bytes(told: Result<Bytes, NoMemory>, due: &[u8]) -> Result<bool, NoMemory> {
-    Ok(told?.as_slice() == due)
 }
 
 /// Whether `count 1` tells this.

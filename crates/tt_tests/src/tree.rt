@@ -1,5 +1,5 @@
 //! The public calls on a tree in memory, with ample memory.
-use crate::rows::three;
+use crate::rows::{are_bytes, three};
 use std::alloc::Global;
 use tt_base::{Bytes, Items, NoMemory};
 use tt_outside::{Counted, Item, ItemKind, MemTree, Node, Tree, TreeFault, are_nested};
@@ -70,12 +70,22 @@ fn listed(alloc: Global, tree: &mut MemTree, path: &str) -> Result<Bytes, NoMemo
     }
 }
 
-/// How many items a directory has, and in a line those called `b`, `b/c`, `link` and `none`; or the refusal.
-fn counted(alloc: Global, tree: &mut MemTree, path: &str) -> Result<(usize, Bytes), NoMemory> {
-    match tree.count(alloc, path.as_bytes(), &["b", "b/c", "link", "none"]) {
-        Ok(Counted { count, named }) => Ok((count, line_of(alloc, named.as_slice())?)),
-        Err(fault) => Ok((0, told(alloc, fault)?)),
+/// How many items were counted, and some in a line; or the refusal.
+fn counted_told(alloc: Global, counted: &Result<Counted, TreeFault>) -> Result<Bytes, NoMemory> {
+    match counted {
+        Ok(Counted { count, named }) => {
+            let mut text = Bytes::from_slice(alloc, &[b'0' + (*count % 10) as u8, b' '])?;
+            text.append(line_of(alloc, named.as_slice())?.as_slice())?;
+            Ok(text)
+        }
+        Err(fault) => told(alloc, *fault),
     }
+}
+
+/// How many items a directory has, and in a line those called `b`, `b/c`, `link` and `none`; or the refusal.
+fn counted(alloc: Global, tree: &mut MemTree, path: &str) -> Result<Bytes, NoMemory> {
+    let counted = tree.count(alloc, path.as_bytes(), &["b", "b/c", "link", "none"]);
+    counted_told(alloc, &counted)
 }
 
 /// The bytes of a file of up to three bytes, or the refusal.
@@ -87,11 +97,11 @@ fn read(alloc: Global, tree: &mut MemTree, path: &str) -> Result<Bytes, NoMemory
 }
 
 fn lists(alloc: Global, tree: &mut MemTree, path: &str, due: &str) -> Result<bool, NoMemory> {
-    Ok(listed(alloc, tree, path)?.as_slice() == due.as_bytes())
+    are_bytes(listed(alloc, tree, path), due.as_bytes())
 }
 
 fn reads(alloc: Global, tree: &mut MemTree, path: &str, due: &str) -> Result<bool, NoMemory> {
-    Ok(read(alloc, tree, path)?.as_slice() == due.as_bytes())
+    are_bytes(read(alloc, tree, path), due.as_bytes())
 }
 
 #[test]
@@ -106,25 +116,25 @@ fn a_directory_lists_each_name_once(rt: HostRuntime) -> Result<(), NoMemory> {
 
 /// A directory, how many items it has, and those of some names; or a path that is none, and the refusal. The fifth
 /// call fails.
-const COUNTED: [(&str, usize, &str); 6] = [
-    ("/w", 3, "b/ link@ "),
-    ("/w/b", 1, ""),
-    ("/w/a.txt", 0, "no directory"),
-    ("/w/none", 0, "missing"),
-    ("/w", 0, "failed"),
-    ("/", 1, ""),
-];
+const COUNTED: &str = "/w => 3 b/ link@ 
+/w/b => 1 
+/w/a.txt => no directory
+/w/none => missing
+/w => failed
+/ => 1 ";
+
+fn is_counted(alloc: Global, tree: &mut MemTree, row: &str) -> Result<bool, NoMemory> {
+    match row.split_once(" => ") {
+        Some((path, due)) => are_bytes(counted(alloc, tree, path), due.as_bytes()),
+        None => Ok(false),
+    }
+}
 
 #[test]
 fn all_items_count_and_some_are_told(rt: HostRuntime) -> Result<(), NoMemory> {
-    let alloc = rt.alloc();
-    let mut tree = small_tree(alloc, &[4])?;
-    for (path, count, due) in COUNTED {
-        let (found, line) = counted(alloc, &mut tree, path)?;
-        assert!(rt;
-            found == count && line.as_slice() == due.as_bytes(),
-            "{path}"
-        );
+    let mut tree = small_tree(rt.alloc(), &[4])?;
+    for row in COUNTED.lines() {
+        assert!(rt; is_counted(rt.alloc(), &mut tree, row)?, "{row}");
     }
     Ok(())
 }
