@@ -10,6 +10,7 @@ use lit_main::{Lines, all_words, base, is_quiet};
 use lit_progress::{ProgressCrew, ProgressSink};
 use lit_tool::{LIT, lit_run};
 use std::io::IsTerminal;
+use std::mem::drop;
 use std::process::ExitCode;
 use tt_main::Pages;
 use tt_real::{StdCrew, StdErr, StdOut, StdTree};
@@ -20,6 +21,7 @@ const PAGES: Pages = Pages {
     version: VERSION,
 };
 
+// What is large is let go by a call, since a drop in place is proved field by field.
 fn main(rt: HostRuntime) -> ExitCode {
     let alloc = rt.alloc();
     let mut out = StdOut::new(rt.stdout());
@@ -44,15 +46,19 @@ fn main(rt: HostRuntime) -> ExitCode {
     } = lines;
     let mut tree = StdTree::current(rt, base);
     let mut crew = ProgressCrew::new(InCrew::new(alloc, StdCrew::new(alloc, rt)), for_crew);
+    let mut out = ProgressSink::new(out, for_out);
+    let mut err = ProgressSink::new(err, for_err);
     let run = lit_run(
         &rt,
         alloc,
         words.as_slice(),
         &mut tree,
         &mut crew,
-        &mut ProgressSink::new(out, for_out),
-        &mut ProgressSink::new(err, for_err),
+        &mut out,
+        &mut err,
     );
     end.clear();
-    ExitCode::from(run.status)
+    let status = run.status;
+    drop((run, out, err, crew));
+    ExitCode::from(status)
 }
