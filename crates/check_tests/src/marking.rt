@@ -1,41 +1,27 @@
 //! Marks of faults.
 use crate::fields::are_bytes;
 use check_group::{Fault, FaultKind};
-use input_dump::{Mark, marks};
+use input_dump::marks;
 use std::alloc::Global;
-use std::slice;
 use tt_base::{Bytes, Items, NoMemory};
 
-/// The labels of two directives.
-fn labels(alloc: Global) -> Result<Items<Bytes>, NoMemory> {
+/// The mark of a fault of the second of two directives, as a row: an offset, a sign and a text; or `none`.
+fn mark_of(alloc: Global, kind: FaultKind) -> Result<Bytes, NoMemory> {
     let mut labels = Items::new(alloc);
     labels.push(Bytes::from_slice(alloc, b"CHECK:1")?)?;
     labels.push(Bytes::from_slice(alloc, b"DIR-NOT:7")?)?;
-    Ok(labels)
-}
-
-/// The first mark as a row: an offset, a sign and a text; or `none`.
-fn first_told(alloc: Global, marks: &[Mark]) -> Result<Bytes, NoMemory> {
-    let Some(mark) = marks.first() else {
-        return Bytes::from_slice(alloc, b"none");
-    };
-    let mut row = Bytes::from_slice(alloc, &[b'0' + (mark.at % 10) as u8, mark.sign])?;
-    row.append(b" ")?;
-    row.append(mark.text.as_slice())?;
-    Ok(row)
-}
-
-/// The first mark of faults.
-fn marked(alloc: Global, faults: &[Fault]) -> Result<Bytes, NoMemory> {
-    let labels = labels(alloc)?;
-    let told = marks(alloc, faults, labels.as_slice())?;
-    first_told(alloc, told.as_slice())
-}
-
-/// The mark of a fault of the second of two directives.
-fn mark_of(alloc: Global, kind: FaultKind) -> Result<Bytes, NoMemory> {
-    let fault = Fault { directive: 1, kind };
-    marked(alloc, slice::from_ref(&fault))
+    let mut faults = Items::new(alloc);
+    faults.push(Fault { directive: 1, kind })?;
+    let told = marks(alloc, faults.as_slice(), labels.as_slice())?;
+    match told.as_slice().first() {
+        Some(mark) => {
+            let mut row = Bytes::from_slice(alloc, &[b'0' + (mark.at % 10) as u8, mark.sign])?;
+            row.append(b" ")?;
+            row.append(mark.text.as_slice())?;
+            Ok(row)
+        }
+        None => Bytes::from_slice(alloc, b"none"),
+    }
 }
 
 fn is_marked(alloc: Global, kind: FaultKind, due: &str) -> Result<bool, NoMemory> {
