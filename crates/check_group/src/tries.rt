@@ -84,6 +84,17 @@ impl Tries {
         }
     }
 
+    /// Makes what a directive's tries share.
+    #[inline(never)]
+    fn make(&mut self, context: &Context<'_>, check: &Check) -> Result<(), NoMemory>
+        requires ready { IsReady context.now.vars.now check.now }
+        requires same { AreFor self.old check.now context.now.vars.now }
+        ensures same { AreFor self.new check.now context.now.vars.now }
+    {
+        *self = made(context, check)?;
+        Ok(())
+    }
+
     /// The directive sought in the slice from an offset to the text's end, behind `done` matches of the same directive.
     #[inline(always)]
     pub(crate) fn look<L: Ledger>(
@@ -101,31 +112,8 @@ impl Tries {
         ensures fits { IfOk result (λ met. IfOk met (FitsIn context.now from)) }
         ensures same { AreFor self.new check.now context.now.vars.now }
     {
-        if let Tries::Plain = self {
-            return look(context, check, done, from, steps);
-        }
-        self.look_kept(context, check, done, from, steps)
-    }
-
-    /// The same, where something is made or kept. It stands apart, since plain text shouldn't pay for it.
-    #[inline(never)]
-    fn look_kept<L: Ledger>(
-        &mut self,
-        context: &Context<'_>,
-        check: &Check,
-        done: u32,
-        from: usize,
-        steps: &mut Steps<L>,
-    ) -> Result<Result<Met, FaultKind>, NoMemory>
-        requires inside { from ≤ length context.now.text.now }
-        requires ready { IsReady context.now.vars.now check.now }
-        requires same { AreFor self.old check.now context.now.vars.now }
-        ensures value { IfOk result (λ met. met ≡ looked_in context.now check.now done from) }
-        ensures fits { IfOk result (λ met. IfOk met (FitsIn context.now from)) }
-        ensures same { AreFor self.new check.now context.now.vars.now }
-    {
         if let Tries::Fresh = self {
-            *self = made(context, check)?;
+            self.make(context, check)?;
         }
         match self {
             Tries::Built(ready) => {
