@@ -43,7 +43,7 @@ row_of (Count n) = record {
 
 -- the kinds that a suffix alone names
 abbrev pub suffixed : List Kind
-suffixed = Next ∷ Same ∷ Empty ∷ Not ∷ Dag ∷ Label ∷ []
+suffixed = Next ∷ Dag ∷ Not ∷ Same ∷ Empty ∷ Label ∷ []
 
 -- ---- what follows
 

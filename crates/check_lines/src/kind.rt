@@ -38,10 +38,10 @@ pub struct KindRow {
 /// The kinds that a suffix alone names.
 const SUFFIXED: [Kind; 6] = [
     Kind::Next,
+    Kind::Dag,
+    Kind::Not,
     Kind::Same,
     Kind::Empty,
-    Kind::Not,
-    Kind::Dag,
     Kind::Label,
 ];
 
