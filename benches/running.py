@@ -16,6 +16,7 @@ the greatest resident set of a process. A goal is the greatest ratio that is wan
 import argparse
 import glob
 import os
+import random
 import shutil
 import statistics
 import subprocess
@@ -269,7 +270,12 @@ def table_row(case, goals, commands, rounds):
     """Runs a case by ours, the floor, the floor that does as much, the one that makes the same calls and LLVM's, those that there are, and
     prints its row."""
     there = [command for command in commands if command]
-    runs = [[run_once(command, os.devnull, 0) for command in there] for _ in range(rounds)]
+    # What runs before another leaves it warm or cold caches: so each round has an order of its own.
+    draw = random.Random(1)
+    runs = []
+    for _ in range(rounds):
+        took = {at: run_once(there[at], os.devnull, 0) for at in draw.sample(range(len(there)), len(there))}
+        runs.append([took[at] for at in range(len(there))])
     all_times = dict(zip(map(id, there), zip(*runs)))
     memory = {id(command): peak(command, os.devnull) for command in there}
     ours, floor, much, same, llvm = [(min(all_times[id(command)]), memory[id(command)]) if command else (None, None)
