@@ -38,12 +38,12 @@ fn none<T: Drop>(alloc: Global) -> Result<SharedItems<T>, NoMemory>
 
 /// The test of a file.
 fn test_of(alloc: Global, file: &str) -> Result<Test, NoMemory> {
-    let (name, path, temp) = paths(alloc, file)?;
-    let (source_dir, work_dir, temp_dir) = dirs(alloc)?;
     let features = none(alloc)?;
     let substitutions = none(alloc)?;
     let tools = none(alloc)?;
     let environment = none(alloc)?;
+    let (name, path, temp) = paths(alloc, file)?;
+    let (source_dir, work_dir, temp_dir) = dirs(alloc)?;
     Ok(Test {
         name,
         path,
