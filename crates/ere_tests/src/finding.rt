@@ -117,7 +117,12 @@ fn is_nowhere(alloc: Global, row: &str, count: usize) -> Result<bool, AllocError
 }
 
 /// So many `a` between two texts.
-fn surrounded(alloc: Global, front: &str, count: usize, end: &str) -> Result<Vec<u8>, AllocError> {
+pub(crate) fn surrounded(
+    alloc: Global,
+    front: &str,
+    count: usize,
+    end: &str,
+) -> Result<Vec<u8>, AllocError> {
     let mut text = Vec::from_slice(alloc, front.as_bytes())?;
     for _ in 0..count {
         text.push(b'a')?;
@@ -150,7 +155,7 @@ const TOKENS: [&str; 15] = [
     "a", "b", ".", "$", "(a)", "(b*)", "(a|ab)", "(a|b?)", "(", "){2}", ")*", ")+", "|", "*", "?",
 ];
 
-const LETTERS: [&str; 4] = ["a", "b", "ab", "\n"];
+pub(crate) const LETTERS: [&str; 4] = ["a", "b", "ab", "\n"];
 
 /// The text of so many pieces that a number spells, its last digit first. No pieces count as want of memory.
 fn spelled(
@@ -172,7 +177,11 @@ fn spelled(
 }
 
 /// All texts of up to so many pieces.
-fn all_spelled(alloc: Global, pieces: &[&str], most: u32) -> Result<Vec<Vec<u8>>, AllocError> {
+pub(crate) fn all_spelled(
+    alloc: Global,
+    pieces: &[&str],
+    most: u32,
+) -> Result<Vec<Vec<u8>>, AllocError> {
     let mut all = Vec::new(alloc);
     for length in 0..=most {
         for number in 0..pieces.len().saturating_pow(length) {

@@ -15,6 +15,8 @@ mod parsing;
 #[cfg(test)]
 mod places;
 #[cfg(test)]
+mod reach;
+#[cfg(test)]
 mod references;
 #[cfg(test)]
 mod relaxed;
@@ -24,6 +26,8 @@ mod rows;
 mod shown;
 #[cfg(test)]
 mod slow;
+#[cfg(test)]
+mod spans;
 #[cfg(test)]
 mod table;
 #[cfg(test)]

@@ -1,0 +1,103 @@
+-- Row by row and place by place of it the ends are found and closed one after the other.
+-- `ClosedSoFar` says it of the ends of one place, and `free_group_more` takes the place itself to what was gone through.
+-- The hard one is `loop-from-preserved`.
+use Rattle.std.proofs.Common.{◌+◌, [], ◌∷◌, get_or, refl, subst, arith}
+use Rattle.ere_places.proofs.ReachLemmas.{all_each}
+use Rattle.ere_places.specs.Places.{IsInside}
+use Rattle.ere_tree.specs.Tree.{group}
+use Rattle.ere_tree.specs.View.{view}
+use Rattle.ere_reach.specs.Leads.{Does}
+use Rattle.ere_reach.specs.Live.{reads}
+use Rattle.ere_reach.proofs.GroupLemmas.{free_group_more}
+use Rattle.ere_reach.proofs.KeepsLemmas.{closed_ends, closed_first, closed_more, closed_skip}
+use Rattle.ere_reach.proofs.StepLemmas.{gone_first, gone_last, place_inside}
+use Rattle.ere_reach.proofs.TakenLemmas.{TakenIn, gone_same, one_is, taken_in_all, taken_in_more, taken_in_none}
+use Rattle.ere_reach.proofs.reach.reach_by_free_group.Goals as goal
+use Rattle.ere_reach.proofs.reach.reach_by_free_group.Goals.{then-from-to+then-to-site+in_ok-put_end, else-from-to, else-from-to-via-then-from-to+else-to-site, else-from-to-via-else-from-to}
+
+pub loop-row-init : goal.loop-row-init
+loop-row-init c =
+    let tree = group c.args.number (view c.args.inner.now) in
+    gone_first c.args.site (Does c.args.site.text.now tree) (reads tree) c.args.live.now
+    c.deref-row-items.result.now c.new-found.result c.new-found.ensures.none
+
+pub loop-from-init : goal.loop-from-init
+loop-from-init c = gone_same _ _ _ _ _ _
+    (taken_in_none c.deref-row-items.result.now c.loop-row.row-index c.row-item.result.held.items
+    c.deref-from-items.result.now) c.loop-row.invariant
+
+pub image-requires-clause-inside : goal.image-requires-clause-inside
+image-requires-clause-inside c =
+    let p = get_or c.deref-from-items.result.now c.loop-from.from-index 0 in
+    let lies = place_inside c.args.site c.args.rows.now c.deref-row-items.result.now c.loop-row.row-index
+    c.row-item.result c.deref-from-items.result.now c.loop-from.from-index c.deref-row-items.ensures.value
+    c.requires.inside c.loop-row-test.true c.row-item.is c.deref-from-items.ensures.value c.loop-from-test.true in
+    all_each (IsInside c.window.result) (p ∷ []) (λ q h. subst (IsInside c.window.result) (one_is p q h)
+    (omega (arith, lies.0, c.window.ensures.low), omega (arith, lies.1, c.window.ensures.high)))
+
+pub loop-to-init : goal.loop-to-init
+loop-to-init c =
+    let a = c.args in
+    let p = get_or c.deref-from-items.result.now c.loop-from.from-index 0 in
+    gone_same _ _ _ _ _ _ (taken_in_none [] 0 c.row-item.result.held.items c.deref-to-items.result.now)
+    (closed_first a.site a.number p a.live.now c.loop-from.found [])
+
+pub loop-to-preserved : goal.loop-to-preserved
+loop-to-preserved c =
+    let a = c.args in
+    let g = c.row-item.result.held.items in
+    let p = get_or c.deref-from-items.result.now c.loop-from.from-index 0 in
+    let ends = c.deref-to-items.result.now in
+    let j = c.loop-to.to-index in
+    let to = get_or ends j 0 in
+    let S = TakenIn [] 0 g ends j in
+    let T = TakenIn [] 0 g ends (j + 1) in
+    let grows = taken_in_more [] 0 g ends j to c.loop-to-test.true refl in
+    elim c.if-from-to.branch [
+      | then-from-to+then-to-site+in_ok-put_end w ↦
+          rw w.found-is
+          (closed_more a.site a.number p a.live.now c.loop-from.found g w.put_end.new.list.items to S T c.loop-to.found
+          w.put_end.new.found w.if-from-to.true w.if-to-site.true
+          (rw c.as_slice-held.ensures.value at w.in_ok-put_end.ensures.closed) grows w.in_ok-put_end.ensures.put
+          c.loop-to.invariant)
+      | else-from-to w ↦
+          rw w.found-is
+          (closed_skip a.site a.number p a.live.now c.loop-from.found g to S T c.loop-to.found
+          (λ on fits. elim w.else-from-to.branch [
+            | else-from-to-via-then-from-to+else-to-site v ↦ absurd (omega (arith, v.if-to-site.false, fits))
+            | else-from-to-via-else-from-to v ↦ absurd (omega (arith, v.if-from-to.false, on))
+          ]) grows c.loop-to.invariant)
+    ]
+
+pub loop-from-preserved : goal.loop-from-preserved
+loop-from-preserved c =
+    let a = c.args in
+    let rows = c.deref-row-items.result.now in
+    let k = c.loop-row.row-index in
+    let row = c.row-item.result in
+    let g = row.held.items in
+    let places = c.deref-from-items.result.now in
+    let j = c.loop-from.from-index in
+    let p = get_or places j 0 in
+    let lies = place_inside a.site a.rows.now rows k row places j c.deref-row-items.ensures.value c.requires.inside
+    c.loop-row-test.true c.row-item.is c.deref-from-items.ensures.value c.loop-from-test.true in
+    let puts = closed_ends a.site a.number p a.live.now c.loop-from.found g c.deref-to-items.result.now
+    c.loop-to.to-index c.loop-to.found c.loop-to-test.false c.loop-to.invariant in
+    free_group_more a.site a.number (view a.inner.now) a.live.now c.requires.sets.0 c.requires.sets.1 c.requires.refs
+    c.requires.sets.2 c.window.result c.window.ensures.low c.window.ensures.high c.window.ensures.direction g p
+    c.in_ok-ends.ends c.loop-from.found c.loop-to.found (TakenIn rows k g places j) (TakenIn rows k g places (j + 1))
+    lies.0 c.in_ok-ends.ensures (rw c.deref-to-items.ensures.value at puts)
+    (taken_in_more rows k g places j p c.loop-from-test.true refl) c.loop-from.invariant
+
+pub loop-row-preserved : goal.loop-row-preserved
+loop-row-preserved c = gone_same _ _ _ _ _ _
+    (taken_in_all c.deref-row-items.result.now c.loop-row.row-index c.row-item.result c.deref-from-items.result.now
+    c.loop-from.from-index c.loop-row-test.true c.row-item.is c.deref-from-items.ensures.value c.loop-from-test.false)
+    c.loop-from.invariant
+
+pub returns : goal.returns
+returns c =
+    let tree = group c.args.number (view c.args.inner.now) in
+    gone_last c.args.site (Does c.args.site.text.now tree) (reads tree) c.args.live.now c.args.rows.now c.loop-row.found
+    c.deref-row-items.result.now c.loop-row.row-index c.deref-row-items.ensures.value c.loop-row-test.false
+    c.loop-row.invariant

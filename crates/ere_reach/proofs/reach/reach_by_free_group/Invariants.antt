@@ -1,0 +1,20 @@
+use Rattle.std.proofs.Common.{[]}
+use Rattle.ere_tree.specs.View.{view}
+use Rattle.ere_reach.proofs.GroupLemmas.{ClosesSoFar}
+use Rattle.ere_reach.proofs.KeepsLemmas.{ClosedSoFar}
+use Rattle.ere_reach.proofs.TakenLemmas.{Taken, TakenIn}
+use Rattle.ere_reach.proofs.reach.reach_by_free_group.Given as goal
+
+abbrev pub invariant-loop-to : goal.invariant-loop-to
+invariant-loop-to l =
+    ClosedSoFar l.site l.number l.from l.live l.initial.found
+    (TakenIn [] 0 l.row.held.items l.to-items l.to-index) l.found
+
+abbrev pub invariant-loop-from : goal.invariant-loop-from
+invariant-loop-from l =
+    ClosesSoFar l.site l.number (view l.inner) l.live
+    (TakenIn l.row-items l.row-index l.row.held.items l.from-items l.from-index) l.found
+
+abbrev pub invariant-loop-row : goal.invariant-loop-row
+invariant-loop-row l =
+    ClosesSoFar l.site l.number (view l.inner) l.live (Taken l.row-items l.row-index) l.found

@@ -1,0 +1,6 @@
+pub mod Held
+pub mod Leads
+pub mod Live
+pub mod Moving
+pub mod Refers
+pub mod Rows

@@ -1,0 +1,499 @@
+//! The rows to which an expression leads from some rows.
+ghost use Rattle.std.specs.Prelude.{◌≡◌, ℕ, ◌+◌, ◌-◌, ◌≤◌, false, map, List, [], ◌∷◌, IfOk, IsTrue, OnOk};
+ghost use Rattle.ere_reach.specs.Leads.{Enters, FitsText, LeadsFurther, LeadsUpTo, LeadsOver, LeadsThrough, IsClosed, MayHave, PutsBeyond, PutsClosed, KeepsRows, StandsAt};
+ghost use Rattle.ere_reach.specs.Live.{HasRead, reads};
+ghost use Rattle.ere_reach.specs.Moving.{sets_one};
+ghost use Rattle.ere_reach.specs.Refers.{IsWithout};
+ghost use Rattle.ere_reach.specs.Rows.{AreInside, IsPut};
+ghost use Rattle.ere_tree.specs.Shape.{has_refs};
+ghost use Rattle.ere_tree.specs.Tree.{alt, back, group, repeat, trees_of};
+ghost use Rattle.ere_tree.specs.View.{view};
+
+use crate::budget::Budget;
+use crate::closing::closed_over;
+use crate::held::{Held, keep_with, kept, part_of};
+use crate::live::{live_before, live_between, live_of, lives_from, without};
+use crate::moving::{has_byte, refers_or_sets, sets_one};
+use crate::rows::Rows;
+use crate::site::Site;
+use ere_places::image;
+use ere_tree::{Cap, Ere};
+use std::alloc::AllocError;
+
+/// By an expression without references and groups that are read.
+fn reach_freely(
+    site: Site<'_>,
+    ere: &Ere,
+    rows: &Rows,
+    live: &[u32],
+    budget: &mut Budget,
+) -> Result<Rows, AllocError>
+    requires fits { FitsText site }
+    requires inside { AreInside site.low site.high rows.now }
+    requires refs { has_refs (view ere.now) ≡ false }
+    requires sets { sets_one (view ere.now) live.now ≡ false }
+    ensures { IfOk result (LeadsOver site.entry (view ere.now) live.now rows.now) }
+{
+    let mut found = Rows::new(site.alloc, site.low);
+    for row in &rows.rows {
+        let ends = image(
+            site.alloc,
+            ere,
+            site.text,
+            site.window(),
+            row.places.as_slice(),
+        )?;
+        let held = kept(site.alloc, row.held.as_slice(), live)?;
+        budget.take(row.places.len())?;
+        found.put(held.as_slice(), ends.as_slice(), budget)?;
+    }
+    Ok(found)
+}
+
+/// By parts one behind the other.
+#[cycle(reach)]
+fn reach_through(
+    site: Site<'_>,
+    parts: &[Ere],
+    rows: &Rows,
+    live: &[u32],
+    budget: &mut Budget,
+) -> Result<Rows, AllocError>
+    requires fits { FitsText site }
+    requires inside { AreInside site.low site.high rows.now }
+    ensures { IfOk result (LeadsThrough site.entry (trees_of (map view parts.now)) live.now rows.now) }
+{
+    if parts.is_empty() {
+        let mut same = Rows::new(site.alloc, site.low);
+        same.join(rows, budget)?;
+        return Ok(same);
+    }
+    let last = parts.len() - 1;
+    let lives = lives_from(site.alloc, parts.split_at(1).1, live)?;
+    let behind = live_of(lives.as_slice(), last, live);
+    let mut now = reach(site, &parts[0], rows, behind, budget)?;
+    for index in 1..parts.len() {
+        let behind = live_of(lives.as_slice(), last - index, live);
+        let next = reach(site, &parts[index], &now, behind, budget)?;
+        budget.release(now.len());
+        now = next;
+    }
+    Ok(now)
+}
+
+/// The same rows with only those groups that are read.
+fn with_kept(
+    site: Site<'_>,
+    rows: &Rows,
+    live: &[u32],
+    budget: &mut Budget,
+) -> Result<Rows, AllocError>
+    ensures { IfOk result (KeepsRows site.entry live.now rows.now) }
+{
+    let mut found = Rows::new(site.alloc, site.low);
+    for row in &rows.rows {
+        let held = kept(site.alloc, row.held.as_slice(), live)?;
+        found.put(held.as_slice(), row.places.as_slice(), budget)?;
+    }
+    Ok(found)
+}
+
+/// By one of the alternatives.
+#[cycle(reach)]
+fn reach_by_one(
+    site: Site<'_>,
+    choices: &[Ere],
+    rows: &Rows,
+    live: &[u32],
+    budget: &mut Budget,
+) -> Result<Rows, AllocError>
+    requires fits { FitsText site }
+    requires inside { AreInside site.low site.high rows.now }
+    ensures { IfOk result (LeadsOver site.entry (alt (trees_of (map view choices.now))) live.now rows.now) }
+{
+    let mut all = Rows::new(site.alloc, site.low);
+    for one in choices {
+        let found = reach(site, one, rows, live, budget)?;
+        all.join(&found, budget)?;
+        budget.release(found.len());
+    }
+    Ok(all)
+}
+
+/// By one member that isn't empty; an empty one that changes nothing may count as one.
+#[cycle(reach)]
+fn reach_by_further(
+    site: Site<'_>,
+    inner: &Ere,
+    rows: &Rows,
+    live: &[u32],
+    budget: &mut Budget,
+) -> Result<Rows, AllocError>
+    requires fits { FitsText site }
+    requires inside { AreInside site.low site.high rows.now }
+    ensures { IfOk result (LeadsFurther site.entry (view inner.now) live.now rows.now) }
+{
+    if has_byte(inner) || !sets_one(inner, live) {
+        return reach(site, inner, rows, live, budget);
+    }
+    let mut all = Rows::new(site.alloc, site.low);
+    for row in &rows.rows {
+        for place in &row.places {
+            let mut one = Rows::new(site.alloc, site.low);
+            one.put(row.held.as_slice(), &[*place], budget)?;
+            let found = reach(site, inner, &one, live, budget)?;
+            put_beyond(*place, &found, &mut all, budget)?;
+            budget.release(found.len() + 1);
+        }
+    }
+    Ok(all)
+}
+
+/// Adds the places of rows that lie beyond one.
+fn put_beyond(
+    place: usize,
+    rows: &Rows,
+    all: &mut Rows,
+    budget: &mut Budget,
+) -> Result<(), AllocError>
+    ensures { OnOk result (PutsBeyond place rows.now all.old all.new) }
+{
+    for row in &rows.rows {
+        for end in &row.places {
+            if *end > place {
+                all.put(row.held.as_slice(), &[*end], budget)?;
+            }
+        }
+    }
+    Ok(())
+}
+
+/// Enters rows by what is read, and gives those that weren't entered before. Where all that lives is read, no two would be
+/// one, and they are given as they are.
+fn enter(
+    site: Site<'_>,
+    rows: Rows,
+    read: &[u32],
+    live: &[u32],
+    entered: &mut Rows,
+    budget: &mut Budget,
+) -> Result<Rows, AllocError>
+    ensures { IfOk result (Enters read.now rows entered.old entered.new) }
+{
+    if read.len() >= live.len() {
+        return Ok(rows);
+    }
+    for row in &rows.rows {
+        let held = kept(site.alloc, row.held.as_slice(), read)?;
+        entered.put(held.as_slice(), row.places.as_slice(), budget)?;
+    }
+    let found = entered.fresh(budget)?;
+    budget.release(rows.len());
+    Ok(found)
+}
+
+/// By up to so many members that aren't empty. States that tell the same of what is read are entered once.
+#[cycle(reach)]
+fn reach_by_members(
+    site: Site<'_>,
+    inner: &Ere,
+    most: usize,
+    rows: &Rows,
+    live: &[u32],
+    budget: &mut Budget,
+) -> Result<Rows, AllocError>
+    requires fits { FitsText site }
+    requires inside { AreInside site.low site.high rows.now }
+    requires read { HasRead (reads (view inner.now)) live.now live.now }
+    ensures { IfOk result (LeadsUpTo site.entry (view inner.now) most live.now rows.now) }
+{
+    let read = live_before(site.alloc, inner, live)?;
+    let mut entered = Rows::new(site.alloc, site.low);
+    let mut all = Rows::new(site.alloc, site.low);
+    all.join(rows, budget)?;
+    for _ in 0..most {
+        let fresh = all.fresh(budget)?;
+        if fresh.len() == 0 {
+            budget.release(entered.len());
+            return Ok(all);
+        }
+        let first = enter(site, fresh, read.as_slice(), live, &mut entered, budget)?;
+        let next = reach_by_further(site, inner, &first, live, budget)?;
+        all.join(&next, budget)?;
+        budget.release(first.len());
+        budget.release(next.len());
+    }
+    budget.release(entered.len());
+    Ok(all)
+}
+
+/// How many members more than `least` a repeat may have in a window so wide. None where it can have none at all.
+fn further_members(least: u32, most: Option<u32>, width: usize) -> Option<usize>
+    ensures { MayHave least most width result }
+{
+    match most {
+        None => Some(width),
+        Some(most) if most < least => None,
+        Some(most) => Some((most - least) as usize),
+    }
+}
+
+/// By a repeat.
+#[cycle(reach)]
+fn reach_by_repeat(
+    site: Site<'_>,
+    inner: &Ere,
+    least: u32,
+    most: Option<u32>,
+    rows: &Rows,
+    live: &[u32],
+    budget: &mut Budget,
+) -> Result<Rows, AllocError>
+    requires fits { FitsText site }
+    requires inside { AreInside site.low site.high rows.now }
+    ensures { IfOk result (LeadsOver site.entry (repeat (view inner.now) least most) live.now rows.now) }
+{
+    let Some(more) = further_members(least, most, site.high.saturating_sub(site.low)) else {
+        return Ok(Rows::new(site.alloc, site.low));
+    };
+    let between = live_between(site.alloc, inner, live)?;
+    if least == 0 {
+        let all = reach_by_members(site, inner, more, rows, between.as_slice(), budget)?;
+        let found = with_kept(site, &all, live, budget)?;
+        budget.release(all.len());
+        return Ok(found);
+    }
+    let mut now = reach(site, inner, rows, between.as_slice(), budget)?;
+    for _ in 1..least {
+        let next = reach(site, inner, &now, between.as_slice(), budget)?;
+        budget.release(now.len());
+        now = next;
+    }
+    let all = reach_by_members(site, inner, more, &now, between.as_slice(), budget)?;
+    let found = with_kept(site, &all, live, budget)?;
+    budget.release(now.len());
+    budget.release(all.len());
+    Ok(found)
+}
+
+/// A group that is closed from a place on, and the groups that are read behind it.
+#[derive(Clone, Copy)]
+struct Closing<'t> {
+    site: Site<'t>,
+    number: u32,
+    from: usize,
+    live: &'t [u32],
+}
+
+/// Adds one end of what a group holds. What is held there is left in the list.
+fn put_end(
+    closing: Closing<'_>,
+    held: &[Held],
+    to: usize,
+    list: &mut Vec<Held>,
+    found: &mut Rows,
+    budget: &mut Budget,
+) -> Result<(), AllocError>
+    requires fits { FitsText closing.site }
+    requires order { closing.from ≤ to }
+    requires inside { to ≤ closing.site.high }
+    ensures closed { OnOk result (IsClosed closing.entry.site closing.entry.number closing.entry.from
+        closing.entry.live.now held.now to list.new.items) }
+    ensures put { OnOk result (IsPut found.old list.new.items (to ∷ []) found.new) }
+{
+    let (site, from) = (closing.site, closing.from);
+    let part = closed_over(site, from, to, budget)?;
+    keep_with(list, held, closing.live, closing.number, part)?;
+    found.put(list.as_slice(), &[to], budget)?;
+    Ok(())
+}
+
+/// Adds the rows behind a group that begins at a place, from those behind what it holds.
+fn put_closed(
+    site: Site<'_>,
+    number: u32,
+    from: usize,
+    inside: &Rows,
+    live: &[u32],
+    found: &mut Rows,
+    budget: &mut Budget,
+) -> Result<(), AllocError>
+    requires fits { FitsText site }
+    ensures { OnOk result (PutsClosed site.entry number from live.now inside.now found.old found.new) }
+{
+    let closing = Closing {
+        site,
+        number,
+        from,
+        live,
+    };
+    let mut list = Vec::new(site.alloc);
+    for row in &inside.rows {
+        for to in &row.places {
+            if from <= *to && *to <= site.high {
+                put_end(closing, row.held.as_slice(), *to, &mut list, found, budget)?;
+            }
+        }
+    }
+    Ok(())
+}
+
+/// By a group that is read, where what it holds has no reference and sets no other group that is read.
+fn reach_by_free_group(
+    site: Site<'_>,
+    number: u32,
+    inner: &Ere,
+    rows: &Rows,
+    live: &[u32],
+    budget: &mut Budget,
+) -> Result<Rows, AllocError>
+    requires fits { FitsText site }
+    requires inside { AreInside site.low site.high rows.now }
+    requires refs { has_refs (view inner.now) ≡ false }
+    requires sets { (others : List ℕ) × IsWithout number live.now others × (sets_one (view inner.now) others ≡ false) }
+    ensures { IfOk result (LeadsOver site.entry (group number (view inner.now)) live.now rows.now) }
+{
+    let mut found = Rows::new(site.alloc, site.low);
+    let mut list = Vec::new(site.alloc);
+    for row in &rows.rows {
+        for from in &row.places {
+            let ends = image(site.alloc, inner, site.text, site.window(), &[*from])?;
+            budget.take(ends.len().saturating_add(1))?;
+            let closing = Closing {
+                site,
+                number,
+                from: *from,
+                live,
+            };
+            let held = row.held.as_slice();
+            for to in &ends {
+                if *from <= *to && *to <= site.high {
+                    put_end(closing, held, *to, &mut list, &mut found, budget)?;
+                }
+            }
+        }
+    }
+    Ok(found)
+}
+
+/// By a group.
+#[cycle(reach)]
+fn reach_by_group(
+    site: Site<'_>,
+    number: u32,
+    inner: &Ere,
+    rows: &Rows,
+    live: &[u32],
+    budget: &mut Budget,
+) -> Result<Rows, AllocError>
+    requires fits { FitsText site }
+    requires inside { AreInside site.low site.high rows.now }
+    ensures { IfOk result (LeadsOver site.entry (group number (view inner.now)) live.now rows.now) }
+{
+    if !live.contains(&number) {
+        return reach(site, inner, rows, live, budget);
+    }
+    let others = without(site.alloc, live, number)?;
+    let read = live_before(site.alloc, inner, others.as_slice())?;
+    let starts = with_kept(site, rows, read.as_slice(), budget)?;
+    if !refers_or_sets(inner, others.as_slice()) {
+        let found = reach_by_free_group(site, number, inner, &starts, live, budget)?;
+        budget.release(starts.len());
+        return Ok(found);
+    }
+    let mut found = Rows::new(site.alloc, site.low);
+    for row in &starts.rows {
+        for from in &row.places {
+            let mut one = Rows::new(site.alloc, site.low);
+            one.put(row.held.as_slice(), &[*from], budget)?;
+            let inside = reach(site, inner, &one, others.as_slice(), budget)?;
+            put_closed(site, number, *from, &inside, live, &mut found, budget)?;
+            budget.release(inside.len() + 1);
+        }
+    }
+    budget.release(starts.len());
+    Ok(found)
+}
+
+/// Whether what a group holds stands at a place.
+fn stands_at(site: Site<'_>, place: usize, part: Cap, fold: bool) -> bool
+    requires { FitsText site }
+    ensures stands { StandsAt site.entry place part fold result }
+    ensures inside { IsTrue result → place + (part.to - part.from) ≤ site.entry.high }
+{
+    let count = part.to.saturating_sub(part.from);
+    if place > site.high || count > site.high - place || part.to > site.text.len() {
+        return false;
+    }
+    let (one, other) = (
+        &site.text[place..place + count],
+        &site.text[part.to - count..part.to],
+    );
+    if fold {
+        one.eq_ignore_ascii_case(other)
+    } else {
+        one == other
+    }
+}
+
+/// By a reference.
+fn reach_by_reference(
+    site: Site<'_>,
+    number: u32,
+    fold: bool,
+    rows: &Rows,
+    live: &[u32],
+    budget: &mut Budget,
+) -> Result<Rows, AllocError>
+    requires fits { FitsText site }
+    requires inside { AreInside site.low site.high rows.now }
+    ensures { IfOk result (LeadsOver site.entry (back number fold) live.now rows.now) }
+{
+    let mut found = Rows::new(site.alloc, site.low);
+    for row in &rows.rows {
+        if let Some(part) = part_of(row.held.as_slice(), number) {
+            let held = kept(site.alloc, row.held.as_slice(), live)?;
+            for place in &row.places {
+                if stands_at(site, *place, part, fold) {
+                    let end = *place + part.to.saturating_sub(part.from);
+                    found.put(held.as_slice(), &[end], budget)?;
+                }
+            }
+        }
+    }
+    Ok(found)
+}
+
+/// The rows to which the expression leads from these, where those groups are read behind it.
+#[cycle(reach)]
+pub(crate) fn reach(
+    site: Site<'_>,
+    ere: &Ere,
+    rows: &Rows,
+    live: &[u32],
+    budget: &mut Budget,
+) -> Result<Rows, AllocError>
+    requires fits { FitsText site }
+    requires inside { AreInside site.low site.high rows.now }
+    ensures { IfOk result (LeadsOver site.entry (view ere.now) live.now rows.now) }
+{
+    if rows.len() == 0 {
+        return Ok(Rows::new(site.alloc, site.low));
+    }
+    if !refers_or_sets(ere, live) {
+        return reach_freely(site, ere, rows, live, budget);
+    }
+    match ere {
+        Ere::Cat(parts) => reach_through(site, parts.as_slice(), rows, live, budget),
+        Ere::Alt(choices) => reach_by_one(site, choices.as_slice(), rows, live, budget),
+        Ere::Repeat { inner, least, most } => {
+            reach_by_repeat(site, inner, *least, *most, rows, live, budget)
+        }
+        Ere::Group { number, inner } => { reach_by_group(site, *number, inner, rows, live, budget) }
+        Ere::Ref { number, fold } => {
+            reach_by_reference(site, *number, *fold, rows, live, budget)
+        }
+        Ere::Empty | Ere::Plain(_) | Ere::Set(_) => reach_freely(site, ere, rows, live, budget),
+        Ere::LineStart | Ere::LineEnd => reach_freely(site, ere, rows, live, budget),
+    }
+}
