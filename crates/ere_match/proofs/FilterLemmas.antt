@@ -1,14 +1,13 @@
 -- Where a hit may lie, as the span of an expression without references tells that spans whatever this one spans.
 -- Where that one spans nothing from a place on, this one has no hit there; each try leaves fewer places.
--- `may_lie` is the hard one: the hit begins at the span's start or behind it.
+-- `lies_from` is the hard one: the hit begins at the span's start or behind it.
 use Rattle.std.proofs.Common.{◌≡◌, ℕ, ◌+◌, ◌-◌, ◌≤◌, ◌<◌, Option, Some, None, IfSome, List, drop, length, sym, subst, inl, inr, arith}
 use Rattle.std.proofs.lemmas.Bool.{cases_lt}
 use Rattle.std.specs.FinMap.{empty}
 use Rattle.ere_auto.specs.Span.{IsSpan}
 use Rattle.ere_match.specs.Begins.{NoneBefore}
-use Rattle.ere_match.specs.Filter.{MayLie}
+use Rattle.ere_match.specs.Filter.{LiesFrom, MayLie}
 use Rattle.ere_match.specs.Shown.{ShownFor}
-use Rattle.ere_match.proofs.ShownLemmas.{spans_within}
 use Rattle.ere_refs.specs.Over.{IsBestTo, TellsBest}
 use Rattle.ere_refs.specs.declared.trying.Found.{Found}
 use Rattle.ere_relaxed.specs.Relaxed.{AreBytes, SpansAll}
@@ -27,22 +26,30 @@ no_hit_behind s t place none past h k v d shows =
     let lies = is_part s t v h k empty d shows in
     none h k v d (omega (arith, lies.0, lies.1, past)) shows
 
-pub may_lie : (s : List ℕ) (t u : Tree) (place : ℕ) (found : Option Cap) → AreBytes s → SpansAll t u
-    → HasNoHitBefore s t place → IsSpan s u place found → MayLie s t found
-may_lie s t u place None bytes spans before span = λ h k v d shows. elim (cases_lt h place) [
-  | inl low ↦ before h k v d low shows
-  | inr high ↦ span h k high (spans s v h k d bytes shows)
-]
-may_lie s t u place (Some cap) bytes spans before span =
-    let (w, c, d, shows) = span.0.matches in
-    let lies = is_part s u w cap.from cap.to c d shows in (
-      λ h k v e low other. elim (cases_lt h place) [
-        | inl early ↦ before h k v e early other
-        | inr late ↦ span.0.leftmost h k late low (spans s v h k e bytes other)
-      ],
-      lies,
+pub lies_from : (s : List ℕ) (t u : Tree) (place : ℕ) (found : Option Cap) → AreBytes s → SpansAll t u
+    → IsSpan s u place found → LiesFrom s t place found
+lies_from s t u place None bytes spans span = λ h k v d high shows. span h k high (spans s v h k d bytes shows)
+lies_from s t u place (Some cap) bytes spans span =
+    let (w, c, d, shows) = span.0.matches in (
+      λ h k v e high low other. span.0.leftmost h k high low (spans s v h k e bytes other),
+      is_part s u w cap.from cap.to c d shows,
       λ k v e other. span.0.longest k (spans s v cap.from k e bytes other),
     )
+
+pub may_lie : (s : List ℕ) (t : Tree) (place : ℕ) (found : Option Cap) → HasNoHitBefore s t place → LiesFrom s t place found
+    → MayLie s t found
+may_lie s t place None before lies = λ h k v d shows. elim (cases_lt h place) [
+  | inl low ↦ before h k v d low shows
+  | inr high ↦ lies h k v d high shows
+]
+may_lie s t place (Some cap) before lies = (
+  λ h k v d low shows. elim (cases_lt h place) [
+    | inl early ↦ before h k v d early shows
+    | inr late ↦ lies.0 h k v d late low shows
+  ],
+  lies.1,
+  lies.2,
+)
 
 -- at most all was shown
 pub shown_most : (count shown : ℕ) (found : Option Cap) → ShownFor count found shown → shown ≤ count + 1
@@ -55,11 +62,11 @@ left_of count None = 0
 left_of count (Some span) = count + 1 - span.from
 
 -- each try leaves less
-pub fewer : (count : ℕ) (span : Cap) (old found : Option Cap) → old ≡ Some span → span.from ≤ count
-    → IfSome found (λ next. span.from < next.from) → left_of count found < left_of count old
-fewer count span old None is low later = subst (λ o. 0 < left_of count o) (sym is) (omega arith)
-fewer count span old (Some next) is low later =
-    subst (λ o. count + 1 - next.from < left_of count o) (sym is) (omega (arith, later))
+pub fewer : (count : ℕ) (span : Cap) (last : ℕ) (old found : Option Cap) → old ≡ Some span → span.from ≤ count
+    → span.from ≤ last → IfSome found (λ next. last < next.from) → left_of count found < left_of count old
+fewer count span last old None is low on later = subst (λ o. 0 < left_of count o) (sym is) (omega arith)
+fewer count span last old (Some next) is low on later =
+    subst (λ o. count + 1 - next.from < left_of count o) (sym is) (omega (arith, on, later))
 
 pub starts_behind : (s : List ℕ) (u : Tree) (place : ℕ) (found : Option Cap) → IsSpan s u (place + 1) found
     → IfSome found (λ span. place < span.from)

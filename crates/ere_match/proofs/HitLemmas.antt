@@ -1,5 +1,5 @@
 -- The hit of a slice: the leftmost longest span with the captures of its best way.
-use Rattle.std.proofs.Common.{◌≡◌, ℕ, ◌+◌, ◌-◌, ◌<◌, Option, List, drop, length, subst, arith}
+use Rattle.std.proofs.Common.{◌≡◌, ℕ, ◌+◌, ◌-◌, Option, List, drop, subst, arith}
 use Rattle.std.specs.FinMap.{empty}
 use Rattle.ere_tree.specs.Derivation.{Derives, Spans}
 use Rattle.ere_tree.specs.Hit.{IsHit, HasNoHit, TellsHit}

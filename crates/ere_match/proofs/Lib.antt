@@ -3,3 +3,5 @@ pub mod FilterLemmas
 pub mod NewlineLemmas
 pub mod ShownLemmas
 mod HitLemmas
+mod HitSpanLemmas
+mod StartsLemmas

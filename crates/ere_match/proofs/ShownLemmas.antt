@@ -1,7 +1,7 @@
 -- How far an automaton was shown a slice when its answer was known, and what the answer says of the slice.
 -- Early, where the span can get no longer; at the end otherwise. Places before the first shown one begin no match.
 -- The hard one is `span_from_start`, that the span found from a later start is that of the slice.
-use Rattle.std.proofs.Common.{◌≡◌, ℕ, ◌+◌, ◌<◌, ◌≤◌, Option, Some, None, List, length, take, refl, sym, subst, inl, inr, arith, IsSome, take_all, true≢false}
+use Rattle.std.proofs.Common.{◌≡◌, ℕ, ◌+◌, ◌≤◌, Option, Some, None, List, length, take, refl, sym, subst, inl, inr, arith, IsSome, take_all, true≢false}
 use Rattle.ere_tree.specs.declared.hit.Cap.{Cap}
 use Rattle.std.proofs.lemmas.Bool.{cases_lt}
 use Rattle.ere_match.specs.Begins.{NoneBefore}

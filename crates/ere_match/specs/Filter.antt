@@ -4,6 +4,9 @@
 use Rattle.std.specs.Prelude.{ℕ, ◌+◌, ◌<◌, ◌≤◌, Option, Some, None, IfSome, MatchOption, List, length, drop}
 use Rattle.std.specs.FinMap.{empty}
 use Rattle.ere_auto.specs.Seen.{State, IsFor}
+use Rattle.ere_match.specs.Spans.{LiesAt}
+use Rattle.ere_match.specs.declared.filter.Asked.{Asked}
+use Rattle.ere_match.specs.declared.filter.Asked.TheVariants.{Groups, Span}
 use Rattle.ere_relaxed.specs.Relaxed.{SpansAll}
 use Rattle.ere_slow.specs.Slow.{HasNoHitBefore}
 use Rattle.ere_tree.specs.Captures.{Captures}
@@ -35,9 +38,18 @@ FiltersAll a free = (t : Tree) → SpansAll t free → IsFilter a t
 abbrev pub StaysFilter : State → State → Type 0
 StaysFilter a b = (t : Tree) → IsFilter a t → IsFilter b t
 
--- where the automaton is a filter for a tree with no hit before the place, a hit may lie there
+-- From the place on the tree derives nothing that begins before the span, and nothing that begins where it does and ends behind
+-- it. Without a span it derives nothing there.
+abbrev pub LiesFrom : List ℕ → Tree → ℕ → Option Cap → Type 0
+LiesFrom s t place None = (h k : ℕ) (v : Way) (d : Captures) → place ≤ h → Derives s t v h k empty d → ⊥
+LiesFrom s t place (Some span) =
+    ((h k : ℕ) (v : Way) (d : Captures) → place ≤ h → h < span.from → Derives s t v h k empty d → ⊥)
+    × IsPart s span.from span.to
+    × ((k : ℕ) (v : Way) (d : Captures) → Derives s t v span.from k empty d → k ≤ span.to)
+
+-- where the automaton is a filter for a tree, this is where a hit may lie from the place on
 abbrev pub TellsFrom : State → List ℕ → ℕ → Option Cap → Type 0
-TellsFrom a s place found = (t : Tree) → IsFilter a t → HasNoHitBefore s t place → MayLie s t found
+TellsFrom a s place found = (t : Tree) → IsFilter a t → LiesFrom s t place found
 
 -- where it is a filter, the span begins behind the place
 abbrev pub LiesBehind : State → ℕ → Option Cap → Type 0
@@ -51,3 +63,17 @@ CountsOnce a s old new = (t : Tree) → IsFilter a t → new ≤ old + length s 
 abbrev pub TellsHitAt : List ℕ → Tree → ℕ → ℕ → Option Hit → Type 0
 TellsHitAt text t from place found =
     MatchOption found (HasNoHitBefore (drop from text) t (place + 1)) (TellsHit text t from)
+
+-- what is told of the hit where this is asked
+abbrev pub TellsAsked : Asked → List ℕ → Tree → ℕ → Hit → Type 0
+TellsAsked Groups text t from told = TellsHit text t from told
+TellsAsked Span text t from told = LiesAt text t from told.from told.to
+
+-- the same of a search
+abbrev pub FindsAsked : Asked → List ℕ → Tree → ℕ → Option Hit → Type 0
+FindsAsked what text t from found = MatchOption found (HasNoHit (drop from text) t) (TellsAsked what text t from)
+
+-- and of a try: the hit that begins at a place of the slice, where there is none before that place
+abbrev pub TellsAskedAt : Asked → List ℕ → Tree → ℕ → ℕ → Option Hit → Type 0
+TellsAskedAt what text t from place found =
+    MatchOption found (HasNoHitBefore (drop from text) t (place + 1)) (TellsAsked what text t from)

@@ -1,3 +1,5 @@
 pub mod Begins
 pub mod Filter
 pub mod Shown
+pub mod Spans
+pub mod Starts

@@ -33,5 +33,5 @@ abbrev pub IsShown : State → State → List ℕ → Type 0
 IsShown a b front = (t : Tree) → HasSeen a t [] → HasSeen b t front
 
 -- of whatever tree it was shown nothing, its span was found
-abbrev pub FindsSpan : State → List ℕ → Option Cap → ℕ → Type 0
-FindsSpan a s found shown = (t : Tree) → HasSeen a t [] → Finds s t a.begin found shown
+abbrev pub SpanIsFound : State → List ℕ → Option Cap → ℕ → Type 0
+SpanIsFound a s found shown = (t : Tree) → HasSeen a t [] → Finds s t a.begin found shown

@@ -6,8 +6,9 @@ ghost use Rattle.ere_tree.specs.View.{view};
 ghost use Rattle.ere_auto.specs.Seen.{IsFor};
 ghost use Rattle.ere_auto.specs.State.{state_of};
 ghost use Rattle.ere_match.specs.Shown.{Finds, ShownToFind};
+ghost use Rattle.ere_match.specs.Spans.{FindsSpan};
 
-use crate::filter::find_filtered;
+use crate::filter::{Asked, find_filtered};
 use crate::literal::earliest;
 use crate::span::{find_span, wait_through};
 use ere_auto::{Auto, Steps};
@@ -115,8 +116,41 @@ pub fn find<L: Ledger>(
     ensures counted { steps.old ≤ steps.new }
 {
     if ere.has_refs() {
-        return find_filtered(alloc, ere, text, from, steps);
+        return find_filtered(alloc, ere, text, from, Asked::Groups, steps);
     }
     let mut search = Search::new(alloc, ere)?;
     search.find(alloc, ere, text, from, steps)
+}
+
+/// Where the hit of the expression lies in the slice from `from` to the text's end, with offsets of the text. What its
+/// groups hold isn't asked for, so with references this takes far less than `find`.
+pub fn hit_span<L: Ledger>(
+    alloc: Global,
+    ere: &Ere,
+    text: &[u8],
+    from: usize,
+    steps: &mut Steps<L>,
+) -> Result<Option<Cap>, NoMemory>
+    requires inside { from ≤ length text.now }
+    ensures span { IfOk result (FindsSpan text.now (view ere.now) from) }
+    ensures most { steps.new ≤ steps.old + (length text.now - from) + 1 }
+    ensures counted { steps.old ≤ steps.new }
+{
+    if ere.has_refs() {
+        return match find_filtered(alloc, ere, text, from, Asked::Span, steps)? {
+            None => Ok(None),
+            Some(hit) => Ok(Some(Cap {
+                from: hit.from,
+                to: hit.to,
+            })),
+        };
+    }
+    let mut search = Search::new(alloc, ere)?;
+    match search.span(ere, text, from, steps) {
+        None => Ok(None),
+        Some(span) => Ok(Some(Cap {
+            from: from + span.from,
+            to: from + span.to,
+        })),
+    }
 }

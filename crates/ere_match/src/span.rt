@@ -3,7 +3,7 @@ ghost use Rattle.std.specs.Prelude.{◌≡◌, ℕ, ◌<◌, ◌≤◌, ◌+◌,
 ghost use Rattle.ere_tree.specs.Tree.{Tree};
 ghost use Rattle.ere_auto.specs.Seen.{HasSeen, IsFor};
 ghost use Rattle.ere_auto.specs.State.{state_of};
-ghost use Rattle.ere_match.specs.Shown.{FindsSpan, IsShown};
+ghost use Rattle.ere_match.specs.Shown.{IsShown, SpanIsFound};
 
 use ere_auto::{Auto, Steps};
 use ere_tree::Cap;
@@ -34,7 +34,7 @@ pub(crate) fn wait_through<L: Ledger>(
 /// Shows a slice to an automaton that was shown nothing yet, as far as it wants.
 pub fn find_span<L: Ledger>(automaton: &mut Auto, slice: &[u8], steps: &mut Steps<L>) -> Option<Cap>
     requires { automaton.old.at ≡ 0 }
-    ensures found { FindsSpan (state_of automaton.old) slice.now result (steps.new - steps.old) }
+    ensures found { SpanIsFound (state_of automaton.old) slice.now result (steps.new - steps.old) }
     ensures expression { (t : Tree) → HasSeen (state_of automaton.old) t [] → IsFor (state_of automaton.new) t }
     ensures counted { steps.old ≤ steps.new }
 {

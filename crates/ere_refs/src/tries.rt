@@ -25,6 +25,22 @@ impl Tries {
         }
     }
 
+    /// Up to so many of those that are left. They are taken away.
+    pub fn part(&mut self, most: usize) -> Tries {
+        let count = self.left.min(most);
+        self.left -= count;
+        Tries {
+            alloc: self.alloc,
+            left: count,
+            free: MAX_KEPT,
+        }
+    }
+
+    /// What is left of a part of them is put back.
+    pub fn join(&mut self, part: Tries) {
+        self.left = self.left.saturating_add(part.left);
+    }
+
     /// The memory that tries are made in.
     pub fn memory(&self) -> Global {
         self.alloc

@@ -1,7 +1,7 @@
 -- A number that defines no name and has a value adds its printed bytes alone, and none of its names lacks a value.
 -- By induction over the expression: where a whole has a value each of its sides has one.
 -- The hard one is `both_have`, that both sides of an operation with a value have one.
-use Rattle.std.proofs.Common.{◌≡◌, ℕ, ℤ, Bool, false, is_some, cond, Option, Some, None, List, ◌∷◌, Result, Ok, Err, refl, ◌∙◌}
+use Rattle.std.proofs.Common.{◌≡◌, ℕ, ℤ, Bool, false, is_some, Option, Some, None, List, ◌∷◌, Result, Ok, Err, refl, ◌∙◌}
 use Rattle.std.specs.Prelude.{if◌then◌else◌}
 use Rattle.std.proofs.lemmas.Option.{none-some}
 use Rattle.ere_tree.specs.Tree as tree

@@ -6,6 +6,7 @@ use Rattle.std.specs.FinMap.{FinMap}
 use Rattle.ere_hit.proofs.ValueLemmas.{value_is_hit, value_is_one, value_lies}
 use Rattle.ere_hit.specs.Value.{Alike, IsSame, LiesIn, hit_in}
 use Rattle.ere_match.specs.Shown.{ShownForHit}
+use Rattle.ere_match.specs.Spans.{FindsSpan}
 use Rattle.ere_tree.specs.Hit.{FindsHit}
 use Rattle.ere_tree.specs.Shape.{has_refs}
 use Rattle.ere_tree.specs.Tree.{Tree, cat, plain, then, none}
@@ -30,7 +31,7 @@ use Rattle.pattern_scan.specs.declared.means.Means.{Means}
 use Rattle.pattern_scan.specs.declared.ready.Ready.{Ready}
 use Rattle.pattern_scan.specs.Seek.{IsPlain, IsShown, IsWithin, answer_of, answered, is_expressed, refusal_of, sought, sought_of}
 use Rattle.pattern_scan.specs.declared.sought.Sought.{Sought}
-use Rattle.pattern_scan.specs.declared.sought.Sought.TheVariants.{Found}
+use Rattle.pattern_scan.specs.declared.sought.Sought.TheVariants.{Absent, Found}
 use Rattle.pattern_vars.specs.declared.binding.Binding.{Binding}
 use Rattle.pattern_vars.specs.declared.vars.Held.{Held}
 use Rattle.tt_base.specs.Place.{span_of}
@@ -171,6 +172,20 @@ pub made_shown : (expressed : Bool) (text : List ℕ) (from : ℕ) (i : Instance
 made_shown expressed text from i shown t gifts hit r is finds least =
     always r (subst (λ one. IsShown expressed text from one shown) is
     (λ yes no_refs. hit_shown text from t hit (length text - from) shown finds (least yes no_refs)))
+
+-- WHERE NOTHING IS ASKED OF GROUPS
+
+-- the answer of a span
+abbrev pub spanned : Option Cap → Sought
+spanned None = Absent
+spanned (Some span) = Found (span_of span.from (span.to - span.from)) []
+
+-- where the span of the hit is told, its answer is that of the value
+pub span_sought : (fold : Bool) (text : List ℕ) (from : ℕ) (t : Tree) (span : Option Cap) → FindsSpan text t from span
+    → spanned span ≡ answer_of fold text [] (hit_in text t from)
+span_sought fold text from t None told = hit_sought fold text from t [] None told
+span_sought fold text from t (Some span) told =
+    sym (λ n. Found (span_of (told.2 n) (told.3 n - told.2 n)) []) ∙ hit_sought fold text from t [] (Some told.0) told.1
 
 -- ONE PIECE OF PLAIN TEXT
 

@@ -3,6 +3,7 @@ ghost use Rattle.std.specs.Prelude.{◌≡◌, ◌≤◌, ◌+◌, ◌-◌, IfOk
 ghost use Rattle.ere_tree.specs.Hit.{FindsHit};
 ghost use Rattle.ere_tree.specs.View.{view};
 ghost use Rattle.pattern_scan.specs.Means.{IsFor, Shows, ShowsHit};
+ghost use Rattle.pattern_scan.specs.declared.means.Means.TheVariants.{Derivations};
 
 use ere_auto::Steps;
 use ere_match::{Search, find};
@@ -38,6 +39,16 @@ impl Means {
             }
         }
         Ok(Means::Automaton(Search::new(alloc, ere)?))
+    }
+
+    /// Whether its expression is looked for among all its derivations.
+    pub fn is_listed(&self) -> bool
+        ensures { result ≡ true → self.now ≡ Derivations }
+    {
+        match self {
+            Means::Text(_) | Means::Automaton(_) => false,
+            Means::Derivations => true,
+        }
     }
 
     /// The hit of its expression in the slice from `from` to the text's end.

@@ -1,16 +1,21 @@
 //! Patterns that are made ready for the tries of a directive.
-ghost use Rattle.std.specs.Prelude.{◌≡◌, ◌≤◌, ◌+◌, ◌-◌, IfOk, IfSome, OnOk, length};
+ghost use Rattle.std.specs.Prelude.{◌≡◌, ◌≤◌, ◌+◌, ◌-◌, [], Bool, IfOk, IfSome, OnOk, length};
+ghost use Rattle.ere_hit.specs.Value.{hit_in};
+ghost use Rattle.ere_tree.specs.View.{view};
 ghost use Rattle.pattern_hits.specs.Caps.{IsSoundIn};
 ghost use Rattle.pattern_instance.specs.Views.{instance_view};
 ghost use Rattle.pattern_parse.specs.PieceView.{items_view};
 ghost use Rattle.pattern_parse.specs.Search.{IsSearchable};
 ghost use Rattle.pattern_scan.specs.Ready.{IsBuilt, IsReady, IsShownBy, sought_by};
 ghost use Rattle.pattern_scan.specs.Seek.{IsWithin, answer_of, is_expressed, refusal_of};
+ghost use Rattle.pattern_scan.specs.declared.sought.Sought.TheVariants.{Found};
+ghost use Rattle.tt_base.specs.Place.{span_of};
 
 use crate::means::Means;
 use crate::sought::Sought;
 use ere_auto::Steps;
-use ere_tree::Hit;
+use ere_match::hit_span;
+use ere_tree::{Ere, Hit};
 use num_base::EvalFault;
 use pattern_hits::all_bound;
 use pattern_instance::{Gift, Instance, make_instance};
@@ -64,6 +69,36 @@ fn refusal_of(alloc: Global, fault: EvalFault) -> Sought
         EvalFault::Undefined => Sought::UndefinedNames(Items::new(alloc)),
         EvalFault::Range => Sought::Range,
         EvalFault::ZeroDivisor => Sought::ZeroDivisor,
+    }
+}
+
+/// The answer of a match that gives nothing.
+pub(crate) fn found_part(alloc: Global, from: usize, to: usize) -> Sought
+    ensures { result ≡ Found (span_of from (to - from)) [] }
+{
+    Sought::Found {
+        span: Span::of(from, to.saturating_sub(from)),
+        fresh: Items::new(alloc),
+    }
+}
+
+/// The answer of an expression of whose groups nothing is asked.
+fn seek_span<L: Ledger>(
+    alloc: Global,
+    ere: &Ere,
+    text: &[u8],
+    from: usize,
+    steps: &mut Steps<L>,
+) -> Result<Sought, NoMemory>
+    requires inside { from ≤ length text.now }
+    ensures value { (fold : Bool) →
+        IfOk result (λ answer. answer ≡ answer_of fold text.now [] (hit_in text.now (view ere.now) from)) }
+    ensures most { steps.new ≤ steps.old + (length text.now - from) + 1 }
+    ensures counted { steps.old ≤ steps.new }
+{
+    match hit_span(alloc, ere, text, from, steps)? {
+        Some(span) => Ok(found_part(alloc, span.from, span.to)),
+        None => Ok(Sought::Absent),
     }
 }
 
@@ -139,6 +174,9 @@ impl Ready {
             )?)),
             Instance::Faulty(fault) => Ok(refusal_of(alloc, *fault)),
             Instance::Made { ere, gifts } => {
+                if self.means.is_listed() && gifts.is_empty() {
+                    return seek_span(alloc, ere, text, from, steps);
+                }
                 let hit = self.means.find(alloc, ere, text, from, steps)?;
                 answer_of(alloc, gifts.as_slice(), text, self.fold, hit)
             }

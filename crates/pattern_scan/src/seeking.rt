@@ -5,7 +5,7 @@ ghost use Rattle.pattern_parse.specs.PieceView.{items_view};
 ghost use Rattle.pattern_parse.specs.Search.{IsSearchable};
 ghost use Rattle.pattern_scan.specs.Seek.{IsPlain, IsShownIn, IsWithin, KeepsPlaces, answer_of, sought_in};
 
-use crate::ready::prepare;
+use crate::ready::{found_part, prepare};
 use crate::sought::Sought;
 use crate::stored::stored_text;
 use ere_auto::Steps;
@@ -15,7 +15,7 @@ use pattern_parse::{Frame, Pattern, Piece};
 use pattern_vars::Vars;
 use std::alloc::Global;
 use std::sync::ledger::Ledger;
-use tt_base::{Items, NoMemory, Span};
+use tt_base::NoMemory;
 
 /// What a search sees: a text, and the variables that patterns use.
 #[derive(Drop)]
@@ -43,10 +43,7 @@ fn plain_answer(alloc: Global, hit: Option<Hit>) -> Sought
     ensures { (text : List ℕ) → result ≡ answer_of false text [] hit }
 {
     match hit {
-        Some(hit) => Sought::Found {
-            span: Span::of(hit.from, hit.to.saturating_sub(hit.from)),
-            fresh: Items::new(alloc),
-        },
+        Some(hit) => found_part(alloc, hit.from, hit.to),
         None => Sought::Absent,
     }
 }

@@ -1,12 +1,12 @@
 -- What the filter told is kept from try to try: no hit begins before the place at hand. Each try moves that place.
 -- The text behind `from` is what the filter saw, so its facts are carried over by the split (`split_at`).
 -- The hard one is `loop-found-preserved`: a try that found nothing rules out its own place.
-use Rattle.std.proofs.Common.{MatchOption, ◌+◌, drop, length, sym, ap, subst, arith}
-use Rattle.ere_match.proofs.FilterLemmas.{fewer, no_hit_begins, no_hit_behind}
+use Rattle.std.proofs.Common.{◌+◌, drop, length, sym, ap, subst, arith}
+use Rattle.ere_match.proofs.FilterLemmas.{fewer, may_lie, no_hit_begins, no_hit_behind}
 use Rattle.ere_match.specs.Begins.{NoneBefore}
 use Rattle.ere_match.specs.Filter.{MayLie}
+use Rattle.ere_match.specs.Starts.{TellsTried}
 use Rattle.ere_slow.specs.Slow.{HasNoHitBefore}
-use Rattle.ere_tree.specs.Hit.{TellsHit}
 use Rattle.ere_tree.specs.View.{view}
 use Rattle.ere_match.proofs.filter.find_filtered.Goals as goal
 
@@ -28,8 +28,8 @@ loop-found-init g c =
       no_refs = c.in-Ok.ensures.no_refs;
       spans = c.in-Ok.ensures.spans;
       built = c.first-found.ensures.kept t is;
-      lies = c.first-found.ensures.lies t is
-          (no_hit_begins s t c.earliest-begin.result c.earliest-begin.ensures);
+      lies = may_lie s t c.earliest-begin.result c.first-found.result
+          (no_hit_begins s t c.earliest-begin.result c.earliest-begin.ensures) (c.first-found.ensures.lies t is);
     }
 
 pub loop-found-smaller : goal.loop-found-smaller
@@ -37,28 +37,33 @@ loop-found-smaller g c =
     let s = c.split_at.result.1.now in
     let t = view c.args.ere.now in
     let lies = subst (MayLie s t) c.in-Some.is c.loop-found.invariant.lies in
-    fewer (length s) c.in-Some.span c.loop-found.found c.behind-found.result c.in-Some.is
-    (omega (arith, lies.1.0, lies.1.1))
-    (c.behind-found.ensures.behind t c.loop-found.invariant.built)
+    let built = c.try_at.ensures.kept t c.loop-found.invariant.built in
+    let a = c.args in
+    let passed = subst (TellsTried a.asked a.text.now t a.from c.in-Some.span.from) c.in-Ok-Passed.field-0-is
+    c.in-Ok-Passed.ensures.tried in
+    fewer (length s) c.in-Some.span c.in-Ok-Passed.last c.loop-found.found c.behind-found.result c.in-Some.is
+    (omega (arith, lies.1.0, lies.1.1)) passed.0 (c.behind-found.ensures.behind t built)
 
 pub loop-found-preserved : goal.loop-found-preserved
 loop-found-preserved g c =
     let s = c.split_at.result.1.now in
-    let rest = drop c.args.from c.args.text.now in
     let t = view c.args.ere.now in
-    let next = c.in-Some.span.from + 1 in
-    let none = subst (λ o. MatchOption o (HasNoHitBefore rest t next) (TellsHit c.args.text.now t c.args.from))
-    c.in-Ok-None.field-0-is c.in-Ok-None.ensures in
+    let last = c.in-Ok-Passed.last in
+    let built = c.try_at.ensures.kept t c.loop-found.invariant.built in
+    let a = c.args in
+    let passed = subst (TellsTried a.asked a.text.now t a.from c.in-Some.span.from) c.in-Ok-Passed.field-0-is
+    c.in-Ok-Passed.ensures.tried in
     record {
       no_refs = c.loop-found.invariant.no_refs;
       spans = c.loop-found.invariant.spans;
-      built = c.behind-found.ensures.kept t c.loop-found.invariant.built;
-      lies = c.behind-found.ensures.lies t c.loop-found.invariant.built
-          (subst (λ x. HasNoHitBefore x t next) (sym c.split_at.ensures.back) none);
+      built = c.behind-found.ensures.kept t built;
+      lies = may_lie s t (last + 1) c.behind-found.result
+          (subst (λ x. HasNoHitBefore x t (last + 1)) (sym c.split_at.ensures.back) passed.1)
+          (c.behind-found.ensures.lies t built);
     }
 
-pub returns-in-Ok-Some-clause-most : goal.returns-in-Ok-Some-clause-most
-returns-in-Ok-Some-clause-most g c =
+pub returns-in-Ok-Hit-clause-most : goal.returns-in-Ok-Hit-clause-most
+returns-in-Ok-Hit-clause-most g c =
     let t = view c.args.ere.now in
     omega (
       arith,

@@ -1,23 +1,24 @@
 use Rattle.std.proofs.Common.{ℕ, List, drop, subst}
-use Rattle.ere_refs.specs.Over.{TellsBest}
+use Rattle.ere_reach.specs.Leads.{TellsEnd}
 use Rattle.ere_tree.specs.View.{view}
-use Rattle.ere_match.proofs.FilterLemmas.{hit_is, no_hit_at}
+use Rattle.ere_match.proofs.HitSpanLemmas.{lies_to, none_ends}
 use Rattle.ere_match.proofs.filter.hit_at.Goals as goal
 
-pub returns-in-None : goal.returns-in-None
-returns-in-None c =
+pub returns-in-Ok-None : goal.returns-in-Ok-None
+returns-in-Ok-None c =
+    let s = drop c.args.from c.args.text.now in
     let t = view c.args.ere.now in
     let span = c.args.span in
-    let tells = subst (λ (x : List ℕ). TellsBest x t c.args.from span.from span.to c.in_ok-try_from.field-0)
-    c.split_at.ensures.back c.in_ok-try_from.ensures in
-    no_hit_at (drop c.args.from c.args.text.now) t c.args.from span c.requires.lies
-    (subst (TellsBest (drop c.args.from c.args.text.now) t c.args.from span.from span.to) c.in-None.is tells)
+    let tells = subst (λ (x : List ℕ). TellsEnd x t span.from span.to c.in-Ok-None.field-0) c.split_at.ensures.back
+    c.in-Ok-None.ensures in
+    none_ends s t span c.requires.lies (subst (TellsEnd s t span.from span.to) c.in-Ok-None.field-0-is tells)
 
-pub returns-in-Some : goal.returns-in-Some
-returns-in-Some c =
+pub tried_hit-requires-clause-lies : goal.tried_hit-requires-clause-lies
+tried_hit-requires-clause-lies c =
+    let s = drop c.args.from c.args.text.now in
     let t = view c.args.ere.now in
     let span = c.args.span in
-    let tells = subst (λ (x : List ℕ). TellsBest x t c.args.from span.from span.to c.in_ok-try_from.field-0)
-    c.split_at.ensures.back c.in_ok-try_from.ensures in
-    hit_is c.args.text.now t c.args.from span c.in-Some.found c.requires.lies
-    (subst (TellsBest (drop c.args.from c.args.text.now) t c.args.from span.from span.to) c.in-Some.is tells)
+    let tells = subst (λ (x : List ℕ). TellsEnd x t span.from span.to c.in-Ok-Some.field-0) c.split_at.ensures.back
+    c.in-Ok-Some.ensures in
+    lies_to s t span c.in-Ok-Some.to c.requires.lies
+    (subst (TellsEnd s t span.from span.to) c.in-Ok-Some.field-0-is tells)

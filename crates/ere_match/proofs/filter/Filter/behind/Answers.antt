@@ -1,15 +1,18 @@
 use Rattle.std.proofs.Common.{◌+◌, arith}
-use Rattle.ere_match.proofs.FilterLemmas.{may_lie, no_hit_behind, starts_behind}
+use Rattle.std.specs.FinMap.{empty}
+use Rattle.ere_tree.proofs.DerivationLemmas.{is_part}
+use Rattle.ere_match.proofs.FilterLemmas.{lies_from, starts_behind}
 use Rattle.ere_match.proofs.filter.Filter.behind.Goals as goal
 
 pub returns-then-place-slice-clause-lies : goal.returns-then-place-slice-clause-lies
-returns-then-place-slice-clause-lies c = λ t is before.
-    no_hit_behind c.args.slice.now t (c.args.place + 1) before (omega arith)
+returns-then-place-slice-clause-lies c = λ t is h k v d high shows.
+    let lies = is_part c.args.slice.now t v h k empty d shows in
+    absurd (omega (arith, lies.0, lies.1, high, c.if-place-slice.true))
 
 pub returns-clause-lies : goal.returns-clause-lies
-returns-clause-lies c = λ t is before.
-    may_lie c.args.slice.now t is.free (c.args.place + 1) c.span_from.result (λ i low. omega (arith, c.type_inv.slice i)) is.spans before
-    (c.span_from.ensures.found is.free is.built)
+returns-clause-lies c = λ t is.
+    lies_from c.args.slice.now t is.free (c.args.place + 1) c.span_from.result (λ i low. omega (arith, c.type_inv.slice i))
+    is.spans (c.span_from.ensures.found is.free is.built)
 
 pub returns-clause-behind : goal.returns-clause-behind
 returns-clause-behind c = λ t is.

@@ -1,13 +1,13 @@
 use Rattle.std.proofs.Common.{subst, arith}
 use Rattle.ere_auto.specs.Span.{IsSpan}
-use Rattle.ere_match.proofs.FilterLemmas.{may_lie, shown_most}
+use Rattle.ere_match.proofs.FilterLemmas.{lies_from, shown_most}
 use Rattle.ere_match.proofs.filter.Filter.first.Goals as goal
 
 pub returns-clause-lies : goal.returns-clause-lies
-returns-clause-lies g c = λ t is before.
+returns-clause-lies g c = λ t is.
     let s = c.args.slice.now in
     let finds = c.find_span.ensures.found is.free (c.begin_at.ensures.fresh is.free is.built) in
-    may_lie s t is.free c.args.place c.find_span.result (λ i low. omega (arith, c.type_inv.slice i)) is.spans before
+    lies_from s t is.free c.args.place c.find_span.result (λ i low. omega (arith, c.type_inv.slice i)) is.spans
     (subst (λ b. IsSpan s is.free b c.find_span.result) c.begin_at.ensures.begin finds.span)
 
 pub returns-clause-most : goal.returns-clause-most

@@ -1,4 +1,4 @@
-use Rattle.std.proofs.Common.{ap, sym, ◌∙◌}
+use Rattle.std.proofs.Common.{[], ap, false, sym, ◌∙◌}
 use Rattle.ere_tree.specs.View.{view}
 use Rattle.pattern_hits.proofs.CapsLemmas.{hit_is_sound}
 use Rattle.pattern_instance.specs.Instance.{made}
@@ -30,3 +30,8 @@ returns-in_ok-hit-in-Made-clause-least g c =
     c.answer_of.result is c.in_ok-hit-in-Made.ensures.hit
     (λ yes no_refs. c.in_ok-hit-in-Made.ensures.least
     (built_shows _ _ _ (view c.in-Made.ere) c.in-Made.gifts is c.requires.built yes) no_refs)
+
+pub returns-then-is_empty-clause-within : goal.returns-then-is_empty-clause-within
+returns-then-is_empty-clause-within g c =
+    answers_within false c.args.text.now c.args.from (made (view c.in-Made.ere) []) c.seek_span.result c.requires.inside
+    (c.seek_span.ensures.value false)
