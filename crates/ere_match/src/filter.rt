@@ -25,8 +25,13 @@ use tt_base::NoMemory;
 /// How large an expression is at most of which parts are tried, as they are by calls inside calls.
 const MAX_TRIED: u64 = 5_000;
 
-/// How many ends the tries from each place may look at, whatever others did.
+/// How many ends the tries from each place may look at.
 const OWN_TRIES: usize = 1_500;
+
+/// How many ends all of these may look at, and how many more for each place.
+const ALL_OWN_TRIES: usize = 500_000;
+
+const MORE_OWN_TRIES: usize = 64;
 
 /// How many bytes their spans may have, since a try goes through its span.
 const OWN_BYTES: usize = 600_000;
@@ -38,7 +43,7 @@ const FIRST_TRIES: usize = 1_000_000;
 const FEW_TRIES: usize = 100_000;
 
 /// How many ends tries may look at where groups aren't asked for.
-const SPAN_TRIES: usize = 3_000_000;
+const SPAN_TRIES: usize = 1_000_000;
 
 /// From how many steps on ends are told for many places at once.
 const MANY_STEPS: usize = 100_000;
@@ -61,10 +66,11 @@ struct Try {
     span: Cap,
 }
 
-/// How much a search of an expression with references may still do: what it may try in few tries from each place, what else it
-/// may try, what it may list, how far it may go for ends, also from many places at once, and from how many of them.
+/// How much a search of an expression with references may still do: what it may try from each place on its own, what in few
+/// tries, what else it may try, what it may list, how far it may go for ends, also from many places at once, and from how many of them.
 #[derive(Drop)]
 struct Budget {
+    own: Tries,
     first: Tries,
     tries: Tries,
     limit: Limit,
@@ -80,6 +86,7 @@ impl Budget {
             Asked::Span => SPAN_TRIES,
         };
         Budget {
+            own: Tries::new(alloc).part(ALL_OWN_TRIES),
             first: Tries::new(alloc).part(FIRST_TRIES),
             tries: Tries::new(alloc).part(most),
             limit: Limit::new(),
@@ -296,8 +303,11 @@ fn told_at(
         return slow_hit_from(alloc, ere, text, from, span.from, &mut budget.limit);
     }
     let width = span.to.saturating_sub(span.from).max(1);
-    let mut own = Tries::new(alloc).part(OWN_TRIES.min(OWN_BYTES / width));
+    let most = OWN_TRIES.min(OWN_BYTES / width);
+    budget.own.join(Tries::new(alloc).part(MORE_OWN_TRIES));
+    let mut own = budget.own.part(most);
     if let Ok(hit) = tried_hit(ere, free, text, from, span, &mut own) {
+        budget.own.join(own);
         return Ok(hit);
     }
     match asked {
@@ -307,7 +317,10 @@ fn told_at(
         },
         Asked::Span => match span_at(ere, text, from, span, budget) {
             Ok(hit) => Ok(hit),
-            Err(_) => tried_hit(ere, free, text, from, span, &mut budget.tries),
+            Err(_) => {
+                budget.tries.join(Tries::new(alloc).part(most));
+                tried_hit(ere, free, text, from, span, &mut budget.tries)
+            }
         },
     }
 }

@@ -23,6 +23,7 @@ use Rattle.ere_reach.specs.declared.site.Site.{Site}
 use Rattle.ere_reach.specs.Held.{Covers, Tells, part_in}
 use Rattle.ere_reach.specs.Leads.{Does, IsClosed, LeadsOver, PutsClosed}
 use Rattle.ere_reach.specs.Live.{HasRead, reads, surely_sets}
+use Rattle.ere_reach.specs.Memo.{LeadsFrom}
 use Rattle.ere_reach.specs.Moving.{sets_one}
 use Rattle.ere_reach.specs.Rows.{HasState, IsPut, States}
 use Rattle.ere_reach.proofs.CoversLemmas.{covers_closed, covers_on}
@@ -94,12 +95,11 @@ module _ (site : Site) (number : ℕ) (t : Tree) (live others : List ℕ)
   within before has = inside_read number t live others before
       (λ n read. let r = (rest n).0 read in (r.0, λ e. r.1 (sym e))) has
 
-  pub group_more : (g : List Held) (p : ℕ) (start one inner old new : Rows) (S T : States) → site.low ≤ p
-      → start.rows.items ≡ [] → IsPut start g (p ∷ []) one → LeadsOver site t others one inner
-      → PutsClosed site number p live inner old new → Grows S g (p ∷ []) T
+  pub group_more : (g : List Held) (p : ℕ) (inner old new : Rows) (S T : States) → site.low ≤ p
+      → LeadsFrom site t others g p inner → PutsClosed site number p live inner old new → Grows S g (p ∷ []) T
       → ClosesSoFar site number t live S old
       → ClosesSoFar site number t live T new
-  group_more g p start one inner old new S T in_low is put leads puts grows gone =
+  group_more g p inner old new S T in_low leads puts grows gone =
       gone_more Never (Closes site number t live)
       (ClosesFully site number t live) S T (HasState old)
       (HasState new) g (p ∷ []) (full_stays site (Does site.text.now (group number t)) (reads (group number t)) live)
@@ -113,18 +113,9 @@ module _ (site : Site) (number : ℕ) (t : Tree) (live others : List ℕ)
         omega arith,
         fits,
         λ before has c covers.
-            let b = (leads before (within before has)).sound k q at in
-            let was : (b.0 ≡ g) × Contains (p ∷ []) b.1 = elim ((put b.0 b.1).0 b.2) [
-              | inl never ↦ absurd ((no_state start is b.0 b.1).0 never)
-              | inr here ↦ here
-            ] in
-            let first : Covers site.text.now site.high before b.0 b.1 c =
-            subst (λ x. Covers site.text.now site.high before b.0 x c) (one_is p b.1 was.1)
-            (subst (λ x. Covers site.text.now site.high before x p c) (sym was.0) covers) in
-            let e = b.3 c first in
-            let derives = subst (λ x. Derives site.text.now t e.1.0 x q c e.0) (sym (one_is p b.1 was.1)) e.1.1 in (
+            let e = (leads before (within before has)).sound k q at c covers in (
               insert e.0 number (p, q),
-              (inside e.1.0, (e.0, derives, refl)),
+              (inside e.1.0, (e.0, e.1.1, refl)),
               covers_closed site.text.now site.high others live number p q cap k h e.0
                   (λ n read apart. (rest n).1 (read, apart)) tells kept e.2,
             ),
@@ -141,8 +132,7 @@ module _ (site : Site) (number : ℕ) (t : Tree) (live others : List ℕ)
       whole before has c q d covers does fits =
           let e = group_out site.text.now number t p q c d does in
           let on = is_part site.text.now t e.0 p q c e.1 e.2 in
-          let f = (leads before (within before has)).complete g p c q e.1
-          ((put g p).1 (inr (refl, one_has p))) covers (e.0, e.2) fits in
+          let f = (leads before (within before has)).complete c q e.1 covers (e.0, e.2) fits in
           let h = puts.put f.0 q f.1 on.0 fits in (
             h.0,
             h.1,

@@ -2,6 +2,7 @@ pub mod BeforeLemmas
 pub mod CoversLemmas
 pub mod EndingLemmas
 pub mod EnteredLemmas
+pub mod FrameLemmas
 pub mod GroupLemmas
 pub mod HeldLemmas
 pub mod KeepsLemmas
@@ -16,3 +17,4 @@ pub mod RowsLemmas
 pub mod StepLemmas
 pub mod TakenLemmas
 pub mod ThroughLemmas
+pub mod ToldLemmas

@@ -1,13 +1,14 @@
 -- The rows to which something leads from some rows.
 -- Own rule: a row stands for all captures that it covers, so that what is the same for all that is read behind is gone on
 -- from once.
-use Rattle.std.specs.Prelude.{◌≡◌, ◌↔◌, ◌⊎◌, ℕ, zero, ◌+◌, ◌-◌, ◌<◌, ◌≤◌, Bool, Option, Some, None, List, length, IsTrue}
+use Rattle.std.specs.Prelude.{◌≡◌, ◌↔◌, ◌⊎◌, ℕ, zero, ◌+◌, ◌-◌, ◌<◌, ◌≤◌, Bool, true, Option, Some, None, List, length, IsTrue}
 use Rattle.std.specs.FinMap.{empty}
 use Rattle.std.specs.List.{Contains}
 use Rattle.ere_tree.specs.Captures.{Captures}
 use Rattle.ere_tree.specs.Derivation.{Way, Ways, Derives, DerivesAll, DerivesEach, IsPart, IsSameText, count_of, part}
 use Rattle.ere_tree.specs.Tree.{Tree, Trees}
 use Rattle.ere_tree.specs.declared.hit.Cap.{Cap}
+use Rattle.ere_reach.specs.declared.closing.Known.{Known}
 use Rattle.ere_reach.specs.declared.held.Held.{Held}
 use Rattle.ere_reach.specs.declared.rows.Rows.{Rows}
 use Rattle.ere_reach.specs.declared.site.Site.{Site}
@@ -106,6 +107,15 @@ StandsNoMore site from to = StandsNowhere site.text.now site.high to (part site.
 
 abbrev pub StandsFirst : Site → ℕ → ℕ → ℕ → Type 0
 StandsFirst site from to first = part site.text.now first (first + (to - from)) ≡ part site.text.now from to
+
+-- from its end on it stands at no place before `next`, also with letters in either case; so it is with what is known of it
+abbrev pub StandsNotBefore : Site → ℕ → ℕ → ℕ → Type 0
+StandsNotBefore site from to next =
+    (i j : ℕ) → to ≤ i → i < next → j ≤ site.high → IsPart site.text.now i j
+    → IsSameText true (part site.text.now i j) (part site.text.now from to) → ⊥
+
+abbrev pub FitsKnown : Site → ℕ → Known → Type 0
+FitsKnown site from known = StandsNotBefore site from known.to known.next
 
 -- the second list tells the same as the first of the groups that are read, but for one, which is closed over [from, to)
 abbrev pub IsClosed : Site → ℕ → ℕ → List ℕ → List Held → ℕ → List Held → Type 0

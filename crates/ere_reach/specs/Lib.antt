@@ -1,6 +1,7 @@
 pub mod Held
 pub mod Leads
 pub mod Live
+pub mod Memo
 pub mod Moving
 pub mod Refers
 pub mod Rows

@@ -1,8 +1,8 @@
 //! What a group holds once it is closed.
-ghost use Rattle.std.specs.Prelude.{◌≡◌, ◌↔◌, ◌+◌, ◌-◌, ◌≤◌, true, length, IfOk, IsTrue, None, Some};
+ghost use Rattle.std.specs.Prelude.{◌≡◌, ◌↔◌, ◌+◌, ◌-◌, ◌≤◌, true, length, IfOk, IfSome, IsTrue, None, OnOk, Some};
 ghost use Rattle.ere_tree.specs.Derivation.{IsSameText};
 ghost use Rattle.ere_reach.specs.Held.{Tells};
-ghost use Rattle.ere_reach.specs.Leads.{FitsText, StandsFirst, StandsNoMore};
+ghost use Rattle.ere_reach.specs.Leads.{FitsKnown, FitsText, StandsFirst, StandsNoMore, StandsNotBefore};
 
 use crate::budget::Budget;
 use crate::site::Site;
@@ -23,16 +23,64 @@ fn is_like(one: &[u8], other: &[u8]) -> bool
     one == other || one.eq_ignore_ascii_case(other)
 }
 
-/// Where a text of letters in either case as this one may stand again from its end on.
-fn next_like(site: Site<'_>, from: usize, to: usize) -> Option<usize>
+/// What is known of the texts that begin at one place, from one of them: where it ends, a place before which it doesn't stand
+/// again, and the place where it stands first. A longer one stands nowhere before these either.
+#[derive(Clone, Copy)]
+pub(crate) struct Known {
+    pub(crate) to: usize,
+    pub(crate) next: usize,
+    pub(crate) first: usize,
+}
+
+impl Known {
+    /// Nothing yet of the texts that begin here.
+    pub(crate) fn new(site: Site<'_>, from: usize) -> Known
+        ensures fits { FitsKnown site.entry from result }
+        ensures to { result.to ≡ from }
+    {
+        Known {
+            to: from,
+            next: from,
+            first: site.low,
+        }
+    }
+
+    /// What of it holds of the text up to another end. Nothing does where that one is shorter.
+    fn up_to(self, site: Site<'_>, from: usize, to: usize) -> Known
+        requires order { from ≤ to }
+        requires inside { to ≤ site.high }
+        requires fits { FitsText site }
+        requires known { FitsKnown site from self }
+        ensures known { FitsKnown site.entry from result }
+        ensures to { result.to ≡ to }
+        ensures next { to ≤ result.next }
+    {
+        let known = if to < self.to {
+            Known::new(site, from)
+        } else {
+            self
+        };
+        Known {
+            to,
+            next: known.next.max(to),
+            first: known.first,
+        }
+    }
+}
+
+/// Where a text of letters in either case as this one may stand again from its end on. It doesn't before `since`.
+fn next_like(site: Site<'_>, from: usize, to: usize, since: usize) -> Option<usize>
     requires order { from ≤ to }
     requires inside { to ≤ site.high }
+    requires since { to ≤ since }
+    requires before { StandsNotBefore site from to since }
     requires fits { FitsText site }
-    ensures { result ≡ None → StandsNoMore site.entry from to }
+    ensures none { result ≡ None → StandsNoMore site.entry from to }
+    ensures some { IfSome result (StandsNotBefore site.entry from to) }
 {
     let (text, count) = (site.text, to - from);
     let bytes = &text[from..to];
-    for place in to..site.high + 1 {
+    for place in since..site.high + 1 {
         if count > site.high - place {
             return None;
         }
@@ -43,8 +91,8 @@ fn next_like(site: Site<'_>, from: usize, to: usize) -> Option<usize>
     None
 }
 
-/// Where a text stands first.
-fn first_like(site: Site<'_>, from: usize, to: usize) -> usize
+/// Where a text stands first from `since` on.
+fn first_like(site: Site<'_>, from: usize, to: usize, since: usize) -> usize
     requires order { from ≤ to }
     requires inside { to ≤ site.high }
     requires fits { FitsText site }
@@ -53,7 +101,7 @@ fn first_like(site: Site<'_>, from: usize, to: usize) -> usize
 {
     let (text, count) = (site.text, to - from);
     let bytes = &text[from..to];
-    for place in site.low..from {
+    for place in since..from {
         let begins = count == 0 || text[place] == text[from];
         if begins && &text[place..place + count] == bytes {
             return place;
@@ -67,20 +115,30 @@ pub(crate) fn closed_over(
     site: Site<'_>,
     from: usize,
     to: usize,
+    known: &mut Known,
     budget: &mut Budget,
 ) -> Result<Option<Cap>, AllocError>
     requires order { from ≤ to }
     requires inside { to ≤ site.high }
     requires fits { FitsText site }
-    ensures { IfOk result (λ part. Tells site.entry.text.now site.entry.high to part (Some (from, to))) }
+    requires known { FitsKnown site from known.old }
+    ensures tells { IfOk result (λ part. Tells site.entry.text.now site.entry.high to part (Some (from, to))) }
+    ensures known { OnOk result (FitsKnown site.entry from known.new) }
 {
-    let Some(next) = next_like(site, from, to) else {
-        budget.take(1 + (site.high - to) / FOR_A_STEP)?;
+    let before = known.up_to(site, from, to);
+    let Some(next) = next_like(site, from, to, before.next) else {
+        budget.take(1 + site.high.saturating_sub(before.next) / FOR_A_STEP)?;
+        *known = Known {
+            next: site.high + 1,
+            ..before
+        };
         return Ok(None);
     };
-    let first = first_like(site, from, to);
-    let passed = next.saturating_sub(to) / FOR_A_STEP + first.saturating_sub(site.low) / FOR_A_STEP;
+    let first = first_like(site, from, to, before.first);
+    let passed = next.saturating_sub(before.next) / FOR_A_STEP
+        + first.saturating_sub(before.first) / FOR_A_STEP;
     budget.take(1 + passed)?;
+    *known = Known { to, next, first };
     Ok(Some(Cap {
         from: first,
         to: first + (to - from),

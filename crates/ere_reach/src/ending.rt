@@ -6,6 +6,7 @@ ghost use Rattle.ere_reach.specs.Rows.{IsGreatest, IsIn};
 ghost use Rattle.ere_tree.specs.View.{view};
 
 use crate::budget::Budget;
+use crate::memo::Memo;
 use crate::reach::reach;
 use crate::rows::Rows;
 use crate::site::Site;
@@ -41,7 +42,8 @@ fn ends_from(
 {
     let mut start = Rows::new(site.alloc, site.low);
     start.put(&[], places, budget)?;
-    let found = reach(site, ere, &start, &[], budget)?;
+    let mut memo = Memo::new(site.alloc);
+    let found = reach(site, ere, &start, &[], &mut memo, budget)?;
     budget.release(start.len());
     Ok(found)
 }

@@ -5,12 +5,15 @@
 mod budget;
 mod closing;
 mod ending;
+mod frame;
 mod held;
 mod live;
+mod memo;
 mod moving;
 mod reach;
 mod row;
 mod rows;
+mod same;
 mod site;
 
 pub use budget::{Budget, MAX_STEPS};

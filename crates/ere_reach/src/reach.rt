@@ -1,18 +1,22 @@
 //! The rows to which an expression leads from some rows.
 ghost use Rattle.std.specs.Prelude.{◌≡◌, ℕ, ◌+◌, ◌-◌, ◌≤◌, false, map, List, [], ◌∷◌, IfOk, IsTrue, OnOk};
-ghost use Rattle.ere_reach.specs.Leads.{Enters, FitsText, LeadsFurther, LeadsUpTo, LeadsOver, LeadsThrough, IsClosed, MayHave, PutsBeyond, PutsClosed, KeepsRows, StandsAt};
+ghost use Rattle.ere_reach.specs.Leads.{Enters, FitsKnown, FitsText, LeadsFurther, LeadsUpTo, LeadsOver, LeadsThrough, IsClosed, MayHave, PutsBeyond, PutsClosed, KeepsRows, StandsAt};
 ghost use Rattle.ere_reach.specs.Live.{HasRead, reads};
+ghost use Rattle.ere_reach.specs.Memo.{AllHold, Holds, IsFramed, LeadsFrom};
 ghost use Rattle.ere_reach.specs.Moving.{sets_one};
 ghost use Rattle.ere_reach.specs.Refers.{IsWithout};
-ghost use Rattle.ere_reach.specs.Rows.{AreInside, IsPut};
+ghost use Rattle.ere_reach.specs.Rows.{AreInside, IsIn, IsPut};
+ghost use Rattle.ere_reach.specs.declared.rows.Rows.{Rows};
 ghost use Rattle.ere_tree.specs.Shape.{has_refs};
 ghost use Rattle.ere_tree.specs.Tree.{alt, back, group, repeat, trees_of};
 ghost use Rattle.ere_tree.specs.View.{view};
 
 use crate::budget::Budget;
-use crate::closing::closed_over;
+use crate::closing::{Known, closed_over};
+use crate::frame::{Frame, framed, set_in};
 use crate::held::{Held, keep_with, kept, part_of};
 use crate::live::{live_before, live_between, live_of, lives_from, without};
+use crate::memo::{Memo, Start, Told};
 use crate::moving::{has_byte, refers_or_sets, sets_one};
 use crate::rows::Rows;
 use crate::site::Site;
@@ -52,16 +56,19 @@ fn reach_freely(
 
 /// By parts one behind the other.
 #[cycle(reach)]
-fn reach_through(
+fn reach_through<'e>(
     site: Site<'_>,
-    parts: &[Ere],
+    parts: &'e [Ere],
     rows: &Rows,
     live: &[u32],
+    memo: &mut Memo<'e>,
     budget: &mut Budget,
 ) -> Result<Rows, AllocError>
     requires fits { FitsText site }
     requires inside { AreInside site.low site.high rows.now }
-    ensures { IfOk result (LeadsThrough site.entry (trees_of (map view parts.now)) live.now rows.now) }
+    requires memo { AllHold site memo.old }
+    ensures leads { IfOk result (LeadsThrough site.entry (trees_of (map view parts.now)) live.now rows.now) }
+    ensures memo { OnOk result (AllHold site.entry memo.new) }
 {
     if parts.is_empty() {
         let mut same = Rows::new(site.alloc, site.low);
@@ -71,10 +78,10 @@ fn reach_through(
     let last = parts.len() - 1;
     let lives = lives_from(site.alloc, parts.split_at(1).1, live)?;
     let behind = live_of(lives.as_slice(), last, live);
-    let mut now = reach(site, &parts[0], rows, behind, budget)?;
+    let mut now = reach(site, &parts[0], rows, behind, memo, budget)?;
     for index in 1..parts.len() {
         let behind = live_of(lives.as_slice(), last - index, live);
-        let next = reach(site, &parts[index], &now, behind, budget)?;
+        let next = reach(site, &parts[index], &now, behind, memo, budget)?;
         budget.release(now.len());
         now = next;
     }
@@ -100,20 +107,23 @@ fn with_kept(
 
 /// By one of the alternatives.
 #[cycle(reach)]
-fn reach_by_one(
+fn reach_by_one<'e>(
     site: Site<'_>,
-    choices: &[Ere],
+    choices: &'e [Ere],
     rows: &Rows,
     live: &[u32],
+    memo: &mut Memo<'e>,
     budget: &mut Budget,
 ) -> Result<Rows, AllocError>
     requires fits { FitsText site }
     requires inside { AreInside site.low site.high rows.now }
-    ensures { IfOk result (LeadsOver site.entry (alt (trees_of (map view choices.now))) live.now rows.now) }
+    requires memo { AllHold site memo.old }
+    ensures leads { IfOk result (LeadsOver site.entry (alt (trees_of (map view choices.now))) live.now rows.now) }
+    ensures memo { OnOk result (AllHold site.entry memo.new) }
 {
     let mut all = Rows::new(site.alloc, site.low);
     for one in choices {
-        let found = reach(site, one, rows, live, budget)?;
+        let found = reach(site, one, rows, live, memo, budget)?;
         all.join(&found, budget)?;
         budget.release(found.len());
     }
@@ -122,26 +132,29 @@ fn reach_by_one(
 
 /// By one member that isn't empty; an empty one that changes nothing may count as one.
 #[cycle(reach)]
-fn reach_by_further(
+fn reach_by_further<'e>(
     site: Site<'_>,
-    inner: &Ere,
+    inner: &'e Ere,
     rows: &Rows,
     live: &[u32],
+    memo: &mut Memo<'e>,
     budget: &mut Budget,
 ) -> Result<Rows, AllocError>
     requires fits { FitsText site }
     requires inside { AreInside site.low site.high rows.now }
-    ensures { IfOk result (LeadsFurther site.entry (view inner.now) live.now rows.now) }
+    requires memo { AllHold site memo.old }
+    ensures leads { IfOk result (LeadsFurther site.entry (view inner.now) live.now rows.now) }
+    ensures memo { OnOk result (AllHold site.entry memo.new) }
 {
     if has_byte(inner) || !sets_one(inner, live) {
-        return reach(site, inner, rows, live, budget);
+        return reach(site, inner, rows, live, memo, budget);
     }
     let mut all = Rows::new(site.alloc, site.low);
     for row in &rows.rows {
         for place in &row.places {
             let mut one = Rows::new(site.alloc, site.low);
             one.put(row.held.as_slice(), &[*place], budget)?;
-            let found = reach(site, inner, &one, live, budget)?;
+            let found = reach(site, inner, &one, live, memo, budget)?;
             put_beyond(*place, &found, &mut all, budget)?;
             budget.release(found.len() + 1);
         }
@@ -194,18 +207,21 @@ fn enter(
 
 /// By up to so many members that aren't empty. States that tell the same of what is read are entered once.
 #[cycle(reach)]
-fn reach_by_members(
+fn reach_by_members<'e>(
     site: Site<'_>,
-    inner: &Ere,
+    inner: &'e Ere,
     most: usize,
     rows: &Rows,
     live: &[u32],
+    memo: &mut Memo<'e>,
     budget: &mut Budget,
 ) -> Result<Rows, AllocError>
     requires fits { FitsText site }
     requires inside { AreInside site.low site.high rows.now }
     requires read { HasRead (reads (view inner.now)) live.now live.now }
-    ensures { IfOk result (LeadsUpTo site.entry (view inner.now) most live.now rows.now) }
+    requires memo { AllHold site memo.old }
+    ensures leads { IfOk result (LeadsUpTo site.entry (view inner.now) most live.now rows.now) }
+    ensures memo { OnOk result (AllHold site.entry memo.new) }
 {
     let read = live_before(site.alloc, inner, live)?;
     let mut entered = Rows::new(site.alloc, site.low);
@@ -218,7 +234,7 @@ fn reach_by_members(
             return Ok(all);
         }
         let first = enter(site, fresh, read.as_slice(), live, &mut entered, budget)?;
-        let next = reach_by_further(site, inner, &first, live, budget)?;
+        let next = reach_by_further(site, inner, &first, live, memo, budget)?;
         all.join(&next, budget)?;
         budget.release(first.len());
         budget.release(next.len());
@@ -240,36 +256,39 @@ fn further_members(least: u32, most: Option<u32>, width: usize) -> Option<usize>
 
 /// By a repeat.
 #[cycle(reach)]
-fn reach_by_repeat(
+fn reach_by_repeat<'e>(
     site: Site<'_>,
-    inner: &Ere,
+    inner: &'e Ere,
     least: u32,
     most: Option<u32>,
     rows: &Rows,
     live: &[u32],
+    memo: &mut Memo<'e>,
     budget: &mut Budget,
 ) -> Result<Rows, AllocError>
     requires fits { FitsText site }
     requires inside { AreInside site.low site.high rows.now }
-    ensures { IfOk result (LeadsOver site.entry (repeat (view inner.now) least most) live.now rows.now) }
+    requires memo { AllHold site memo.old }
+    ensures leads { IfOk result (LeadsOver site.entry (repeat (view inner.now) least most) live.now rows.now) }
+    ensures memo { OnOk result (AllHold site.entry memo.new) }
 {
     let Some(more) = further_members(least, most, site.high.saturating_sub(site.low)) else {
         return Ok(Rows::new(site.alloc, site.low));
     };
     let between = live_between(site.alloc, inner, live)?;
     if least == 0 {
-        let all = reach_by_members(site, inner, more, rows, between.as_slice(), budget)?;
+        let all = reach_by_members(site, inner, more, rows, between.as_slice(), memo, budget)?;
         let found = with_kept(site, &all, live, budget)?;
         budget.release(all.len());
         return Ok(found);
     }
-    let mut now = reach(site, inner, rows, between.as_slice(), budget)?;
+    let mut now = reach(site, inner, rows, between.as_slice(), memo, budget)?;
     for _ in 1..least {
-        let next = reach(site, inner, &now, between.as_slice(), budget)?;
+        let next = reach(site, inner, &now, between.as_slice(), memo, budget)?;
         budget.release(now.len());
         now = next;
     }
-    let all = reach_by_members(site, inner, more, &now, between.as_slice(), budget)?;
+    let all = reach_by_members(site, inner, more, &now, between.as_slice(), memo, budget)?;
     let found = with_kept(site, &all, live, budget)?;
     budget.release(now.len());
     budget.release(all.len());
@@ -290,6 +309,7 @@ fn put_end(
     closing: Closing<'_>,
     held: &[Held],
     to: usize,
+    known: &mut Known,
     list: &mut Vec<Held>,
     found: &mut Rows,
     budget: &mut Budget,
@@ -297,12 +317,14 @@ fn put_end(
     requires fits { FitsText closing.site }
     requires order { closing.from ≤ to }
     requires inside { to ≤ closing.site.high }
+    requires known { FitsKnown closing.site closing.from known.old }
     ensures closed { OnOk result (IsClosed closing.entry.site closing.entry.number closing.entry.from
         closing.entry.live.now held.now to list.new.items) }
     ensures put { OnOk result (IsPut found.old list.new.items (to ∷ []) found.new) }
+    ensures known { OnOk result (FitsKnown closing.entry.site closing.entry.from known.new) }
 {
     let (site, from) = (closing.site, closing.from);
-    let part = closed_over(site, from, to, budget)?;
+    let part = closed_over(site, from, to, known, budget)?;
     keep_with(list, held, closing.live, closing.number, part)?;
     found.put(list.as_slice(), &[to], budget)?;
     Ok(())
@@ -327,11 +349,20 @@ fn put_closed(
         from,
         live,
     };
+    let mut known = Known::new(site, from);
     let mut list = Vec::new(site.alloc);
     for row in &inside.rows {
         for to in &row.places {
             if from <= *to && *to <= site.high {
-                put_end(closing, row.held.as_slice(), *to, &mut list, found, budget)?;
+                put_end(
+                    closing,
+                    row.held.as_slice(),
+                    *to,
+                    &mut known,
+                    &mut list,
+                    found,
+                    budget,
+                )?;
             }
         }
     }
@@ -366,9 +397,12 @@ fn reach_by_free_group(
                 live,
             };
             let held = row.held.as_slice();
+            let mut known = Known::new(site, *from);
             for to in &ends {
                 if *from <= *to && *to <= site.high {
-                    put_end(closing, held, *to, &mut list, &mut found, budget)?;
+                    put_end(
+                        closing, held, *to, &mut known, &mut list, &mut found, budget,
+                    )?;
                 }
             }
         }
@@ -376,22 +410,132 @@ fn reach_by_free_group(
     Ok(found)
 }
 
-/// By a group.
+/// Adds the rows behind a group that begins at a place, from those behind what it holds with what other groups held before.
+fn put_framed(
+    closing: Closing<'_>,
+    inside: &Rows,
+    frame: Frame<'_>,
+    found: &mut Rows,
+    budget: &mut Budget,
+) -> Result<(), AllocError>
+    requires fits { FitsText closing.site }
+    ensures { OnOk result ((framed : Rows)
+        × IsFramed frame.entry.own.now frame.entry.others.now frame.entry.held.now inside.now framed
+        × PutsClosed closing.entry.site closing.entry.number closing.entry.from closing.entry.live.now framed found.old
+        found.new) }
+{
+    let Closing {
+        site,
+        number,
+        from,
+        live,
+    } = closing;
+    if frame.is_empty() {
+        return put_closed(site, number, from, inside, live, found, budget);
+    }
+    let all = framed(site, inside, frame, budget)?;
+    put_closed(site, number, from, &all, live, found, budget)?;
+    budget.release(all.len());
+    Ok(())
+}
+
+/// What the inside of a group leads to from a start.
 #[cycle(reach)]
-fn reach_by_group(
+fn told_from<'e>(
+    site: Site<'_>,
+    inner: &'e Ere,
+    start: Start<'_>,
+    memo: &mut Memo<'e>,
+    budget: &mut Budget,
+) -> Result<Told<'e>, AllocError>
+    requires fits { FitsText site }
+    requires inside { IsIn site.low site.high start.from }
+    requires memo { AllHold site memo.old }
+    ensures leads { IfOk result (λ told. LeadsFrom site.entry (view inner.now) start.entry.live.now
+        start.entry.held.now start.entry.from told.rows) }
+    ensures holds { IfOk result (Holds site.entry) }
+    ensures memo { OnOk result (AllHold site.entry memo.new) }
+{
+    if let Some(told) = memo.take(inner, start) {
+        return Ok(told);
+    }
+    let mut one = Rows::new(site.alloc, site.low);
+    one.put(start.held, &[start.from], budget)?;
+    let rows = reach(site, inner, &one, start.live, memo, budget)?;
+    let told = Told::new(site.alloc, inner, start, rows)?;
+    budget.release(told.rows.len() + 1);
+    Ok(told)
+}
+
+/// By a group that is read, where what it holds has a reference, or sets another group that is read.
+#[cycle(reach)]
+fn reach_by_bound_group<'e>(
     site: Site<'_>,
     number: u32,
-    inner: &Ere,
+    inner: &'e Ere,
     rows: &Rows,
     live: &[u32],
+    memo: &mut Memo<'e>,
     budget: &mut Budget,
 ) -> Result<Rows, AllocError>
     requires fits { FitsText site }
     requires inside { AreInside site.low site.high rows.now }
-    ensures { IfOk result (LeadsOver site.entry (group number (view inner.now)) live.now rows.now) }
+    requires memo { AllHold site memo.old }
+    ensures leads { IfOk result (LeadsOver site.entry (group number (view inner.now)) live.now rows.now) }
+    ensures memo { OnOk result (AllHold site.entry memo.new) }
+{
+    let rest = without(site.alloc, live, number)?;
+    let own = set_in(site.alloc, inner, rest.as_slice())?;
+    let read = live_before(site.alloc, inner, own.as_slice())?;
+    let mut found = Rows::new(site.alloc, site.low);
+    for row in &rows.rows {
+        let before = row.held.as_slice();
+        let held = kept(site.alloc, before, read.as_slice())?;
+        let frame = Frame {
+            held: before,
+            own: own.as_slice(),
+            others: rest.as_slice(),
+        };
+        for from in &row.places {
+            let from = *from;
+            let start = Start {
+                from,
+                held: held.as_slice(),
+                live: own.as_slice(),
+            };
+            let closing = Closing {
+                site,
+                number,
+                from,
+                live,
+            };
+            let told = told_from(site, inner, start, memo, budget)?;
+            put_framed(closing, &told.rows, frame, &mut found, budget)?;
+            memo.put(told)?;
+        }
+    }
+    Ok(found)
+}
+
+/// By a group.
+#[cycle(reach)]
+fn reach_by_group<'e>(
+    site: Site<'_>,
+    number: u32,
+    inner: &'e Ere,
+    rows: &Rows,
+    live: &[u32],
+    memo: &mut Memo<'e>,
+    budget: &mut Budget,
+) -> Result<Rows, AllocError>
+    requires fits { FitsText site }
+    requires inside { AreInside site.low site.high rows.now }
+    requires memo { AllHold site memo.old }
+    ensures leads { IfOk result (LeadsOver site.entry (group number (view inner.now)) live.now rows.now) }
+    ensures memo { OnOk result (AllHold site.entry memo.new) }
 {
     if !live.contains(&number) {
-        return reach(site, inner, rows, live, budget);
+        return reach(site, inner, rows, live, memo, budget);
     }
     let others = without(site.alloc, live, number)?;
     let read = live_before(site.alloc, inner, others.as_slice())?;
@@ -401,16 +545,7 @@ fn reach_by_group(
         budget.release(starts.len());
         return Ok(found);
     }
-    let mut found = Rows::new(site.alloc, site.low);
-    for row in &starts.rows {
-        for from in &row.places {
-            let mut one = Rows::new(site.alloc, site.low);
-            one.put(row.held.as_slice(), &[*from], budget)?;
-            let inside = reach(site, inner, &one, others.as_slice(), budget)?;
-            put_closed(site, number, *from, &inside, live, &mut found, budget)?;
-            budget.release(inside.len() + 1);
-        }
-    }
+    let found = reach_by_bound_group(site, number, inner, &starts, live, memo, budget)?;
     budget.release(starts.len());
     Ok(found)
 }
@@ -466,16 +601,19 @@ fn reach_by_reference(
 
 /// The rows to which the expression leads from these, where those groups are read behind it.
 #[cycle(reach)]
-pub(crate) fn reach(
+pub(crate) fn reach<'e>(
     site: Site<'_>,
-    ere: &Ere,
+    ere: &'e Ere,
     rows: &Rows,
     live: &[u32],
+    memo: &mut Memo<'e>,
     budget: &mut Budget,
 ) -> Result<Rows, AllocError>
     requires fits { FitsText site }
     requires inside { AreInside site.low site.high rows.now }
-    ensures { IfOk result (LeadsOver site.entry (view ere.now) live.now rows.now) }
+    requires memo { AllHold site memo.old }
+    ensures leads { IfOk result (LeadsOver site.entry (view ere.now) live.now rows.now) }
+    ensures memo { OnOk result (AllHold site.entry memo.new) }
 {
     if rows.len() == 0 {
         return Ok(Rows::new(site.alloc, site.low));
@@ -484,12 +622,14 @@ pub(crate) fn reach(
         return reach_freely(site, ere, rows, live, budget);
     }
     match ere {
-        Ere::Cat(parts) => reach_through(site, parts.as_slice(), rows, live, budget),
-        Ere::Alt(choices) => reach_by_one(site, choices.as_slice(), rows, live, budget),
+        Ere::Cat(parts) => reach_through(site, parts.as_slice(), rows, live, memo, budget),
+        Ere::Alt(choices) => reach_by_one(site, choices.as_slice(), rows, live, memo, budget),
         Ere::Repeat { inner, least, most } => {
-            reach_by_repeat(site, inner, *least, *most, rows, live, budget)
+            reach_by_repeat(site, inner, *least, *most, rows, live, memo, budget)
         }
-        Ere::Group { number, inner } => { reach_by_group(site, *number, inner, rows, live, budget) }
+        Ere::Group { number, inner } => {
+            reach_by_group(site, *number, inner, rows, live, memo, budget)
+        }
         Ere::Ref { number, fold } => {
             reach_by_reference(site, *number, *fold, rows, live, budget)
         }

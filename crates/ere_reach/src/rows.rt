@@ -12,7 +12,7 @@ use std::alloc::{AllocError, Global};
 const FEW: usize = 8;
 
 /// An odd number without order.
-const MIX: u64 = 0x9E37_79B9_7F4A_7C15;
+pub(crate) const MIX: u64 = 0x9E37_79B9_7F4A_7C15;
 
 /// Rows with a table that leads to them by what groups hold. It may forget one.
 #[derive(Drop)]
@@ -25,7 +25,7 @@ pub(crate) struct Rows {
 }
 
 /// A number that is the same for lists that are one.
-fn hash_of(held: &[Held]) -> u64 {
+pub(crate) fn hash_of(held: &[Held]) -> u64 {
     let mut hash = MIX;
     for one in held {
         hash = (hash.rotate_left(11) ^ one.number as u64).wrapping_mul(MIX);
@@ -36,7 +36,7 @@ fn hash_of(held: &[Held]) -> u64 {
 }
 
 /// The slot of a hash in a table of so many.
-fn slot_of(hash: u64, count: usize) -> usize
+pub(crate) fn slot_of(hash: u64, count: usize) -> usize
     requires { 0 < count }
     ensures { result < count }
 {

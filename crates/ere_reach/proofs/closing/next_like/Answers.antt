@@ -5,8 +5,8 @@ use Rattle.ere_tree.specs.Derivation.{part}
 use Rattle.ere_reach.proofs.ReferLemmas.{same_width}
 use Rattle.ere_reach.proofs.closing.next_like.Goals as goal
 
-pub returns-then-count-site : goal.returns-then-count-site
-returns-then-count-site c = λ e i j on fits lies same.
+pub returns-then-count-site-clause-none : goal.returns-then-count-site-clause-none
+returns-then-count-site-clause-none c = λ e i j on fits lies same.
     let a = c.args in
     let long = same_width true a.site.text.now i j a.from a.to lies
     (c.requires.order, omega (arith, c.requires.inside, c.requires.fits)) same in
@@ -32,5 +32,5 @@ loop-place-preserved c = λ i j on low fits lies same.
           (omega (arith, long)) same))) ∙ c.if-is_like.false)
     ]
 
-pub returns : goal.returns
-returns c = λ e i j on fits lies. c.loop-place.invariant i j on (omega (arith, lies.0)) fits lies
+pub returns-clause-none : goal.returns-clause-none
+returns-clause-none c = λ e i j on fits lies. c.loop-place.invariant i j on (omega (arith, lies.0)) fits lies

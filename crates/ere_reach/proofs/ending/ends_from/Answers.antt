@@ -4,6 +4,7 @@ use Rattle.ere_tree.specs.View.{view}
 use Rattle.ere_reach.specs.Rows.{IsIn}
 use Rattle.ere_reach.proofs.EndingLemmas.{ends_told}
 use Rattle.ere_reach.proofs.LeadsLemmas.{no_state}
+use Rattle.ere_reach.proofs.ToldLemmas.{none_hold}
 use Rattle.ere_reach.proofs.ending.ends_from.Goals as goal
 
 pub reach-requires-clause-inside : goal.reach-requires-clause-inside
@@ -15,4 +16,7 @@ reach-requires-clause-inside c = λ h p has. elim ((c.in_ok-put.ensures.put h p)
 pub returns : goal.returns
 returns c =
     ends_told c.args.site (view c.args.ere.now) c.in_ok-found.found c.args.places.now c.new-start.result c.put.new.self
-    (no_state c.new-start.result c.new-start.ensures.none) c.in_ok-put.ensures.put c.in_ok-found.ensures
+    (no_state c.new-start.result c.new-start.ensures.none) c.in_ok-put.ensures.put c.in_ok-found.ensures.leads
+
+pub reach-requires-clause-memo : goal.reach-requires-clause-memo
+reach-requires-clause-memo c = none_hold c.args.site c.new-memo.result c.new-memo.ensures

@@ -17,10 +17,14 @@ use Rattle.ere_reach.proofs.LiveLemmas.{behind_part}
 use Rattle.ere_reach.proofs.LeadsLemmas.{leads_same, no_state, same_itself, same_joined}
 use Rattle.ere_reach.proofs.ThroughLemmas.{cat_leads, rest_more, rest_last, one_more, one_last, view_at}
 use Rattle.std.specs.List.{Contains}
+use Rattle.ere_reach.proofs.FrameLemmas.{framed_leads, leads_from}
 use Rattle.ere_reach.proofs.GroupLemmas.{group_more, group_over}
 use Rattle.ere_reach.proofs.ReadLemmas.{all_of_group, kept_inside, kept_leads}
 use Rattle.ere_reach.proofs.StepLemmas.{gone_first, gone_last, one_inside, passes_none, place_inside}
-use Rattle.ere_reach.proofs.TakenLemmas.{TakenIn, gone_same, taken_in_all, taken_in_more, taken_in_none}
+use Rattle.ere_reach.proofs.ToldLemmas.{more_hold, still_hold, told_holds, told_leads}
+use Rattle.ere_reach.specs.Memo.{LeadsFrom}
+use Rattle.ere_reach.specs.Rows.{AreSame}
+use Rattle.ere_reach.proofs.TakenLemmas.{Taken, TakenIn, gone_same, taken_in_all, taken_in_more, taken_in_none}
 use Rattle.ere_reach.specs.declared.held.Held.{Held}
 use Rattle.ere_reach.specs.Rows.{IsPut}
 use Rattle.ere_reach.proofs.MembersLemmas.{further_last, further_more, further_whole, round_first, round_last, round_over}
@@ -30,8 +34,8 @@ use Rattle.ere_reach.proofs.reach.+reach.Goals as goal
 
 -- PARTS
 
-pub reach_through-returns-then-is_empty : goal.reach_through-returns-then-is_empty
-reach_through-returns-then-is_empty t c =
+pub reach_through-returns-then-is_empty-clause-leads : goal.reach_through-returns-then-is_empty-clause-leads
+reach_through-returns-then-is_empty-clause-leads t c =
     let site = c.args.site in
     let items = c.args.parts.now in
     let rows = c.args.rows.now in
@@ -55,12 +59,13 @@ reach_through-loop-index-init t c =
     let others = c.split_at.result.1.now in
     let lives = c.in_ok-lives.lives.items in
     record {
-      inside = over_inside site (view part) behind rows now c.in_ok-now.ensures;
+      inside = over_inside site (view part) behind rows now c.in_ok-now.ensures.leads;
       rest = rest_more site items 0 part c.args.live.now behind rows rows now (trees_of (map view items)) (omega arith)
           c.index-parts-0.is
           (behind_part items others c.args.live.now lives c.as_slice.result.now 0 (length items - 1) behind
           c.split_at.ensures.back c.in_ok-lives.ensures.read c.in_ok-lives.ensures.count c.as_slice.ensures.value
-          (omega arith) (c.live_of-behind.ensures.none, c.live_of-behind.ensures.some)) c.in_ok-now.ensures (λ found leads. leads);
+          (omega arith) (c.live_of-behind.ensures.none, c.live_of-behind.ensures.some)) c.in_ok-now.ensures.leads (λ found leads. leads);
+      memo = c.in_ok-now.ensures.memo;
     }
 
 pub reach_through-loop-index-preserved : goal.reach_through-loop-index-preserved
@@ -75,18 +80,19 @@ reach_through-loop-index-preserved t c =
     let others = c.split_at.result.1.now in
     let lives = c.in_ok-lives.lives.items in
     record {
-      inside = over_inside site (view part) behind now next c.in_ok-next.ensures;
+      inside = over_inside site (view part) behind now next c.in_ok-next.ensures.leads;
       rest = rest_more site items k part c.args.live.now behind c.args.rows.now now next (trees_of (map view items))
           c.loop-index-test.true c.index-parts-index.is
           (behind_part items others c.args.live.now lives c.as_slice-in-loop-index.result.now k (length items - 1 - k)
           behind c.split_at.ensures.back c.in_ok-lives.ensures.read c.in_ok-lives.ensures.count
           c.as_slice-in-loop-index.ensures.value (omega arith)
-          (c.live_of-behind-in-loop-index.ensures.none, c.live_of-behind-in-loop-index.ensures.some)) c.in_ok-next.ensures
+          (c.live_of-behind-in-loop-index.ensures.none, c.live_of-behind-in-loop-index.ensures.some)) c.in_ok-next.ensures.leads
           c.loop-index.invariant.rest;
+      memo = c.in_ok-next.ensures.memo;
     }
 
-pub reach_through-returns : goal.reach_through-returns
-reach_through-returns t c =
+pub reach_through-returns-clause-leads : goal.reach_through-returns-clause-leads
+reach_through-returns-clause-leads t c =
     rest_last _ c.args.parts.now c.loop-index.index _ _ _ (trees_of (map view c.args.parts.now)) c.loop-index-test.false
     c.requires.fits c.loop-index.invariant.inside c.loop-index.invariant.rest
 
@@ -97,18 +103,21 @@ reach_by_one-loop-one-preserved t c =
     let items = c.args.choices.now in
     let k = c.loop-one.one-index in
     let one = c.one-item.result in
-    one_more _ _ _ _ _ _ _ _ _ (view_at items k one c.loop-one-test.true c.one-item.is) c.loop-one.invariant
-    c.in_ok-found.ensures c.in_ok-join.ensures.join
+    record {
+      all = one_more _ _ _ _ _ _ _ _ _ (view_at items k one c.loop-one-test.true c.one-item.is) c.loop-one.invariant.all
+          c.in_ok-found.ensures.leads c.in_ok-join.ensures.join;
+      memo = c.in_ok-found.ensures.memo;
+    }
 
-pub reach_by_one-returns : goal.reach_by_one-returns
-reach_by_one-returns t c =
+pub reach_by_one-returns-clause-leads : goal.reach_by_one-returns-clause-leads
+reach_by_one-returns-clause-leads t c =
     one_last c.args.site c.args.choices.now c.loop-one.one-index c.args.live.now c.args.rows.now c.loop-one.all
-    c.loop-one-test.false c.loop-one.invariant
+    c.loop-one-test.false c.loop-one.invariant.all
 
 -- THE WHOLE
 
-pub reach-returns-in-Cat : goal.reach-returns-in-Cat
-reach-returns-in-Cat t c =
+pub reach-returns-in-Cat-clause-leads : goal.reach-returns-in-Cat-clause-leads
+reach-returns-in-Cat-clause-leads t c =
     let site = c.args.site in
     let live = c.args.live.now in
     let rows = c.args.rows.now in
@@ -118,19 +127,19 @@ reach-returns-in-Cat t c =
     ∙ sym (ap view c.in-Cat.is ∙ view_Cat c.in-Cat.parts ∙ ap cat (trees_in_map c.in-Cat.parts)) in
     IfOk-weaker c.reach_through.result (LeadsThrough site ts live rows) (LeadsOver site (view c.args.ere.now) live rows)
     (λ found h. subst (λ (t : Tree). LeadsOver site t live rows found) tree (cat_leads site ts live rows found h))
-    c.reach_through.ensures
+    c.reach_through.ensures.leads
 
 -- A GROUP
 
-pub reach_by_group-returns-then-not-contains : goal.reach_by_group-returns-then-not-contains
-reach_by_group-returns-then-not-contains t c =
+pub reach_by_group-returns-then-not-contains-clause-leads : goal.reach_by_group-returns-then-not-contains-clause-leads
+reach_by_group-returns-then-not-contains-clause-leads t c =
     let a = c.args in
     let unread : Contains a.live.now a.number → ⊥ = λ has.
     passes_none a.live.now a.number a.number (sym c.contains.ensures.value ∙ c.if-not-contains.true) has refl in
     IfOk-weaker c.reach.result (LeadsOver a.site (view a.inner.now) a.live.now a.rows.now)
     (LeadsOver a.site (group a.number (view a.inner.now)) a.live.now a.rows.now)
     (λ found leads. group_over a.site a.number (view a.inner.now) a.live.now a.rows.now found unread leads)
-    c.reach.ensures
+    c.reach.ensures.leads
 
 pub reach_by_group-reach_by_free_group-requires : goal.reach_by_group-reach_by_free_group-requires
 reach_by_group-reach_by_free_group-requires t c =
@@ -143,8 +152,8 @@ reach_by_group-reach_by_free_group-requires t c =
       sets = (c.in_ok-others.others.items, c.in_ok-others.ensures, unset);
     }
 
-pub reach_by_group-returns-then-not-refers_or_sets : goal.reach_by_group-returns-then-not-refers_or_sets
-reach_by_group-returns-then-not-refers_or_sets t c =
+pub reach_by_group-returns-then-not-refers_or_sets-clause-leads : goal.reach_by_group-returns-then-not-refers_or_sets-clause-leads
+reach_by_group-returns-then-not-refers_or_sets-clause-leads t c =
     let a = c.args in
     let t = view a.inner.now in
     let tree = group a.number t in
@@ -154,77 +163,145 @@ reach_by_group-returns-then-not-refers_or_sets t c =
     (rw c.as_slice.ensures.value at c.in_ok-read.ensures))
     (rw c.as_slice-2.ensures.value at c.in_ok-starts.ensures) c.in_ok-found.ensures
 
-pub reach_by_group-loop-row-init : goal.reach_by_group-loop-row-init
-reach_by_group-loop-row-init t c =
-    let tree = group c.args.number (view c.args.inner.now) in
-    gone_first c.args.site (Does c.args.site.text.now tree) (reads tree) c.args.live.now
-    c.deref-row-items.result.now c.new-found.result c.new-found.ensures.none
+pub reach_by_group-reach_by_bound_group-requires : goal.reach_by_group-reach_by_bound_group-requires
+reach_by_group-reach_by_bound_group-requires t c =
+    let it = kept_inside c.args.site _ c.args.rows.now c.in_ok-starts.starts c.in_ok-starts.ensures c.requires.inside in
+    (search rules, (c.requires.fits, (it, c.requires.memo)))
 
-pub reach_by_group-loop-from-init : goal.reach_by_group-loop-from-init
-reach_by_group-loop-from-init t c = gone_same _ _ _ _ _ _
-    (taken_in_none c.deref-row-items.result.now c.loop-row.row-index c.row-item.result.held.items
-    c.deref-from-items.result.now) c.loop-row.invariant
-
-pub reach_by_group-reach-requires-in-loop-from : goal.reach_by_group-reach-requires-in-loop-from
-reach_by_group-reach-requires-in-loop-from t c = (
-  search rules,
-  (
-    c.requires.fits,
-    one_inside c.args.site c.as_slice-in-loop-from.result.now
-        (get_or c.deref-from-items.result.now c.loop-from.from-index 0) c.new-one.result c.put.new.self
-        c.new-one.ensures.none c.in_ok-put.ensures.put
-        (place_inside c.args.site c.in_ok-starts.starts c.deref-row-items.result.now c.loop-row.row-index
-        c.row-item.result c.deref-from-items.result.now c.loop-from.from-index c.deref-row-items.ensures.value
-        (kept_inside c.args.site _ c.args.rows.now c.in_ok-starts.starts c.in_ok-starts.ensures c.requires.inside)
-        c.loop-row-test.true c.row-item.is c.deref-from-items.ensures.value c.loop-from-test.true),
-  ),
-)
-
-pub reach_by_group-loop-from-preserved : goal.reach_by_group-loop-from-preserved
-reach_by_group-loop-from-preserved t c =
-    let a = c.args in
-    let rows = c.deref-row-items.result.now in
-    let k = c.loop-row.row-index in
-    let row = c.row-item.result in
-    let g = row.held.items in
-    let places = c.deref-from-items.result.now in
-    let j = c.loop-from.from-index in
-    let p = get_or places j 0 in
-    group_more a.site a.number (view a.inner.now) a.live.now c.in_ok-others.others.items c.in_ok-others.ensures g p
-    c.new-one.result c.put.new.self c.in_ok-inside.inside c.loop-from.found c.put_closed.new.found
-    (TakenIn rows k g places j) (TakenIn rows k g places (j + 1))
-    (place_inside a.site c.in_ok-starts.starts rows k row places j c.deref-row-items.ensures.value
-    (kept_inside a.site _ a.rows.now c.in_ok-starts.starts c.in_ok-starts.ensures c.requires.inside)
-    c.loop-row-test.true c.row-item.is c.deref-from-items.ensures.value c.loop-from-test.true).0
-    c.new-one.ensures.none (rw c.as_slice-in-loop-from.ensures.value at c.in_ok-put.ensures.put)
-    (rw c.as_slice-in-loop-from-2.ensures.value at c.in_ok-inside.ensures) c.in_ok-put_closed.ensures
-    (taken_in_more rows k g places j p c.loop-from-test.true refl) c.loop-from.invariant
-
-pub reach_by_group-loop-row-preserved : goal.reach_by_group-loop-row-preserved
-reach_by_group-loop-row-preserved t c = gone_same _ _ _ _ _ _
-    (taken_in_all c.deref-row-items.result.now c.loop-row.row-index c.row-item.result c.deref-from-items.result.now
-    c.loop-from.from-index c.loop-row-test.true c.row-item.is c.deref-from-items.ensures.value c.loop-from-test.false)
-    c.loop-from.invariant
-
-pub reach_by_group-returns : goal.reach_by_group-returns
-reach_by_group-returns t c =
+pub reach_by_group-returns-clause-leads : goal.reach_by_group-returns-clause-leads
+reach_by_group-returns-clause-leads t c =
     let a = c.args in
     let t = view a.inner.now in
     let tree = group a.number t in
-    let starts = c.in_ok-starts.starts in
-    kept_leads a.site (Does a.site.text.now tree) (reads tree) a.live.now c.in_ok-read.read.items a.rows.now starts
-    c.loop-row.found
+    kept_leads a.site (Does a.site.text.now tree) (reads tree) a.live.now c.in_ok-read.read.items a.rows.now
+    c.in_ok-starts.starts c.in_ok-found-2.found
     (all_of_group a.number t a.live.now c.in_ok-others.others.items c.in_ok-read.read.items c.in_ok-others.ensures
     (rw c.as_slice.ensures.value at c.in_ok-read.ensures))
-    (rw c.as_slice-2.ensures.value at c.in_ok-starts.ensures)
-    (gone_last a.site (Does a.site.text.now tree) (reads tree) a.live.now starts c.loop-row.found
+    (rw c.as_slice-2.ensures.value at c.in_ok-starts.ensures) c.in_ok-found-2.ensures.leads
+
+-- A START
+
+pub told_from-returns-in-Some-clause-leads : goal.told_from-returns-in-Some-clause-leads
+told_from-returns-in-Some-clause-leads t c =
+    told_leads c.args.site (view c.args.inner.now) c.args.start c.in-Some.told c.in-Some.ensures.of
+    (c.requires.memo c.in-Some.told c.in-Some.ensures.there)
+
+pub told_from-returns-in-Some-clause-holds : goal.told_from-returns-in-Some-clause-holds
+told_from-returns-in-Some-clause-holds t c = c.requires.memo c.in-Some.told c.in-Some.ensures.there
+
+pub told_from-returns-in-Some-clause-memo : goal.told_from-returns-in-Some-clause-memo
+told_from-returns-in-Some-clause-memo t c =
+    still_hold c.args.site c.args.memo.now c.take.new.self c.take.ensures.kept c.requires.memo
+
+pub told_from-reach-requires : goal.told_from-reach-requires
+told_from-reach-requires t c =
+    let it = one_inside c.args.site c.args.start.held.now c.args.start.from c.new-one.result c.put.new.self
+    c.new-one.ensures.none c.in_ok-put.ensures.put c.requires.inside in
+    (search rules, (c.requires.fits, (it, still_hold c.args.site c.args.memo.now c.take.new.self c.take.ensures.kept c.requires.memo)))
+
+pub told_from-returns-clause-leads : goal.told_from-returns-clause-leads
+told_from-returns-clause-leads t c =
+    let a = c.args in
+    subst (LeadsFrom a.site (view a.inner.now) a.start.live.now a.start.held.now a.start.from)
+    (sym c.in_ok-told.ensures.rows)
+    (leads_from a.site (view a.inner.now) a.start.live.now a.start.held.now a.start.from c.new-one.result
+    c.put.new.self c.in_ok-rows.rows c.new-one.ensures.none c.in_ok-put.ensures.put c.in_ok-rows.ensures.leads)
+
+pub told_from-returns-clause-holds : goal.told_from-returns-clause-holds
+told_from-returns-clause-holds t c =
+    let a = c.args in
+    told_holds a.site (view a.inner.now) a.start c.in_ok-told.told c.in_ok-told.ensures.of
+    (subst (LeadsFrom a.site (view a.inner.now) a.start.live.now a.start.held.now a.start.from)
+    (sym c.in_ok-told.ensures.rows)
+    (leads_from a.site (view a.inner.now) a.start.live.now a.start.held.now a.start.from c.new-one.result
+    c.put.new.self c.in_ok-rows.rows c.new-one.ensures.none c.in_ok-put.ensures.put c.in_ok-rows.ensures.leads))
+
+-- A GROUP WITH REFERENCES OR OTHER GROUPS IN IT
+
+pub reach_by_bound_group-loop-row-init : goal.reach_by_bound_group-loop-row-init
+reach_by_bound_group-loop-row-init t c =
+    let tree = group c.args.number (view c.args.inner.now) in
+    record {
+      found = gone_first c.args.site (Does c.args.site.text.now tree) (reads tree) c.args.live.now
+          c.deref-row-items.result.now c.new-found.result c.new-found.ensures.none;
+      memo = c.requires.memo;
+    }
+
+pub reach_by_bound_group-loop-from-init : goal.reach_by_bound_group-loop-from-init
+reach_by_bound_group-loop-from-init t c =
+    record {
+      found = gone_same _ _ _ _ _ _
+          (taken_in_none c.deref-row-items.result.now c.loop-row.row-index c.as_slice-before.result.now
+          c.deref-from-items.result.now) c.loop-row.invariant.found;
+      memo = c.loop-row.invariant.memo;
+    }
+
+pub reach_by_bound_group-told_from-requires : goal.reach_by_bound_group-told_from-requires
+reach_by_bound_group-told_from-requires t c =
+    let it = place_inside c.args.site c.args.rows.now c.deref-row-items.result.now c.loop-row.row-index c.row-item.result
+    c.deref-from-items.result.now c.loop-from.from-index c.deref-row-items.ensures.value c.requires.inside
+    c.loop-row-test.true c.row-item.is c.deref-from-items.ensures.value c.loop-from-test.true in
+    (search rules, (c.requires.fits, (it, c.loop-from.invariant.memo)))
+
+pub reach_by_bound_group-loop-from-preserved : goal.reach_by_bound_group-loop-from-preserved
+reach_by_bound_group-loop-from-preserved t c =
+    let a = c.args in
+    let inner = view a.inner.now in
+    let rows = c.deref-row-items.result.now in
+    let k = c.loop-row.row-index in
+    let g = c.as_slice-before.result.now in
+    let places = c.deref-from-items.result.now in
+    let j = c.loop-from.from-index in
+    let p = get_or places j 0 in
+    let others = c.in_ok-rest.rest.items in
+    let own = c.in_ok-own.own.items in
+    let read = c.in_ok-read.read.items in
+    let held = c.in_ok-held.held.items in
+    let told = c.in_ok-told.told in
+    let puts = rw c.as_slice-in-loop-row-2.ensures.value at (rw c.as_slice-in-loop-row-3.ensures.value at
+    c.in_ok-put_framed.ensures) in
+    record {
+      found = group_more a.site a.number inner a.live.now others c.in_ok-rest.ensures g p puts.0 c.loop-from.found
+          c.put_framed.new.found (TakenIn rows k g places j) (TakenIn rows k g places (j + 1))
+          (place_inside a.site a.rows.now rows k c.row-item.result places j c.deref-row-items.ensures.value
+          c.requires.inside c.loop-row-test.true c.row-item.is c.deref-from-items.ensures.value c.loop-from-test.true).0
+          (framed_leads a.site inner own others read g held p told.rows puts.0
+          (rw c.as_slice.ensures.value at c.in_ok-own.ensures) (rw c.as_slice-2.ensures.value at c.in_ok-read.ensures)
+          (rw c.as_slice-in-loop-row.ensures.value at c.in_ok-held.ensures)
+          (rw c.as_slice-in-loop-from.ensures.value at (rw c.as_slice-in-loop-from-2.ensures.value at
+          c.in_ok-told.ensures.leads)) puts.1) puts.2
+          (taken_in_more rows k g places j p c.loop-from-test.true refl) c.loop-from.invariant.found;
+      memo = more_hold c.args.site c.told_from.new.memo c.in_ok-told.told c.put.new.self c.in_ok-put.ensures
+          c.in_ok-told.ensures.memo c.in_ok-told.ensures.holds;
+    }
+
+pub reach_by_bound_group-loop-row-preserved : goal.reach_by_bound_group-loop-row-preserved
+reach_by_bound_group-loop-row-preserved t c =
+    let rows = c.deref-row-items.result.now in
+    let k = c.loop-row.row-index in
+    let places = c.deref-from-items.result.now in
+    let j = c.loop-from.from-index in
+    record {
+      found = gone_same _ _ _ _ _ _
+          (subst (λ (g : List Held). AreSame (Taken rows (k + 1)) (TakenIn rows k g places j))
+          (sym c.as_slice-before.ensures.value)
+          (taken_in_all rows k c.row-item.result places j c.loop-row-test.true c.row-item.is
+          c.deref-from-items.ensures.value c.loop-from-test.false)) c.loop-from.invariant.found;
+      memo = c.loop-from.invariant.memo;
+    }
+
+pub reach_by_bound_group-returns-clause-leads : goal.reach_by_bound_group-returns-clause-leads
+reach_by_bound_group-returns-clause-leads t c =
+    let a = c.args in
+    let tree = group a.number (view a.inner.now) in
+    gone_last a.site (Does a.site.text.now tree) (reads tree) a.live.now a.rows.now c.loop-row.found
     c.deref-row-items.result.now c.loop-row.row-index c.deref-row-items.ensures.value c.loop-row-test.false
-    c.loop-row.invariant)
+    c.loop-row.invariant.found
 
 -- A MEMBER
 
-pub reach_by_further-returns-then-has_byte : goal.reach_by_further-returns-then-has_byte
-reach_by_further-returns-then-has_byte t c =
+pub reach_by_further-returns-then-has_byte-clause-leads : goal.reach_by_further-returns-then-has_byte-clause-leads
+reach_by_further-returns-then-has_byte-clause-leads t c =
     let site = c.args.site in
     let inner = view c.args.inner.now in
     IfOk-weaker c.reach.result (LeadsOver site inner c.args.live.now c.args.rows.now) (LeadsFurther site inner c.args.live.now c.args.rows.now)
@@ -232,21 +309,26 @@ reach_by_further-returns-then-has_byte t c =
       | reach_by_further-then-has_byte-via-then-has_byte w ↦ inl (sym c.has_byte.ensures ∙ w.if-has_byte.true)
       | reach_by_further-then-has_byte-via-else-has_byte+then-not-sets_one w ↦
           inr (sym w.sets_one.ensures ∙ w.if-not-sets_one.true)
-    ])) c.reach.ensures
+    ])) c.reach.ensures.leads
 
 pub reach_by_further-loop-row-init : goal.reach_by_further-loop-row-init
 reach_by_further-loop-row-init t c =
     let inner = view c.args.inner.now in
-    gone_first c.args.site (DoesFurther c.args.site.text.now inner) (reads inner) c.args.live.now
-    c.deref-row-items.result.now c.new-all.result c.new-all.ensures.none
+    record {
+      all = gone_first c.args.site (DoesFurther c.args.site.text.now inner) (reads inner) c.args.live.now
+          c.deref-row-items.result.now c.new-all.result c.new-all.ensures.none;
+      memo = c.requires.memo;
+    }
 
 pub reach_by_further-loop-place-init : goal.reach_by_further-loop-place-init
 reach_by_further-loop-place-init t c =
-    gone_same _ _ _ _ _ _ (taken_in_none c.deref-row-items.result.now c.loop-row.row-index
-    c.row-item.result.held.items c.deref-place-items.result.now) c.loop-row.invariant
+    record {
+      all = gone_same _ _ _ _ _ _ (taken_in_none c.deref-row-items.result.now c.loop-row.row-index
+          c.row-item.result.held.items c.deref-place-items.result.now) c.loop-row.invariant.all;
+      memo = c.loop-row.invariant.memo;
+    }
 
-pub reach_by_further-reach-requires-in-loop-place :
-    goal.reach_by_further-reach-requires-in-loop-place
+pub reach_by_further-reach-requires-in-loop-place : goal.reach_by_further-reach-requires-in-loop-place
 reach_by_further-reach-requires-in-loop-place t c =
     let place = get_or c.deref-place-items.result.now c.loop-place.place-index 0 in
     let lies = place_inside c.args.site c.args.rows.now c.deref-row-items.result.now c.loop-row.row-index
@@ -254,95 +336,114 @@ reach_by_further-reach-requires-in-loop-place t c =
     c.requires.inside c.loop-row-test.true c.row-item.is c.deref-place-items.ensures.value c.loop-place-test.true in
     let inside = one_inside c.args.site c.as_slice.result.now place c.new-one.result c.put.new.self
     c.new-one.ensures.none c.in_ok-put.ensures.put lies in
-    (search rules, (c.requires.fits, inside))
+    (search rules, (c.requires.fits, (inside, c.loop-place.invariant.memo)))
 
 pub reach_by_further-loop-place-preserved : goal.reach_by_further-loop-place-preserved
 reach_by_further-loop-place-preserved t c =
     let places = c.deref-place-items.result.now in
     let j = c.loop-place.place-index in
     let held = c.row-item.result.held.items in
-    further_more _ _ _ _ _ held (get_or places j 0) c.new-one.result c.put.new.self c.in_ok-found.found
-    c.loop-place.all c.put_beyond.new.all c.new-one.ensures.none
-    (subst (λ (g : List Held). IsPut c.new-one.result g (get_or places j 0 ∷ []) c.put.new.self)
-    c.as_slice.ensures.value c.in_ok-put.ensures.put)
-    (taken_in_more c.deref-row-items.result.now c.loop-row.row-index held places j (get_or places j 0)
-    c.loop-place-test.true refl) c.in_ok-found.ensures c.in_ok-put_beyond.ensures c.loop-place.invariant
+    record {
+      all = further_more _ _ _ _ _ held (get_or places j 0) c.new-one.result c.put.new.self c.in_ok-found.found
+          c.loop-place.all c.put_beyond.new.all c.new-one.ensures.none
+          (subst (λ (g : List Held). IsPut c.new-one.result g (get_or places j 0 ∷ []) c.put.new.self)
+          c.as_slice.ensures.value c.in_ok-put.ensures.put)
+          (taken_in_more c.deref-row-items.result.now c.loop-row.row-index held places j (get_or places j 0)
+          c.loop-place-test.true refl) c.in_ok-found.ensures.leads c.in_ok-put_beyond.ensures c.loop-place.invariant.all;
+      memo = c.in_ok-found.ensures.memo;
+    }
 
 pub reach_by_further-loop-row-preserved : goal.reach_by_further-loop-row-preserved
 reach_by_further-loop-row-preserved t c =
-    gone_same _ _ _ _ _ _ (taken_in_all c.deref-row-items.result.now c.loop-row.row-index c.row-item.result
-    c.deref-place-items.result.now c.loop-place.place-index c.loop-row-test.true c.row-item.is
-    c.deref-place-items.ensures.value c.loop-place-test.false) c.loop-place.invariant
+    record {
+      all = gone_same _ _ _ _ _ _ (taken_in_all c.deref-row-items.result.now c.loop-row.row-index c.row-item.result
+          c.deref-place-items.result.now c.loop-place.place-index c.loop-row-test.true c.row-item.is
+          c.deref-place-items.ensures.value c.loop-place-test.false) c.loop-place.invariant.all;
+      memo = c.loop-place.invariant.memo;
+    }
 
-pub reach_by_further-returns : goal.reach_by_further-returns
-reach_by_further-returns t c =
+pub reach_by_further-returns-clause-leads : goal.reach_by_further-returns-clause-leads
+reach_by_further-returns-clause-leads t c =
     further_last c.args.site (view c.args.inner.now) c.args.live.now c.args.rows.now c.loop-row.all
     c.deref-row-items.result.now c.loop-row.row-index c.deref-row-items.ensures.value c.loop-row-test.false
-    c.loop-row.invariant
+    c.loop-row.invariant.all
 
 -- MEMBERS
 
 pub reach_by_members-loop-init : goal.reach_by_members-loop-init
-reach_by_members-loop-init t c = record {
-  round = round_first _ _ _ _ c.new-all.result _ c.requires.inside c.new-all.ensures.none c.in_ok-join.ensures.join
-      c.in_ok-join.ensures.done;
-  entry = entered_first _ _ _ _ _ c.new-entered.result c.new-entered.ensures.none;
-}
+reach_by_members-loop-init t c =
+    record {
+      rounds = record {
+        round = round_first _ _ _ _ c.new-all.result _ c.requires.inside c.new-all.ensures.none c.in_ok-join.ensures.join
+            c.in_ok-join.ensures.done;
+        entry = entered_first _ _ _ _ _ c.new-entered.result c.new-entered.ensures.none;
+      };
+      memo = c.requires.memo;
+    }
 
-pub reach_by_members-returns-then-len-eq0 : goal.reach_by_members-returns-then-len-eq0
-reach_by_members-returns-then-len-eq0 t c =
+pub reach_by_members-returns-then-len-eq0-clause-leads : goal.reach_by_members-returns-then-len-eq0-clause-leads
+reach_by_members-returns-then-len-eq0-clause-leads t c =
     round_over _ (view c.args.inner.now) _ _ c.loop.all _ c.in_ok-fresh.fresh c.loop.counter c.args.most
-    c.requires.fits (omega arith) c.loop.invariant.round c.in_ok-fresh.ensures.same c.in_ok-fresh.ensures.none
+    c.requires.fits (omega arith) c.loop.invariant.rounds.round c.in_ok-fresh.ensures.same c.in_ok-fresh.ensures.none
     (sym c.len.ensures ∙ c.if-len-eq0.true)
 
 pub reach_by_members-reach_by_further-requires : goal.reach_by_members-reach_by_further-requires
 reach_by_members-reach_by_further-requires t c =
     let inside = first_inside c.args.site (view c.args.inner.now) c.args.live.now c.in_ok-read.read.items c.loop.all
-    c.in_ok-fresh.fresh c.loop.entered c.enter.new.entered c.in_ok-first.first c.loop.invariant.entry
-    c.in_ok-fresh.ensures.fresh (rw c.as_slice.ensures.value at c.in_ok-first.ensures) c.loop.invariant.round.inside in
-    (search rules, (c.requires.fits, inside))
+    c.in_ok-fresh.fresh c.loop.entered c.enter.new.entered c.in_ok-first.first c.loop.invariant.rounds.entry
+    c.in_ok-fresh.ensures.fresh (rw c.as_slice.ensures.value at c.in_ok-first.ensures) c.loop.invariant.rounds.round.inside in
+    (search rules, (c.requires.fits, (inside, c.loop.invariant.memo)))
 
 pub reach_by_members-loop-preserved : goal.reach_by_members-loop-preserved
 reach_by_members-loop-preserved t c =
-    rounds_more c.args.site (view c.args.inner.now) c.args.live.now c.in_ok-read.read.items c.loop.all
-    c.in_ok-fresh.fresh c.loop.entered c.enter.new.entered c.in_ok-first.first c.loop.invariant.entry
-    c.in_ok-fresh.ensures.fresh (rw c.as_slice.ensures.value at c.in_ok-first.ensures) c.args.rows.now
-    c.fresh.new.self c.in_ok-next.next c.join-in-loop.new.self c.loop.counter c.in_ok-read.ensures c.requires.read
-    c.loop.invariant.round c.in_ok-fresh.ensures.same c.in_ok-fresh.ensures.done c.in_ok-next.ensures
-    c.in_ok-join-2.ensures.join c.in_ok-join-2.ensures.done
+    record {
+      rounds = rounds_more c.args.site (view c.args.inner.now) c.args.live.now c.in_ok-read.read.items c.loop.all
+          c.in_ok-fresh.fresh c.loop.entered c.enter.new.entered c.in_ok-first.first c.loop.invariant.rounds.entry
+          c.in_ok-fresh.ensures.fresh (rw c.as_slice.ensures.value at c.in_ok-first.ensures) c.args.rows.now
+          c.fresh.new.self c.in_ok-next.next c.join-in-loop.new.self c.loop.counter c.in_ok-read.ensures c.requires.read
+          c.loop.invariant.rounds.round c.in_ok-fresh.ensures.same c.in_ok-fresh.ensures.done c.in_ok-next.ensures.leads
+          c.in_ok-join-2.ensures.join c.in_ok-join-2.ensures.done;
+      memo = c.in_ok-next.ensures.memo;
+    }
 
-pub reach_by_members-returns : goal.reach_by_members-returns
-reach_by_members-returns t c =
+pub reach_by_members-returns-clause-leads : goal.reach_by_members-returns-clause-leads
+reach_by_members-returns-clause-leads t c =
     round_last _ (view c.args.inner.now) _ _ _ c.loop.counter c.args.most c.requires.fits (omega arith)
-    c.loop.invariant.round
+    c.loop.invariant.rounds.round
 
 -- A REPEAT
 
 pub reach_by_repeat-reach_by_members-requires : goal.reach_by_repeat-reach_by_members-requires
 reach_by_repeat-reach_by_members-requires t c =
     let read = least_read (view c.args.inner.now) c.args.live.now _ _ c.as_slice.ensures.value c.in_ok-between.ensures in
-    (search rules, (c.requires.fits, (c.requires.inside, read)))
+    (search rules, (c.requires.fits, (c.requires.inside, (read, c.requires.memo))))
 
-pub reach_by_repeat-returns-then-least-eq0 : goal.reach_by_repeat-returns-then-least-eq0
-reach_by_repeat-returns-then-least-eq0 t c =
+pub reach_by_repeat-returns-then-least-eq0-clause-leads : goal.reach_by_repeat-returns-then-least-eq0-clause-leads
+reach_by_repeat-returns-then-least-eq0-clause-leads t c =
     least_end c.args.site (view c.args.inner.now) c.args.least c.args.most c.args.live.now _ c.args.rows.now
     c.in-Some.more c.saturating_sub.result _ 0 c.args.rows.now c.in_ok-all.all c.in_ok-found.found c.in-Some.ensures
     c.saturating_sub.ensures c.requires.inside c.as_slice.ensures.value c.in_ok-between.ensures
-    (least_none _ _ _ _ _ _ _ c.requires.inside) (omega arith) c.in_ok-all.ensures c.in_ok-found.ensures
+    (least_none _ _ _ _ _ _ _ c.requires.inside) (omega arith) c.in_ok-all.ensures.leads c.in_ok-found.ensures
 
 pub reach_by_repeat-loop-init : goal.reach_by_repeat-loop-init
 reach_by_repeat-loop-init t c =
-    least_step _ _ _ _ _ _ _ _ _ _ _ c.as_slice-2.ensures.value c.in_ok-between.ensures c.in_ok-now.ensures
-    (least_none _ _ _ _ _ _ _ c.requires.inside)
+    record {
+      least = least_step _ _ _ _ _ _ _ _ _ _ _ c.as_slice-2.ensures.value c.in_ok-between.ensures c.in_ok-now.ensures.leads
+          (least_none _ _ _ _ _ _ _ c.requires.inside);
+      memo = c.in_ok-now.ensures.memo;
+    }
 
 pub reach_by_repeat-loop-preserved : goal.reach_by_repeat-loop-preserved
 reach_by_repeat-loop-preserved t c =
-    least_step _ _ _ _ _ _ _ _ _ _ _ c.as_slice-in-loop.ensures.value c.in_ok-between.ensures c.in_ok-next.ensures
-    c.loop.invariant
+    record {
+      least = least_step _ _ _ _ _ _ _ _ _ _ _ c.as_slice-in-loop.ensures.value c.in_ok-between.ensures c.in_ok-next.ensures.leads
+          c.loop.invariant.least;
+      memo = c.in_ok-next.ensures.memo;
+    }
 
-pub reach_by_repeat-returns : goal.reach_by_repeat-returns
-reach_by_repeat-returns t c =
+pub reach_by_repeat-returns-clause-leads : goal.reach_by_repeat-returns-clause-leads
+reach_by_repeat-returns-clause-leads t c =
     least_end c.args.site (view c.args.inner.now) c.args.least c.args.most c.args.live.now _ c.args.rows.now
     c.in-Some.more c.saturating_sub.result _ c.loop.counter c.loop.now c.in_ok-all-2.all c.in_ok-found-2.found
     c.in-Some.ensures c.saturating_sub.ensures c.requires.inside c.as_slice-3.ensures.value c.in_ok-between.ensures
-    c.loop.invariant (omega arith) c.in_ok-all-2.ensures c.in_ok-found-2.ensures
+    c.loop.invariant.least (omega arith) c.in_ok-all-2.ensures.leads c.in_ok-found-2.ensures

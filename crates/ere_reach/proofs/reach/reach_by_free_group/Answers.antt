@@ -39,8 +39,11 @@ pub loop-to-init : goal.loop-to-init
 loop-to-init c =
     let a = c.args in
     let p = get_or c.deref-from-items.result.now c.loop-from.from-index 0 in
-    gone_same _ _ _ _ _ _ (taken_in_none [] 0 c.row-item.result.held.items c.deref-to-items.result.now)
-    (closed_first a.site a.number p a.live.now c.loop-from.found [])
+    record {
+      closed = gone_same _ _ _ _ _ _ (taken_in_none [] 0 c.row-item.result.held.items c.deref-to-items.result.now)
+          (closed_first a.site a.number p a.live.now c.loop-from.found []);
+      known = c.new-known.ensures.fits;
+    }
 
 pub loop-to-preserved : goal.loop-to-preserved
 loop-to-preserved c =
@@ -55,18 +58,22 @@ loop-to-preserved c =
     let grows = taken_in_more [] 0 g ends j to c.loop-to-test.true refl in
     elim c.if-from-to.branch [
       | then-from-to+then-to-site+in_ok-put_end w ↦
-          rw w.found-is
-          (closed_more a.site a.number p a.live.now c.loop-from.found g w.put_end.new.list.items to S T c.loop-to.found
-          w.put_end.new.found w.if-from-to.true w.if-to-site.true
-          (rw c.as_slice-held.ensures.value at w.in_ok-put_end.ensures.closed) grows w.in_ok-put_end.ensures.put
-          c.loop-to.invariant)
+          rw (w.found-is, w.known-is) (record {
+            closed = closed_more a.site a.number p a.live.now c.loop-from.found g w.put_end.new.list.items to S T
+                c.loop-to.found w.put_end.new.found w.if-from-to.true w.if-to-site.true
+                (rw c.as_slice-held.ensures.value at w.in_ok-put_end.ensures.closed) grows w.in_ok-put_end.ensures.put
+                c.loop-to.invariant.closed;
+            known = w.in_ok-put_end.ensures.known;
+          })
       | else-from-to w ↦
-          rw w.found-is
-          (closed_skip a.site a.number p a.live.now c.loop-from.found g to S T c.loop-to.found
-          (λ on fits. elim w.else-from-to.branch [
-            | else-from-to-via-then-from-to+else-to-site v ↦ absurd (omega (arith, v.if-to-site.false, fits))
-            | else-from-to-via-else-from-to v ↦ absurd (omega (arith, v.if-from-to.false, on))
-          ]) grows c.loop-to.invariant)
+          rw (w.found-is, w.known-is) (record {
+            closed = closed_skip a.site a.number p a.live.now c.loop-from.found g to S T c.loop-to.found
+                (λ on fits. elim w.else-from-to.branch [
+                  | else-from-to-via-then-from-to+else-to-site v ↦ absurd (omega (arith, v.if-to-site.false, fits))
+                  | else-from-to-via-else-from-to v ↦ absurd (omega (arith, v.if-from-to.false, on))
+                ]) grows c.loop-to.invariant.closed;
+            known = c.loop-to.invariant.known;
+          })
     ]
 
 pub loop-from-preserved : goal.loop-from-preserved
@@ -82,7 +89,7 @@ loop-from-preserved c =
     let lies = place_inside a.site a.rows.now rows k row places j c.deref-row-items.ensures.value c.requires.inside
     c.loop-row-test.true c.row-item.is c.deref-from-items.ensures.value c.loop-from-test.true in
     let puts = closed_ends a.site a.number p a.live.now c.loop-from.found g c.deref-to-items.result.now
-    c.loop-to.to-index c.loop-to.found c.loop-to-test.false c.loop-to.invariant in
+    c.loop-to.to-index c.loop-to.found c.loop-to-test.false c.loop-to.invariant.closed in
     free_group_more a.site a.number (view a.inner.now) a.live.now c.requires.sets.0 c.requires.sets.1 c.requires.refs
     c.requires.sets.2 c.window.result c.window.ensures.low c.window.ensures.high c.window.ensures.direction g p
     c.in_ok-ends.ends c.loop-from.found c.loop-to.found (TakenIn rows k g places j) (TakenIn rows k g places (j + 1))

@@ -1,14 +1,17 @@
 use Rattle.std.proofs.Common.{[]}
 use Rattle.ere_tree.specs.View.{view}
+use Rattle.ere_reach.specs.Leads.{FitsKnown}
 use Rattle.ere_reach.proofs.GroupLemmas.{ClosesSoFar}
 use Rattle.ere_reach.proofs.KeepsLemmas.{ClosedSoFar}
 use Rattle.ere_reach.proofs.TakenLemmas.{Taken, TakenIn}
 use Rattle.ere_reach.proofs.reach.reach_by_free_group.Given as goal
 
 abbrev pub invariant-loop-to : goal.invariant-loop-to
-invariant-loop-to l =
-    ClosedSoFar l.site l.number l.from l.live l.initial.found
-    (TakenIn [] 0 l.row.held.items l.to-items l.to-index) l.found
+invariant-loop-to l = record {
+  closed : ClosedSoFar l.site l.number l.from l.live l.initial.found
+      (TakenIn [] 0 l.row.held.items l.to-items l.to-index) l.found;
+  known : FitsKnown l.site l.from l.known;
+}
 
 abbrev pub invariant-loop-from : goal.invariant-loop-from
 invariant-loop-from l =
