@@ -145,7 +145,7 @@ impl Filter {
         self.automaton.span_from(slice, place + 1)
     }
 
-    /// A span's start with up to so many other places near behind it at which a hit may begin.
+    /// A span's start with up to so many other places in the span, near behind it, at which a hit may begin.
     fn starts(
         &mut self,
         alloc: Global,
@@ -156,12 +156,13 @@ impl Filter {
         ensures starts { IfOk result (AreStarts (state_of self.old.automaton) slice.now span) }
         ensures kept { StaysFilter (state_of self.old.automaton) (state_of self.new.automaton) }
     {
+        let near = NEAR.min(span.to.saturating_sub(span.from));
         let mut starts = Starts::new(alloc, span)?;
         for _ in 0..others {
             let Some(next) = self.behind(slice, starts.last) else {
                 return Ok(starts);
             };
-            if next.from.saturating_sub(span.from) > NEAR {
+            if next.from.saturating_sub(span.from) > near {
                 return Ok(starts);
             }
             starts.put(next)?;

@@ -25,10 +25,10 @@ use Rattle.ere_reach.specs.Leads.{Does, IsClosed, LeadsOver, PutsClosed}
 use Rattle.ere_reach.specs.Live.{HasRead, reads, surely_sets}
 use Rattle.ere_reach.specs.Memo.{LeadsFrom}
 use Rattle.ere_reach.specs.Moving.{sets_one}
-use Rattle.ere_reach.specs.Rows.{HasState, IsPut, States}
+use Rattle.ere_reach.specs.Rows.{HasState, States}
 use Rattle.ere_reach.proofs.CoversLemmas.{covers_closed, covers_on}
 use Rattle.ere_reach.proofs.KeepsLemmas.{PutsEnds}
-use Rattle.ere_reach.proofs.StepLemmas.{FullBy, GoesBy, GoneBy, Never, full_stays, no_state, untouched}
+use Rattle.ere_reach.proofs.StepLemmas.{FullBy, GoesBy, GoneBy, Never, full_stays, untouched}
 use Rattle.ere_reach.proofs.TakenLemmas.{Grows, gone_more, one_has, one_is}
 
 -- what a step from a state is, what is asked for of one, and what was gone through so far

@@ -5,7 +5,7 @@ use Rattle.std.proofs.Common.{◌≡◌, ℕ, zero, suc, ◌+◌, ◌<◌, ◌�
 use Rattle.std.specs.Prelude.{◌⊎◌}
 use Rattle.std.specs.List.{Contains}
 use Rattle.std.proofs.lemmas.Bool.{cases_lt}
-use Rattle.std.proofs.lemmas.List.{nil_from_length, take-append-drop}
+use Rattle.std.proofs.lemmas.List.{take-append-drop}
 use Rattle.std.proofs.lemmas.List.Elements.{Contains-append_cases}
 use Rattle.ere_places.proofs.ReachLemmas.{in_front}
 use Rattle.ere_tree.proofs.DerivationLemmas.{is_part}
@@ -184,12 +184,12 @@ round_last site t live rows all r most fits same known =
     up_to_leads site t live rows all r most fits (omega (arith, same)) known
     (subst (λ n. IsComplete site (UpTo site.text.now t n) live live rows all) same known.front)
 
--- or nothing new is left
-pub round_over : (site : Site) (t : Tree) (live : List ℕ) (rows old mid fresh : Rows) (r most : ℕ) → FitsText site
-    → r ≤ most → Round site t live rows old r → AreSame (HasState mid) (HasState old)
-    → (fresh.rows.items ≡ [] → AreSame (HasState old) (IsDone old)) → length fresh.rows.items ≡ 0
+-- or what follows what is fresh is there
+pub round_over : (site : Site) (t : Tree) (live : List ℕ) (rows old mid : Rows) (r most : ℕ) → FitsText site → r ≤ most
+    → Round site t live rows old r → AreSame (HasState mid) (HasState old)
+    → Follows site (DoesFurther site.text.now t) live live (IsFresh old) old
     → Leads site (DoesUpTo site.text.now t most) live live rows mid
-round_over site t live rows old mid fresh r most fits less known same over none =
+round_over site t live rows old mid r most fits less known same whole =
     leads_same site (DoesUpTo site.text.now t most) live live rows rows old mid (same_itself rows) same
     (up_to_leads site t live rows old r most fits less known
     (λ g p c q d has covers (n, few, chain) low. on n g p c q d has covers chain low))
@@ -198,7 +198,10 @@ round_over site t live rows old mid fresh r most fits less known same over none 
     on zero g p c q d has covers chain low = known.front g p c q d has covers (zero, omega arith, chain) low
     on (suc n) g p c q d has covers (m, e, init, last) low =
         let k = on n g p c m e has covers init (omega (arith, last.0, low)) in
-        known.closed k.0 m e q d ((over (nil_from_length fresh.rows.items none) k.0 m).0 k.1) k.2 last low
+        elim (gone_or_fresh old k.0 m k.1) [
+          | inl gone ↦ known.closed k.0 m e q d gone k.2 last low
+          | inr is ↦ whole k.0 m e q d is k.2 last low
+        ]
 
 -- ONE MEMBER, TOLD FOR ALL ROWS
 

@@ -184,6 +184,15 @@ put_row f rows i row held places S now new low is own all before step =
     (subst (λ (xs : List ℕ). AreSame new (λ h p. now h p ⊎ ((h ≡ row.held.items) × Contains xs p))) all
     (subst (λ (g : List Held). AreSame new (λ h p. now h p ⊎ ((h ≡ g) × Contains places p))) own step))
 
+-- and those of one row behind others
+pub push_row : (f : Row → List ℕ) (rows : List Row) (row : Row) (S now new : States)
+    → AreSame now (λ h p. S h p ⊎ HasAt f rows h p)
+    → AreSame new (λ h p. now h p ⊎ ((h ≡ row.held.items) × Contains (f row) p))
+    → AreSame new (λ h p. S h p ⊎ HasAt f (rows ++ row ∷ []) h p)
+push_row f rows row S now new before step =
+    or_more S (HasAt f rows) (HasAt f (rows ++ row ∷ [])) (λ h p. (h ≡ row.held.items) × Contains (f row) p) now new
+    (at_push f rows row) before step
+
 -- at the end of the loop
 pub all_rows : (f : Row → List ℕ) (rows : List Row) (i : ℕ) (S now : States) → length rows ≤ i
     → AreSame now (λ h p. S h p ⊎ HasAt f (take i rows) h p) → AreSame now (λ h p. S h p ⊎ HasAt f rows h p)

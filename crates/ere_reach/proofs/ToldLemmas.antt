@@ -8,7 +8,6 @@ use Rattle.ere_reach.specs.declared.held.Held.{Held}
 use Rattle.ere_reach.specs.declared.memo.Memo.{Memo}
 use Rattle.ere_reach.specs.declared.memo.Start.{Start}
 use Rattle.ere_reach.specs.declared.memo.Told.{Told}
-use Rattle.ere_reach.specs.declared.rows.Rows.{Rows}
 use Rattle.ere_reach.specs.declared.site.Site.{Site}
 use Rattle.ere_reach.specs.Memo.{AllHold, HasOld, HasOldOr, Holds, IsOf, LeadsFrom}
 

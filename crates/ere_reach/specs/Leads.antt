@@ -14,7 +14,7 @@ use Rattle.ere_reach.specs.declared.rows.Rows.{Rows}
 use Rattle.ere_reach.specs.declared.site.Site.{Site}
 use Rattle.ere_reach.specs.Held.{Covers, IsKept, IsKeptWith, StandsNowhere, Tells}
 use Rattle.ere_reach.specs.Live.{HasRead, reads, reads_all}
-use Rattle.ere_reach.specs.Rows.{AreInside, AreSame, HasState, IsDone}
+use Rattle.ere_reach.specs.Rows.{AreInside, AreSame, HasState, IsDone, States}
 
 -- a step from a place to a place, which takes captures to captures
 abbrev pub Step : Type 1
@@ -85,16 +85,16 @@ abbrev pub LeadsFurther : Site → Tree → List ℕ → Rows → Rows → Type 
 LeadsFurther site t live from found =
     (before : List ℕ) → HasRead (reads t) live before → Further site t before live from found
 
--- a state was there, or it is one of the rows with a list that tells the same of the groups that are read
-abbrev pub IsOldOrKept : List ℕ → Rows → Rows → List Held → ℕ → Type 0
-IsOldOrKept read rows old h p = HasState old h p ⊎ ((g : List Held) × HasState rows g p × IsKept read g h)
+-- a state was there, or it is one of some others with a list that tells the same of the groups that are read
+abbrev pub IsOldOrKept : List ℕ → States → Rows → List Held → ℕ → Type 0
+IsOldOrKept read from old h p = HasState old h p ⊎ ((g : List Held) × from g p × IsKept read g h)
 
--- rows are entered by the groups that are read: those are found that weren't gone on from before, and no others are done
-pub record Enters (read : List ℕ) (rows old new found : Rows) : Type 0 where
-  pub sound : (h : List Held) (p : ℕ) → HasState found h p → IsOldOrKept read rows old h p
-  pub kept : (h : List Held) (p : ℕ) → HasState new h p → IsOldOrKept read rows old h p
+-- states are entered by the groups that are read: those are found that weren't gone on from before, and no others are done
+pub record Enters (read : List ℕ) (from : States) (old new found : Rows) : Type 0 where
+  pub sound : (h : List Held) (p : ℕ) → HasState found h p → IsOldOrKept read from old h p
+  pub kept : (h : List Held) (p : ℕ) → HasState new h p → IsOldOrKept read from old h p
   pub gone : (h : List Held) (p : ℕ) → IsDone new h p → IsDone old h p ⊎ HasState found h p
-  pub whole : (g : List Held) (p : ℕ) → HasState rows g p
+  pub whole : (g : List Held) (p : ℕ) → from g p
       → (h : List Held) × IsKept read g h × (IsDone old h p ⊎ HasState found h p)
 
 -- the rows to which up to so many members lead that aren't empty

@@ -5,7 +5,7 @@ ghost use Rattle.ere_reach.specs.Live.{HasRead, reads};
 ghost use Rattle.ere_reach.specs.Memo.{AllHold, Holds, IsFramed, LeadsFrom};
 ghost use Rattle.ere_reach.specs.Moving.{sets_one};
 ghost use Rattle.ere_reach.specs.Refers.{IsWithout};
-ghost use Rattle.ere_reach.specs.Rows.{AreInside, IsIn, IsPut};
+ghost use Rattle.ere_reach.specs.Rows.{AreInside, AreSame, HasState, IsDone, IsFresh, IsIn, IsPut};
 ghost use Rattle.ere_reach.specs.declared.rows.Rows.{Rows};
 ghost use Rattle.ere_tree.specs.Shape.{has_refs};
 ghost use Rattle.ere_tree.specs.Tree.{alt, back, group, repeat, trees_of};
@@ -105,6 +105,24 @@ fn with_kept(
     Ok(found)
 }
 
+/// The rows behind a repeat, from those between its members. Where no more is read there, they are given as they are.
+fn kept_behind(
+    site: Site<'_>,
+    all: Rows,
+    between: &[u32],
+    live: &[u32],
+    budget: &mut Budget,
+) -> Result<Rows, AllocError>
+    ensures { IfOk result (KeepsRows site.entry live.now all) }
+{
+    if between.len() <= live.len() {
+        return Ok(all);
+    }
+    let found = with_kept(site, &all, live, budget)?;
+    budget.release(all.len());
+    Ok(found)
+}
+
 /// By one of the alternatives.
 #[cycle(reach)]
 fn reach_by_one<'e>(
@@ -124,8 +142,9 @@ fn reach_by_one<'e>(
     let mut all = Rows::new(site.alloc, site.low);
     for one in choices {
         let found = reach(site, one, rows, live, memo, budget)?;
-        all.join(&found, budget)?;
-        budget.release(found.len());
+        let count = found.len();
+        all.absorb(found, budget)?;
+        budget.release(count);
     }
     Ok(all)
 }
@@ -181,27 +200,33 @@ fn put_beyond(
     Ok(())
 }
 
-/// Enters rows by what is read, and gives those that weren't entered before. Where all that lives is read, no two would be
-/// one, and they are given as they are.
-fn enter(
+/// Enters the places of rows that weren't gone on from by what is read, and gives those that weren't entered before. From
+/// here on each place of the rows is gone on from. Where all that lives is read, no two would be one, and those places are
+/// given as they are.
+fn enter_fresh(
     site: Site<'_>,
-    rows: Rows,
+    all: &mut Rows,
     read: &[u32],
     live: &[u32],
     entered: &mut Rows,
     budget: &mut Budget,
 ) -> Result<Rows, AllocError>
-    ensures { IfOk result (Enters read.now rows entered.old entered.new) }
+    ensures enters { IfOk result (Enters read.now (IsFresh all.old) entered.old entered.new) }
+    ensures same { OnOk result (AreSame (HasState all.new) (HasState all.old)) }
+    ensures done { OnOk result (AreSame (IsDone all.new) (HasState all.old)) }
 {
     if read.len() >= live.len() {
-        return Ok(rows);
+        return all.fresh(budget);
     }
-    for row in &rows.rows {
-        let held = kept(site.alloc, row.held.as_slice(), read)?;
-        entered.put(held.as_slice(), row.places.as_slice(), budget)?;
+    for row in &all.rows {
+        let places = row.places.as_slice().split_at(row.done).1;
+        if !places.is_empty() {
+            let held = kept(site.alloc, row.held.as_slice(), read)?;
+            entered.put(held.as_slice(), places, budget)?;
+        }
     }
     let found = entered.fresh(budget)?;
-    budget.release(rows.len());
+    all.finish();
     Ok(found)
 }
 
@@ -228,16 +253,16 @@ fn reach_by_members<'e>(
     let mut all = Rows::new(site.alloc, site.low);
     all.join(rows, budget)?;
     for _ in 0..most {
-        let fresh = all.fresh(budget)?;
-        if fresh.len() == 0 {
+        let first = enter_fresh(site, &mut all, read.as_slice(), live, &mut entered, budget)?;
+        if first.len() == 0 {
             budget.release(entered.len());
             return Ok(all);
         }
-        let first = enter(site, fresh, read.as_slice(), live, &mut entered, budget)?;
         let next = reach_by_further(site, inner, &first, live, memo, budget)?;
-        all.join(&next, budget)?;
+        let count = next.len();
+        all.absorb(next, budget)?;
         budget.release(first.len());
-        budget.release(next.len());
+        budget.release(count);
     }
     budget.release(entered.len());
     Ok(all)
@@ -278,9 +303,7 @@ fn reach_by_repeat<'e>(
     let between = live_between(site.alloc, inner, live)?;
     if least == 0 {
         let all = reach_by_members(site, inner, more, rows, between.as_slice(), memo, budget)?;
-        let found = with_kept(site, &all, live, budget)?;
-        budget.release(all.len());
-        return Ok(found);
+        return kept_behind(site, all, between.as_slice(), live, budget);
     }
     let mut now = reach(site, inner, rows, between.as_slice(), memo, budget)?;
     for _ in 1..least {
@@ -289,9 +312,8 @@ fn reach_by_repeat<'e>(
         now = next;
     }
     let all = reach_by_members(site, inner, more, &now, between.as_slice(), memo, budget)?;
-    let found = with_kept(site, &all, live, budget)?;
+    let found = kept_behind(site, all, between.as_slice(), live, budget)?;
     budget.release(now.len());
-    budget.release(all.len());
     Ok(found)
 }
 

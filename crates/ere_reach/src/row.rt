@@ -77,4 +77,12 @@ impl Row {
     {
         self.done = self.places.len();
     }
+    /// From here on none of its places is gone on from.
+    pub(crate) fn restart(&mut self)
+        ensures places { self.new.places ≡ self.old.places }
+        ensures held { self.new.held ≡ self.old.held }
+        ensures done { self.new.done ≡ 0 }
+    {
+        self.done = 0;
+    }
 }

@@ -122,8 +122,8 @@ impl Rows {
         Ok(())
     }
 
-    /// Puts the last row, by which groups hold this, into the table.
-    fn note(&mut self, held: &[Held]) -> Result<(), AllocError>
+    /// Puts the last row into the table.
+    fn note(&mut self) -> Result<(), AllocError>
         ensures { self.new.rows ≡ self.old.rows }
     {
         let count = self.rows.len();
@@ -133,7 +133,8 @@ impl Rows {
         if self.slots.len() < count.saturating_mul(2) {
             return self.rebuild();
         }
-        let first = slot_of(hash_of(held), self.slots.len());
+        let hash = hash_of(self.rows[count - 1].held.as_slice());
+        let first = slot_of(hash, self.slots.len());
         let slot = free_slot(self.slots.as_slice(), first);
         self.slots[slot] = count;
         Ok(())
@@ -149,7 +150,7 @@ impl Rows {
         let index = self.rows.len();
         let list = Vec::from_slice(self.alloc, held)?;
         self.rows.push(Row::new(self.alloc, self.low, list))?;
-        self.note(held)?;
+        self.note()?;
         Ok(index)
     }
 
@@ -197,8 +198,36 @@ impl Rows {
         Ok(())
     }
 
+    /// Adds a row as it is, with no place that is gone on from.
+    fn push(&mut self, mut row: Row, budget: &mut Budget) -> Result<(), AllocError>
+        ensures put { OnOk result (IsPut self.old row.held.items row.places.items self.new) }
+        ensures done { OnOk result (KeepsDone self.old self.new) }
+    {
+        budget.take(row.places.len())?;
+        budget.keep(1)?;
+        row.restart();
+        self.rows.push(row)?;
+        self.note()?;
+        Ok(())
+    }
+
+    /// Adds rows, which are moved where they can be.
+    pub(crate) fn absorb(&mut self, other: Rows, budget: &mut Budget) -> Result<(), AllocError>
+        ensures join { OnOk result (IsJoined self.old other self.new) }
+        ensures done { OnOk result (KeepsDone self.old self.new) }
+    {
+        for row in other.rows {
+            if self.index_of(row.held.as_slice()).is_some() {
+                self.put(row.held.as_slice(), row.places.as_slice(), budget)?;
+            } else {
+                self.push(row, budget)?;
+            }
+        }
+        Ok(())
+    }
+
     /// From here on each place is gone on from.
-    fn finish(&mut self)
+    pub(crate) fn finish(&mut self)
         ensures same { AreSame (HasState self.new) (HasState self.old) }
         ensures done { AreSame (IsDone self.new) (HasState self.old) }
     {

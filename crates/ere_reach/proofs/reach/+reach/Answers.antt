@@ -6,13 +6,13 @@ use Rattle.std.proofs.lemmas.Bool.{eqb-true}
 use Rattle.std.proofs.lemmas.Result.{IfOk-weaker}
 use Rattle.ere_places.proofs.TreesLemmas.{trees_in_map}
 use Rattle.ere_tree.proofs.ViewLemmas.{view_Cat}
-use Rattle.ere_tree.specs.Tree.{Tree, cat, trees_of, group}
+use Rattle.ere_tree.specs.Tree.{Tree, cat, trees_of, group, repeat}
 use Rattle.ere_tree.specs.View.{view}
 use Rattle.ere_tree.specs.declared.ere.Ere.{Ere}
-use Rattle.ere_reach.specs.Leads.{LeadsOver, LeadsThrough, Does, DoesAll, LeadsFurther, DoesFurther}
+use Rattle.ere_reach.specs.Leads.{LeadsOver, LeadsThrough, Does, DoesAll, LeadsFurther, DoesFurther, KeepsRows}
 use Rattle.ere_reach.specs.Live.{reads}
 use Rattle.ere_reach.proofs.BeforeLemmas.{over_inside}
-use Rattle.ere_reach.proofs.EnteredLemmas.{entered_first, first_inside, rounds_more}
+use Rattle.ere_reach.proofs.EnteredLemmas.{entered_first, first_inside, rounds_more, rounds_over}
 use Rattle.ere_reach.proofs.LiveLemmas.{behind_part}
 use Rattle.ere_reach.proofs.LeadsLemmas.{leads_same, no_state, same_itself, same_joined}
 use Rattle.ere_reach.proofs.ThroughLemmas.{cat_leads, rest_more, rest_last, one_more, one_last, view_at}
@@ -27,7 +27,7 @@ use Rattle.ere_reach.specs.Rows.{AreSame}
 use Rattle.ere_reach.proofs.TakenLemmas.{Taken, TakenIn, gone_same, taken_in_all, taken_in_more, taken_in_none}
 use Rattle.ere_reach.specs.declared.held.Held.{Held}
 use Rattle.ere_reach.specs.Rows.{IsPut}
-use Rattle.ere_reach.proofs.MembersLemmas.{further_last, further_more, further_whole, round_first, round_last, round_over}
+use Rattle.ere_reach.proofs.MembersLemmas.{further_last, further_more, further_whole, round_first, round_last}
 use Rattle.ere_reach.proofs.RepeatLemmas.{least_none, least_end, least_read, least_step}
 use Rattle.ere_reach.proofs.reach.+reach.Goals.{reach_by_further-then-has_byte-via-then-has_byte, reach_by_further-then-has_byte-via-else-has_byte+then-not-sets_one}
 use Rattle.ere_reach.proofs.reach.+reach.Goals as goal
@@ -105,7 +105,7 @@ reach_by_one-loop-one-preserved t c =
     let one = c.one-item.result in
     record {
       all = one_more _ _ _ _ _ _ _ _ _ (view_at items k one c.loop-one-test.true c.one-item.is) c.loop-one.invariant.all
-          c.in_ok-found.ensures.leads c.in_ok-join.ensures.join;
+          c.in_ok-found.ensures.leads c.in_ok-absorb.ensures.join;
       memo = c.in_ok-found.ensures.memo;
     }
 
@@ -383,26 +383,28 @@ reach_by_members-loop-init t c =
 
 pub reach_by_members-returns-then-len-eq0-clause-leads : goal.reach_by_members-returns-then-len-eq0-clause-leads
 reach_by_members-returns-then-len-eq0-clause-leads t c =
-    round_over _ (view c.args.inner.now) _ _ c.loop.all _ c.in_ok-fresh.fresh c.loop.counter c.args.most
-    c.requires.fits (omega arith) c.loop.invariant.rounds.round c.in_ok-fresh.ensures.same c.in_ok-fresh.ensures.none
-    (sym c.len.ensures ∙ c.if-len-eq0.true)
+    rounds_over c.args.site (view c.args.inner.now) c.args.live.now c.in_ok-read.read.items c.loop.all c.loop.entered
+    c.enter_fresh.new.entered c.in_ok-first.first c.loop.invariant.rounds.entry
+    (rw c.as_slice.ensures.value at c.in_ok-first.ensures.enters) c.args.rows.now c.enter_fresh.new.all c.loop.counter
+    c.args.most c.requires.fits (omega arith) c.in_ok-read.ensures c.requires.read c.loop.invariant.rounds.round
+    c.in_ok-first.ensures.same (sym c.len.ensures ∙ c.if-len-eq0.true)
 
 pub reach_by_members-reach_by_further-requires : goal.reach_by_members-reach_by_further-requires
 reach_by_members-reach_by_further-requires t c =
     let inside = first_inside c.args.site (view c.args.inner.now) c.args.live.now c.in_ok-read.read.items c.loop.all
-    c.in_ok-fresh.fresh c.loop.entered c.enter.new.entered c.in_ok-first.first c.loop.invariant.rounds.entry
-    c.in_ok-fresh.ensures.fresh (rw c.as_slice.ensures.value at c.in_ok-first.ensures) c.loop.invariant.rounds.round.inside in
+    c.loop.entered c.enter_fresh.new.entered c.in_ok-first.first c.loop.invariant.rounds.entry
+    (rw c.as_slice.ensures.value at c.in_ok-first.ensures.enters) c.loop.invariant.rounds.round.inside in
     (search rules, (c.requires.fits, (inside, c.loop.invariant.memo)))
 
 pub reach_by_members-loop-preserved : goal.reach_by_members-loop-preserved
 reach_by_members-loop-preserved t c =
     record {
       rounds = rounds_more c.args.site (view c.args.inner.now) c.args.live.now c.in_ok-read.read.items c.loop.all
-          c.in_ok-fresh.fresh c.loop.entered c.enter.new.entered c.in_ok-first.first c.loop.invariant.rounds.entry
-          c.in_ok-fresh.ensures.fresh (rw c.as_slice.ensures.value at c.in_ok-first.ensures) c.args.rows.now
-          c.fresh.new.self c.in_ok-next.next c.join-in-loop.new.self c.loop.counter c.in_ok-read.ensures c.requires.read
-          c.loop.invariant.rounds.round c.in_ok-fresh.ensures.same c.in_ok-fresh.ensures.done c.in_ok-next.ensures.leads
-          c.in_ok-join-2.ensures.join c.in_ok-join-2.ensures.done;
+          c.loop.entered c.enter_fresh.new.entered c.in_ok-first.first c.loop.invariant.rounds.entry
+          (rw c.as_slice.ensures.value at c.in_ok-first.ensures.enters) c.args.rows.now
+          c.enter_fresh.new.all c.in_ok-next.next c.absorb.new.self c.loop.counter c.in_ok-read.ensures c.requires.read
+          c.loop.invariant.rounds.round c.in_ok-first.ensures.same c.in_ok-first.ensures.done c.in_ok-next.ensures.leads
+          c.in_ok-absorb.ensures.join c.in_ok-absorb.ensures.done;
       memo = c.in_ok-next.ensures.memo;
     }
 
@@ -420,10 +422,13 @@ reach_by_repeat-reach_by_members-requires t c =
 
 pub reach_by_repeat-returns-then-least-eq0-clause-leads : goal.reach_by_repeat-returns-then-least-eq0-clause-leads
 reach_by_repeat-returns-then-least-eq0-clause-leads t c =
-    least_end c.args.site (view c.args.inner.now) c.args.least c.args.most c.args.live.now _ c.args.rows.now
-    c.in-Some.more c.saturating_sub.result _ 0 c.args.rows.now c.in_ok-all.all c.in_ok-found.found c.in-Some.ensures
-    c.saturating_sub.ensures c.requires.inside c.as_slice.ensures.value c.in_ok-between.ensures
-    (least_none _ _ _ _ _ _ _ c.requires.inside) (omega arith) c.in_ok-all.ensures.leads c.in_ok-found.ensures
+    let a = c.args in
+    IfOk-weaker c.kept_behind.result (KeepsRows a.site a.live.now c.in_ok-all.all)
+    (LeadsOver a.site (repeat (view a.inner.now) a.least a.most) a.live.now a.rows.now)
+    (λ found kept. least_end a.site (view a.inner.now) a.least a.most a.live.now _ a.rows.now c.in-Some.more
+    c.saturating_sub.result _ 0 a.rows.now c.in_ok-all.all found c.in-Some.ensures c.saturating_sub.ensures
+    c.requires.inside c.as_slice.ensures.value c.in_ok-between.ensures (least_none _ _ _ _ _ _ _ c.requires.inside)
+    (omega arith) c.in_ok-all.ensures.leads kept) c.kept_behind.ensures
 
 pub reach_by_repeat-loop-init : goal.reach_by_repeat-loop-init
 reach_by_repeat-loop-init t c =
@@ -444,6 +449,6 @@ reach_by_repeat-loop-preserved t c =
 pub reach_by_repeat-returns-clause-leads : goal.reach_by_repeat-returns-clause-leads
 reach_by_repeat-returns-clause-leads t c =
     least_end c.args.site (view c.args.inner.now) c.args.least c.args.most c.args.live.now _ c.args.rows.now
-    c.in-Some.more c.saturating_sub.result _ c.loop.counter c.loop.now c.in_ok-all-2.all c.in_ok-found-2.found
+    c.in-Some.more c.saturating_sub.result _ c.loop.counter c.loop.now c.in_ok-all-2.all c.in_ok-found.found
     c.in-Some.ensures c.saturating_sub.ensures c.requires.inside c.as_slice-3.ensures.value c.in_ok-between.ensures
-    c.loop.invariant.least (omega arith) c.in_ok-all-2.ensures.leads c.in_ok-found-2.ensures
+    c.loop.invariant.least (omega arith) c.in_ok-all-2.ensures.leads c.in_ok-found.ensures

@@ -30,5 +30,5 @@ returns-in_default-clause-kept c = λ t is. c.behind.ensures.kept t (c.loop.inva
 pub returns-in_err-put-clause-kept : goal.returns-in_err-put-clause-kept
 returns-in_err-put-clause-kept c = λ t is. c.behind.ensures.kept t (c.loop.invariant.kept t is)
 
-pub returns-then-saturating_sub-gt-NEAR-clause-kept : goal.returns-then-saturating_sub-gt-NEAR-clause-kept
-returns-then-saturating_sub-gt-NEAR-clause-kept c = λ t is. c.behind.ensures.kept t (c.loop.invariant.kept t is)
+pub returns-then-saturating_sub-near-clause-kept : goal.returns-then-saturating_sub-near-clause-kept
+returns-then-saturating_sub-near-clause-kept c = λ t is. c.behind.ensures.kept t (c.loop.invariant.kept t is)
