@@ -2,6 +2,7 @@
 ghost use Rattle.std.specs.Prelude.{◌≡◌, ℕ, ◌+◌, ◌-◌, ◌<◌, ◌≤◌, true, false, Some, length, drop, IfOk, IfSome, MatchOption};
 ghost use Rattle.ere_auto.specs.State.{state_of};
 ghost use Rattle.ere_match.specs.Filter.{CountsOnce, FiltersAll, FindsAsked, IsFilter, LiesBehind, MayLie, StaysFilter, TellsAskedAt, TellsFrom, TellsHitAt};
+ghost use Rattle.ere_reach.specs.Leads.{TellsEnd};
 ghost use Rattle.ere_match.specs.Starts.{AreStarts, PassesFrom, TellsTried};
 ghost use Rattle.ere_match.specs.declared.filter.Asked.TheVariants.{Span};
 ghost use Rattle.ere_refs.specs.Refers.{refs_fit};
@@ -13,6 +14,7 @@ use crate::literal::earliest;
 use crate::span::find_span;
 use crate::starts::{Ahead, Starts};
 use ere_auto::{Auto, Steps};
+use ere_dive::is_between;
 use ere_reach::{MAX_STEPS, ends_nowhere, greatest_end};
 use ere_refs::{MAX_TRIES, Tries, refs_fit, try_from};
 use ere_relaxed::relaxed;
@@ -45,6 +47,9 @@ const FEW_TRIES: usize = 100_000;
 /// How many ends tries may look at where groups aren't asked for.
 const SPAN_TRIES: usize = 1_000_000;
 
+/// How many steps all searches depth first may take.
+const DIVE_STEPS: usize = 2_000_000;
+
 /// From how many steps on ends are told for many places at once.
 const MANY_STEPS: usize = 100_000;
 
@@ -67,7 +72,8 @@ struct Try {
 }
 
 /// How much a search of an expression with references may still do: what it may try from each place on its own, what in few
-/// tries, what else it may try, what it may list, how far it may go for ends, also from many places at once, and from how many of them.
+/// tries, what else it may try, what it may list, how far it may go for ends, also from many places at once, how deep it may dive for
+/// one, and from how many places at once it goes.
 #[derive(Drop)]
 struct Budget {
     own: Tries,
@@ -76,6 +82,7 @@ struct Budget {
     limit: Limit,
     ends: ere_reach::Budget,
     many_ends: ere_reach::Budget,
+    dives: usize,
     ahead: Ahead,
 }
 
@@ -92,6 +99,7 @@ impl Budget {
             limit: Limit::new(),
             ends: ere_reach::Budget::new(MAX_STEPS),
             many_ends: ere_reach::Budget::new(MAX_STEPS / 2),
+            dives: DIVE_STEPS,
             ahead: Ahead::new(),
         }
     }
@@ -227,6 +235,24 @@ fn few_tries(
     found
 }
 
+/// The greatest end in a span of what begins where it does. Mostly something matches all of it, which is found soon.
+fn end_at(
+    ere: &Ere,
+    slice: &[u8],
+    span: Cap,
+    budget: &mut Budget,
+) -> Result<Option<usize>, AllocError>
+    requires order { span.from ≤ span.to }
+    requires inside { span.to ≤ length slice.now }
+    ensures { IfOk result (TellsEnd slice.now (view ere.now) span.from span.to) }
+{
+    let alloc = budget.tries.memory();
+    match is_between(alloc, ere, slice, span, &mut budget.dives) {
+        Ok(true) => Ok(Some(span.to)),
+        _ => greatest_end(alloc, ere, slice, span.from, span.to, &mut budget.ends),
+    }
+}
+
 /// The hit that begins where a span does, in the slice from `from` to the text's end, with offsets of the text. It is tried up to
 /// the greatest end alone.
 fn hit_at(
@@ -244,19 +270,17 @@ fn hit_at(
     requires lies { MayLie (drop from text.now) (view ere.now) (Some span) }
     ensures { IfOk result (TellsHitAt text.now (view ere.now) from span.from) }
 {
-    let alloc = budget.tries.memory();
     let slice = text.split_at(from).1;
-    let tries = &mut budget.tries;
-    match greatest_end(alloc, ere, slice, span.from, span.to, &mut budget.ends) {
+    match end_at(ere, slice, span, budget) {
         Ok(None) => Ok(None),
         Ok(Some(to)) => {
             let span = Cap {
                 from: span.from,
                 to,
             };
-            tried_hit(ere, free, text, from, span, tries)
+            tried_hit(ere, free, text, from, span, &mut budget.tries)
         }
-        Err(_) => tried_hit(ere, free, text, from, span, tries),
+        Err(_) => tried_hit(ere, free, text, from, span, &mut budget.tries),
     }
 }
 
@@ -274,7 +298,7 @@ fn span_at(
 {
     let alloc = budget.tries.memory();
     let slice = text.split_at(from).1;
-    match greatest_end(alloc, ere, slice, span.from, span.to, &mut budget.ends)? {
+    match end_at(ere, slice, span, budget)? {
         None => Ok(None),
         Some(to) => Ok(Some(Hit {
             from: from + span.from,

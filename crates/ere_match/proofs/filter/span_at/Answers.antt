@@ -9,8 +9,8 @@ returns-in-None c =
     let s = drop c.args.from c.args.text.now in
     let t = view c.args.ere.now in
     let span = c.args.span in
-    let tells = subst (λ (x : List ℕ). TellsEnd x t span.from span.to c.in_ok-greatest_end.field-0) c.split_at.ensures.back
-    c.in_ok-greatest_end.ensures in
+    let tells = subst (λ (x : List ℕ). TellsEnd x t span.from span.to c.in_ok-end_at.field-0) c.split_at.ensures.back
+    c.in_ok-end_at.ensures in
     none_ends s t span c.requires.lies (subst (TellsEnd s t span.from span.to) c.in-None.is tells)
 
 pub returns-in-Some : goal.returns-in-Some
@@ -18,7 +18,7 @@ returns-in-Some c =
     let s = drop c.args.from c.args.text.now in
     let t = view c.args.ere.now in
     let span = c.args.span in
-    let tells = subst (λ (x : List ℕ). TellsEnd x t span.from span.to c.in_ok-greatest_end.field-0) c.split_at.ensures.back
-    c.in_ok-greatest_end.ensures in
+    let tells = subst (λ (x : List ℕ). TellsEnd x t span.from span.to c.in_ok-end_at.field-0) c.split_at.ensures.back
+    c.in_ok-end_at.ensures in
     ends_there c.args.text.now t c.args.from span c.in-Some.to c.requires.lies
     (subst (TellsEnd s t span.from span.to) c.in-Some.is tells)

@@ -1,0 +1,5 @@
+use Rattle.ere_dive.specs.Dive.{AllLead}
+use Rattle.ere_dive.proofs.search.is_found.Given as goal
+
+abbrev pub invariant-loop : goal.invariant-loop
+invariant-loop l = AllLead l.site l.stack.items
