@@ -105,7 +105,7 @@ fn open_reference<'e>(
     }
 }
 
-/// What groups hold where one ends. What others hold that isn't referred to is left out.
+/// What groups hold where one ends. What that one holds is left out where nothing refers to it.
 fn closed(
     site: Site<'_, '_>,
     number: u32,

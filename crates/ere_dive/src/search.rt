@@ -91,8 +91,9 @@ fn start<'e>(site: Site<'_, 'e>) -> Result<State<'e>, AllocError>
 /// Whether a match of the span is found in this order.
 fn is_found(site: Site<'_, '_>, order: Order, left: &mut usize) -> Result<bool, AllocError>
     requires fits { FitsText site }
-    ensures { IfOk result (λ found. found ≡ true
+    ensures found { IfOk result (λ found. found ≡ true
         → Matches site.entry.text.now (view site.entry.whole.now) site.entry.low site.entry.high) }
+    ensures left { left.new ≤ left.old }
 {
     let mut sums = Sums::new(site.alloc);
     let mut stack = Vec::new(site.alloc);
@@ -114,7 +115,7 @@ fn is_found(site: Site<'_, '_>, order: Order, left: &mut usize) -> Result<bool, 
 }
 
 /// Whether the expression matches the span of the text, as far as it is found in the steps that are left, and in no more than
-/// some hundred thousand. They are taken off. False tells nothing.
+/// 100,000 in either of two orders. They are taken off. False tells nothing.
 pub fn is_between(
     alloc: Global,
     ere: &Ere,
@@ -124,7 +125,8 @@ pub fn is_between(
 ) -> Result<bool, AllocError>
     requires order { span.from ≤ span.to }
     requires inside { span.to ≤ length text.now }
-    ensures { IfOk result (λ found. found ≡ true → Matches text.now (view ere.now) span.from span.to) }
+    ensures found { IfOk result (λ found. found ≡ true → Matches text.now (view ere.now) span.from span.to) }
+    ensures left { left.new ≤ left.old }
 {
     let mut referred = Vec::new(alloc);
     put_numbers(ere, &mut referred)?;

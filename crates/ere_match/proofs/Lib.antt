@@ -1,4 +1,5 @@
 pub mod BeginsLemmas
+pub mod EndsLemmas
 pub mod FilterLemmas
 pub mod NewlineLemmas
 pub mod ShownLemmas

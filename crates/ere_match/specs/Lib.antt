@@ -1,4 +1,5 @@
 pub mod Begins
+pub mod Ends
 pub mod Filter
 pub mod Shown
 pub mod Spans

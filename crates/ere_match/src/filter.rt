@@ -2,7 +2,6 @@
 ghost use Rattle.std.specs.Prelude.{◌≡◌, ℕ, ◌+◌, ◌-◌, ◌<◌, ◌≤◌, true, false, Some, length, drop, IfOk, IfSome, MatchOption};
 ghost use Rattle.ere_auto.specs.State.{state_of};
 ghost use Rattle.ere_match.specs.Filter.{CountsOnce, FiltersAll, FindsAsked, IsFilter, LiesBehind, MayLie, StaysFilter, TellsAskedAt, TellsFrom, TellsHitAt};
-ghost use Rattle.ere_reach.specs.Leads.{TellsEnd};
 ghost use Rattle.ere_match.specs.Starts.{AreStarts, PassesFrom, TellsTried};
 ghost use Rattle.ere_match.specs.declared.filter.Asked.TheVariants.{Span};
 ghost use Rattle.ere_refs.specs.Refers.{refs_fit};
@@ -10,12 +9,11 @@ ghost use Rattle.ere_relaxed.specs.Relaxed.{SpansAll};
 ghost use Rattle.ere_tree.specs.Shape.{greatest_group, has_refs};
 ghost use Rattle.ere_tree.specs.View.{view};
 
+use crate::ends::{Ends, end_at, end_nowhere};
 use crate::literal::earliest;
 use crate::span::find_span;
 use crate::starts::{Ahead, Starts};
 use ere_auto::{Auto, Steps};
-use ere_dive::is_between;
-use ere_reach::{MAX_STEPS, ends_nowhere, greatest_end};
 use ere_refs::{MAX_TRIES, Tries, refs_fit, try_from};
 use ere_relaxed::relaxed;
 use ere_slow::{Limit, slow_hit_from};
@@ -47,13 +45,7 @@ const FEW_TRIES: usize = 100_000;
 /// How many ends tries may look at where groups aren't asked for.
 const SPAN_TRIES: usize = 1_000_000;
 
-/// How many steps all searches depth first may take.
-const DIVE_STEPS: usize = 2_000_000;
-
-/// From how many steps on ends are told for many places at once.
-const MANY_STEPS: usize = 100_000;
-
-/// How far these may lie from the first of them.
+/// How far places of which it is told at once may lie from the first of them.
 const NEAR: usize = 4_096;
 
 /// What is asked of a hit: what its groups hold, or where it lies alone.
@@ -72,17 +64,14 @@ struct Try {
 }
 
 /// How much a search of an expression with references may still do: what it may try from each place on its own, what in few
-/// tries, what else it may try, what it may list, how far it may go for ends, also from many places at once, how deep it may dive for
-/// one, and from how many places at once it goes.
+/// tries, what else it may try, what it may list, how far it may go for ends, and from how many places at once.
 #[derive(Drop)]
 struct Budget {
     own: Tries,
     first: Tries,
     tries: Tries,
     limit: Limit,
-    ends: ere_reach::Budget,
-    many_ends: ere_reach::Budget,
-    dives: usize,
+    ends: Ends,
     ahead: Ahead,
 }
 
@@ -97,9 +86,7 @@ impl Budget {
             first: Tries::new(alloc).part(FIRST_TRIES),
             tries: Tries::new(alloc).part(most),
             limit: Limit::new(),
-            ends: ere_reach::Budget::new(MAX_STEPS),
-            many_ends: ere_reach::Budget::new(MAX_STEPS / 2),
-            dives: DIVE_STEPS,
+            ends: Ends::new(),
             ahead: Ahead::new(),
         }
     }
@@ -235,24 +222,6 @@ fn few_tries(
     found
 }
 
-/// The greatest end in a span of what begins where it does. Mostly something matches all of it, which is found soon.
-fn end_at(
-    ere: &Ere,
-    slice: &[u8],
-    span: Cap,
-    budget: &mut Budget,
-) -> Result<Option<usize>, AllocError>
-    requires order { span.from ≤ span.to }
-    requires inside { span.to ≤ length slice.now }
-    ensures { IfOk result (TellsEnd slice.now (view ere.now) span.from span.to) }
-{
-    let alloc = budget.tries.memory();
-    match is_between(alloc, ere, slice, span, &mut budget.dives) {
-        Ok(true) => Ok(Some(span.to)),
-        _ => greatest_end(alloc, ere, slice, span.from, span.to, &mut budget.ends),
-    }
-}
-
 /// The hit that begins where a span does, in the slice from `from` to the text's end, with offsets of the text. It is tried up to
 /// the greatest end alone.
 fn hit_at(
@@ -270,8 +239,9 @@ fn hit_at(
     requires lies { MayLie (drop from text.now) (view ere.now) (Some span) }
     ensures { IfOk result (TellsHitAt text.now (view ere.now) from span.from) }
 {
+    let alloc = budget.tries.memory();
     let slice = text.split_at(from).1;
-    match end_at(ere, slice, span, budget) {
+    match end_at(alloc, ere, slice, span, &mut budget.ends) {
         Ok(None) => Ok(None),
         Ok(Some(to)) => {
             let span = Cap {
@@ -298,7 +268,7 @@ fn span_at(
 {
     let alloc = budget.tries.memory();
     let slice = text.split_at(from).1;
-    match end_at(ere, slice, span, budget)? {
+    match end_at(alloc, ere, slice, span, &mut budget.ends)? {
         None => Ok(None),
         Some(to) => Ok(Some(Hit {
             from: from + span.from,
@@ -363,7 +333,7 @@ fn passed(
     ensures passed { IfOk result (PassesFrom slice.now (view ere.now) span.from) }
     ensures kept { StaysFilter (state_of filter.old.automaton) (state_of filter.new.automaton) }
 {
-    if !budget.ends.has_taken(MANY_STEPS) || budget.ahead.count == 0 {
+    if !budget.ends.are_many() || budget.ahead.count == 0 {
         return Ok(None);
     }
     let alloc = budget.tries.memory();
@@ -373,7 +343,7 @@ fn passed(
         to: starts.high,
     };
     let places = starts.places.as_slice();
-    match ends_nowhere(alloc, ere, slice, within, places, &mut budget.many_ends) {
+    match end_nowhere(alloc, ere, slice, within, places, &mut budget.ends) {
         Ok(true) => {
             budget.ahead.pass();
             Ok(Some(starts.last))

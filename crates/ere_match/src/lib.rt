@@ -4,6 +4,7 @@
 //! where a filter without references lets one begin.
 #![tactic(auto)]
 
+mod ends;
 mod filter;
 mod literal;
 mod search;

@@ -72,7 +72,7 @@ any_from s bytes all has (suc n) i j e low =
     let here : i < length s = omega arith in
     (next (i + 1) leaf rest.0, (empty, (refl, here, has (slice_index s i) (all i here), refl), omega arith, rest.1))
 
-any_takes : (s : List ℕ) (u : Tree) (i j : ℕ) → AreBytes s → IsAnyText u → IsPart s i j → Takes s u i j
+pub any_takes : (s : List ℕ) (u : Tree) (i j : ℕ) → AreBytes s → IsAnyText u → IsPart s i j → Takes s u i j
 any_takes s u i j all any lies =
     let ways = any_from s any.bytes all any.all (j - i) i j (omega (arith, lies.0)) lies.1 in
     let here : Derives s (repeat (set any.bytes) zero None) (members ways.0) i j empty empty =
@@ -92,7 +92,7 @@ is_equal Greater e = absurd (true≢false (sym e))
 cmp_same : (n m : ℕ) → eq_by_cmp nat_cmp n m ≡ true → n ≡ m
 cmp_same n m e = nat_cmp-IsAntisymmetric n m (is_equal (nat_cmp n m) e)
 
-know_more : (s : List ℕ) (copies : Copies) (c : Captures) (number i j : ℕ) → Know s copies c
+pub know_more : (s : List ℕ) (copies : Copies) (c : Captures) (number i j : ℕ) → Know s copies c
     → ((u : Tree) → copy_in copies number ≡ Some u → Takes s u i j) → Know s copies (insert c number (i, j))
 know_more s copies c number i j known here n u p at e =
     each (eq_by_cmp nat_cmp n number) refl (sym (get-insert nat_cmp_total c number (i, j) n) ∙ e)

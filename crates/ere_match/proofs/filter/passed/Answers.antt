@@ -6,14 +6,14 @@ use Rattle.ere_tree.specs.View.{view}
 use Rattle.ere_match.proofs.StartsLemmas.{passes}
 use Rattle.ere_match.proofs.filter.passed.Goals as goal
 
-pub ends_nowhere-requires-clause-places : goal.ends_nowhere-requires-clause-places
-ends_nowhere-requires-clause-places c =
+pub end_nowhere-requires-clause-places : goal.end_nowhere-requires-clause-places
+end_nowhere-requires-clause-places c =
     let starts = c.in_ok-starts.starts in
     let has = c.in_ok-starts.ensures.starts (view c.args.ere.now) c.requires.built c.requires.lies in
     subst (All (IsIn c.args.span.from starts.high)) (sym c.as_slice-places.ensures.value) has.inside
 
-pub ends_nowhere-requires-clause-inside : goal.ends_nowhere-requires-clause-inside
-ends_nowhere-requires-clause-inside c =
+pub end_nowhere-requires-clause-inside : goal.end_nowhere-requires-clause-inside
+end_nowhere-requires-clause-inside c =
     (c.in_ok-starts.ensures.starts (view c.args.ere.now) c.requires.built c.requires.lies).within
 
 pub returns-in-Ok-true-clause-passed : goal.returns-in-Ok-true-clause-passed
