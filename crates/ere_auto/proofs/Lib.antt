@@ -1,5 +1,7 @@
+pub mod AloneLemmas
 pub mod ClosureLemmas
 pub mod EdgeLemmas
+pub mod EndsLemmas
 pub mod RowTableLemmas
 pub mod ListLemmas
 pub mod MarksLemmas

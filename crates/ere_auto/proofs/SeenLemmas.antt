@@ -210,7 +210,7 @@ front_longer : (front rest : List ℕ) (byte : ℕ) → length front < length (f
 front_longer front rest byte = omega (arith, length-append front (byte ∷ rest))
 
 -- a line starts behind a newline
-line_behind : (s : List ℕ) (n byte : ℕ) → slice_index s n ≡ byte → is_line_start s (n + 1) ≡ (byte == 10)
+pub line_behind : (s : List ℕ) (n byte : ℕ) → slice_index s n ≡ byte → is_line_start s (n + 1) ≡ (byte == 10)
 line_behind s n byte h =
     ap (λ b. b || slice_index s (n + 1 - 1) == 10) (ne_eqb (n + 1) 0 (λ e. omega (arith, e)))
     ∙ ap (λ x. slice_index s x == 10) (one_less n) ∙ ap (λ x. x == 10) h
@@ -275,7 +275,7 @@ none_waiting a s (Some cap) f w =
     ))
 
 -- no thread stands anywhere while no start counts
-no_thread : (s : List ℕ) (T : ℕ → Node) (e begin n : ℕ) (limit : Option ℕ) (σ : ℕ → ℕ) → n ≤ begin → Past limit n
+pub no_thread : (s : List ℕ) (T : ℕ → Node) (e begin n : ℕ) (limit : Option ℕ) (σ : ℕ → ℕ) → n ≤ begin → Past limit n
     → StandsAt s T e begin n limit σ []
 no_thread s T e begin n limit σ b p = record {
   follows = record {

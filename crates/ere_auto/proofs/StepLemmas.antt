@@ -117,7 +117,7 @@ seeds_stay s T e begin n last σ K m f = record {
 
 -- CLOSURE
 
-skipped : (starts ends : Bool) (T : ℕ → Node) (seeds K : List Thread) → Closed starts ends T seeds K
+pub skipped : (starts ends : Bool) (T : ℕ → Node) (seeds K : List Thread) → Closed starts ends T seeds K
     → (l q p b : ℕ) → HasBy (λ k. k) K q b → SkipPath starts ends T l q p → HasBy (λ k. k) K p b
 skipped starts ends T seeds K c zero q p b h g =
     record { index = h.index; inside = h.inside; is = h.is ∙ sym g; by = h.by }
@@ -383,7 +383,7 @@ seeded s T e begin n (Some last) σ τ K L false begun m h at b z =
     )
 
 -- the next byte tells whether a line ends
-line_end_shown : (s : List ℕ) (n : ℕ) (next : Option ℕ) → Shows s n next → is_line_end s n ≡ ends_line next
+pub line_end_shown : (s : List ℕ) (n : ℕ) (next : Option ℕ) → Shows s n next → is_line_end s n ≡ ends_line next
 line_end_shown s n None h = ap (λ b. b || slice_index s n == 10) (eq-eqb n (length s) h)
 line_end_shown s n (Some b) h =
     ap (λ x. x || slice_index s n == 10) (ne_eqb n (length s) (λ same. omega (arith, same, h.0)))
@@ -423,7 +423,7 @@ past_behind s T e begin n None τ None p h = tt
 past_behind s T e begin n (Some last) τ None p h = omega (arith, p)
 past_behind s T e begin n limit τ (Some m) p h = omega (arith, goes_on s T h.1.0 e (τ m) 0 n h.1.1)
 
-shown_byte : (s : List ℕ) (n : ℕ) (next : Option ℕ) → Shows s n next → n < length s → next ≡ Some (slice_index s n)
+pub shown_byte : (s : List ℕ) (n : ℕ) (next : Option ℕ) → Shows s n next → n < length s → next ≡ Some (slice_index s n)
 shown_byte s n None h l = absurd (omega (arith, h, l))
 shown_byte s n (Some b) h l = ap Some (sym h.1)
 

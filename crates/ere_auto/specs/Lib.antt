@@ -1,5 +1,7 @@
+pub mod Alone
 pub mod Closing
 pub mod Closure
+pub mod Ends
 pub mod RowTable
 pub mod RowTableView
 pub mod Marks

@@ -1,20 +1,24 @@
 //! The automaton.
-ghost use Rattle.std.specs.Prelude.{◌≡◌, ℕ, ◌+◌, ◌<◌, ◌≤◌, ◌↔◌, ◌&&◌, is_none, [], true, false, List, IsSome, IfOk, IfSome, IfNone, MatchOption, Some, length, take, vec_len, vec_capacity, slice_index};
+ghost use Rattle.std.specs.Prelude.{◌≡◌, ℕ, ◌+◌, ◌<◌, ◌≤◌, ◌↔◌, ◌&&◌, is_none, [], ◌∷◌, true, false, List, IsSome, IfOk, OnOk, IfSome, IfNone, MatchOption, Some, length, take, vec_len, vec_capacity, slice_index};
 ghost use Rattle.ere_tree.specs.Derivation.{is_line_start};
 ghost use Rattle.ere_tree.specs.Shape.{has_refs};
 ghost use Rattle.ere_tree.specs.Tree.{Tree};
 ghost use Rattle.ere_tree.specs.View.{view};
 ghost use Rattle.ere_auto.specs.RowTable.{slot_or_zero};
+ghost use Rattle.ere_places.specs.Places.{Finds, IsInside};
+ghost use Rattle.ere_places.specs.declared.window.Direction.TheVariants.{Ahead};
+ghost use Rattle.ere_auto.specs.Alone.{EndsStarts, Meets};
 ghost use Rattle.ere_auto.specs.Closure.{OriginsUpTo};
 ghost use Rattle.ere_auto.specs.Span.{IsSpan};
 ghost use Rattle.ere_auto.specs.Seen.{IsFor, HasSeen, HasFound, SeesAnew, SeesNext, SettlesUnless, HasEnded, StepsTo, EndsIn, Waits, Fresh, starts_behind, best_behind};
 
 use crate::marks::Marks;
 use crate::rows::Rows;
-use crate::step::{Around, Note, step};
+use crate::step::{Around, Note, byte_at, step};
 use crate::steps::Steps;
 use crate::thread::{Thread, add_threads};
 use crate::threads::Threads;
+use ere_places::Window;
 use ere_table::NodeTable;
 use ere_tree::{Cap, Ere};
 use std::alloc::{AllocError, Global};
@@ -98,7 +102,7 @@ impl Auto {
     }
 
     /// What `build` makes.
-    fn new(alloc: Global, ere: &Ere) -> Result<Auto, AllocError>
+    pub(crate) fn new(alloc: Global, ere: &Ere) -> Result<Auto, AllocError>
         requires { has_refs (view ere.now) ≡ false }
         ensures fresh { IfOk result (λ made. HasSeen (state_of made) (view ere.now) []) }
         ensures begin { IfOk result (λ made. made.begin ≡ 0) }
@@ -319,6 +323,66 @@ impl Auto {
         }
     }
 
+    /// Shows the next byte, or None for the slice's end, to the threads alone, and tells whether the stop is met in front of it.
+    #[inline(always)]
+    fn meets(&mut self, next: Option<u8>) -> bool
+        ensures { (t : Tree) → IsFor (state_of self.old) t → Meets (state_of self.old) (state_of self.new) next result }
+    {
+        match next {
+            Some(byte) => {
+                self.turn(byte);
+                self.rows.row(self.row).met.is_some()
+            }
+            None => self.step(None).met.is_some(),
+        }
+    }
+
+    /// Lets no start begin any more.
+    fn end_starts(&mut self)
+        ensures { (t : Tree) → IsFor (state_of self.old) t → EndsStarts (state_of self.old) (state_of self.new) }
+    {
+        load(&mut self.seeds, self.rows.threads(self.row));
+        let row = self.rows.row(self.row);
+        let note = Note {
+            begun: row.begun,
+            met: row.met,
+        };
+        let seeds = self.seeds.as_slice();
+        self.row = self.rows.enter(seeds, row.line, false, note).row;
+    }
+
+    /// The places of a window to which the expression leads ahead from one of them. No step is counted.
+    pub(crate) fn ends_alone(
+        &mut self,
+        alloc: Global,
+        slice: &[u8],
+        window: Window,
+        place: usize,
+    ) -> Result<Vec<usize>, AllocError>
+        requires ahead { window.direction ≡ Ahead }
+        requires window { window.high ≤ length slice.now }
+        requires inside { IsInside window place }
+        ensures ends { (t : Tree) → IsFor (state_of self.old) t → IfOk result (Finds slice.now t window (place ∷ [])) }
+        ensures kept { (t : Tree) → IsFor (state_of self.old) t → OnOk result (IsFor (state_of self.new) t) }
+    {
+        let mut found = Vec::new(alloc);
+        let starts = is_line_start(slice, place);
+        self.restart(place, starts);
+        if self.meets(byte_at(slice, place)) {
+            found.push(place)?;
+        }
+        self.end_starts();
+        for index in place + 1..window.high + 1 {
+            if self.rows.row(self.row).over {
+                return Ok(found);
+            }
+            if self.meets(byte_at(slice, index)) {
+                found.push(index)?;
+            }
+        }
+        Ok(found)
+    }
+
     /// Shows the next byte, or None for the slice's end, and counts it. False tells that the span is known.
     #[inline(always)]
     pub fn advance<L: Ledger>(&mut self, next: Option<u8>, steps: &mut Steps<L>) -> bool
@@ -351,7 +415,7 @@ impl Auto {
 }
 
 /// Whether the place is the slice's start, or lies behind a newline.
-fn is_line_start(slice: &[u8], place: usize) -> bool
+pub(crate) fn is_line_start(slice: &[u8], place: usize) -> bool
     requires { place ≤ length slice.now }
     ensures { result ≡ is_line_start slice.now place }
 {

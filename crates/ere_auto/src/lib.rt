@@ -1,10 +1,11 @@
 //! The automaton of a regular expression without references: it is shown the bytes of a slice one by one, and finds
 //! the leftmost longest span. What it is shown is counted. The idea: Pike's threads, each with its start, over Thompson's table; the
-//! steps that were made are kept as the rows of a lazy DFA.
+//! steps that were made are kept as the rows of a lazy DFA. Threads without starts tell all ends from some places at once.
 #![tactic(auto)]
 
 mod auto;
 mod closure;
+mod ends;
 mod marks;
 mod moves;
 mod row;
@@ -17,4 +18,5 @@ mod thread;
 mod threads;
 
 pub use auto::Auto;
+pub use ends::ends_from;
 pub use steps::Steps;

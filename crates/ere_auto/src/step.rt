@@ -1,7 +1,7 @@
 //! One step of the threads.
 ghost use Rattle.std.specs.Prelude.{◌≡◌, ℕ, ◌+◌, ◌<◌, ◌≤◌, length, vec_len, vec_capacity, Some};
 ghost use Rattle.ere_auto.specs.Closure.{IsFree, NodesBelow, OriginsBelow, StaysBelow};
-ghost use Rattle.ere_auto.specs.Step.{Seeds, ends_line};
+ghost use Rattle.ere_auto.specs.Step.{Seeds, Shows, ends_line};
 ghost use Rattle.ere_auto.specs.StepView.{IsStepOf};
 
 use crate::closure::close;
@@ -31,12 +31,24 @@ pub struct Around {
 }
 
 /// Whether a line ends before the next byte.
-fn ends_line(next: Option<u8>) -> bool
+pub(crate) fn ends_line(next: Option<u8>) -> bool
     ensures { result ≡ ends_line next }
 {
     match next {
         None => true,
         Some(byte) => byte == b'\n',
+    }
+}
+
+/// The byte at a place. None at the text's end.
+pub(crate) fn byte_at(text: &[u8], place: usize) -> Option<u8>
+    requires { place ≤ length text.now }
+    ensures { Shows text.now place result }
+{
+    if place < text.len() {
+        Some(text[place])
+    } else {
+        None
     }
 }
 

@@ -8,6 +8,7 @@ mod reach;
 mod seen;
 mod window;
 
+pub use list::{nearest, put_new};
 pub use reach::{image, image_of_repeat};
 pub use seen::Seen;
 pub use window::{Direction, Window};

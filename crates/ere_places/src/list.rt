@@ -20,7 +20,7 @@ fn nearer(direction: Direction, one: usize, other: usize) -> usize
 }
 
 /// The first of some places in the direction.
-pub(crate) fn nearest(direction: Direction, places: &[usize]) -> usize
+pub fn nearest(direction: Direction, places: &[usize]) -> usize
     ensures { All (λ p. IsTrue (is_beyond direction result p)) places.now }
 {
     let mut near = match direction {
@@ -34,11 +34,7 @@ pub(crate) fn nearest(direction: Direction, places: &[usize]) -> usize
 }
 
 /// Adds the places that the list doesn't have yet. The set has those of the list.
-pub(crate) fn put_new(
-    found: &[usize],
-    seen: &mut Seen,
-    list: &mut Vec<usize>,
-) -> Result<(), AllocError>
+pub fn put_new(found: &[usize], seen: &mut Seen, list: &mut Vec<usize>) -> Result<(), AllocError>
     requires same { (q : ℕ) → IsTrue (is_held seen.old q) ↔ Contains list.old.items q }
     requires beyond { All (λ q. IsTrue (is_beyond seen.old.direction seen.old.base q)) found.now }
     ensures same { OnOk result ((q : ℕ) → IsTrue (is_held seen.new q) ↔ Contains list.new.items q) }

@@ -20,7 +20,7 @@ use crate::memo::{Memo, Start, Told};
 use crate::moving::{has_byte, refers_or_sets, sets_one};
 use crate::rows::Rows;
 use crate::site::Site;
-use ere_places::image;
+use ere_auto::ends_from;
 use ere_tree::{Cap, Ere};
 use std::alloc::AllocError;
 
@@ -40,7 +40,7 @@ fn reach_freely(
 {
     let mut found = Rows::new(site.alloc, site.low);
     for row in &rows.rows {
-        let ends = image(
+        let ends = ends_from(
             site.alloc,
             ere,
             site.text,
@@ -410,7 +410,7 @@ fn reach_by_free_group(
     let mut list = Vec::new(site.alloc);
     for row in &rows.rows {
         for from in &row.places {
-            let ends = image(site.alloc, inner, site.text, site.window(), &[*from])?;
+            let ends = ends_from(site.alloc, inner, site.text, site.window(), &[*from])?;
             budget.take(ends.len().saturating_add(1))?;
             let closing = Closing {
                 site,

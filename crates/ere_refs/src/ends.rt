@@ -9,7 +9,8 @@ ghost use Rattle.ere_tree.specs.Shape.{has_refs};
 ghost use Rattle.ere_tree.specs.View.{view};
 
 use crate::held::{Part, text_held};
-use ere_places::{Direction, Seen, Window, image};
+use ere_auto::ends_from;
+use ere_places::{Direction, Seen, Window};
 use ere_tree::{Cap, Ere};
 use std::alloc::{AllocError, Global};
 
@@ -109,7 +110,7 @@ pub(crate) fn ends_between(
         high: to,
         direction: Direction::Ahead,
     };
-    let ends = image(alloc, ere, text, window, &[from])?;
+    let ends = ends_from(alloc, ere, text, window, &[from])?;
     let places = ends.as_slice();
     let last = last_of(places, from);
     let seen = Seen::of(alloc, Direction::Ahead, from, places)?;

@@ -26,8 +26,8 @@ loop-from-init c = gone_same _ _ _ _ _ _
     (taken_in_none c.deref-row-items.result.now c.loop-row.row-index c.row-item.result.held.items
     c.deref-from-items.result.now) c.loop-row.invariant
 
-pub image-requires-clause-inside : goal.image-requires-clause-inside
-image-requires-clause-inside c =
+pub ends_from-requires-clause-inside : goal.ends_from-requires-clause-inside
+ends_from-requires-clause-inside c =
     let p = get_or c.deref-from-items.result.now c.loop-from.from-index 0 in
     let lies = place_inside c.args.site c.args.rows.now c.deref-row-items.result.now c.loop-row.row-index
     c.row-item.result c.deref-from-items.result.now c.loop-from.from-index c.deref-row-items.ensures.value

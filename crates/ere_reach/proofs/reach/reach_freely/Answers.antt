@@ -15,8 +15,8 @@ loop-row-init c =
     gone_first c.args.site (Does c.args.site.text.now t) (reads t) c.args.live.now c.deref-row-items.result.now
     c.new-found.result c.new-found.ensures.none
 
-pub image-requires-clause-inside : goal.image-requires-clause-inside
-image-requires-clause-inside c =
+pub ends_from-requires-clause-inside : goal.ends_from-requires-clause-inside
+ends_from-requires-clause-inside c =
     all_each (IsInside c.window.result) c.as_slice.result.now (λ q h.
     let lies = row_inside c.args.site c.args.rows.now c.deref-row-items.result.now c.loop-row.row-index
     c.row-item.result c.deref-row-items.ensures.value c.requires.inside c.loop-row-test.true c.row-item.is q
