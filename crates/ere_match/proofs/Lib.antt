@@ -5,4 +5,5 @@ pub mod NewlineLemmas
 pub mod ShownLemmas
 mod HitLemmas
 mod HitSpanLemmas
+mod LineLemmas
 mod StartsLemmas

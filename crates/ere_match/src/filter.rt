@@ -2,17 +2,21 @@
 ghost use Rattle.std.specs.Prelude.{◌≡◌, ℕ, ◌+◌, ◌-◌, ◌<◌, ◌≤◌, true, false, Some, length, drop, IfOk, IfSome, MatchOption};
 ghost use Rattle.ere_auto.specs.State.{state_of};
 ghost use Rattle.ere_match.specs.Filter.{CountsOnce, FiltersAll, FindsAsked, IsFilter, LiesBehind, MayLie, StaysFilter, TellsAskedAt, TellsFrom, TellsHitAt};
-ghost use Rattle.ere_match.specs.Starts.{AreStarts, PassesFrom, TellsTried};
+ghost use Rattle.ere_match.specs.Line.{HasLine};
+ghost use Rattle.ere_match.specs.Starts.{PassesFrom, TellsTried};
 ghost use Rattle.ere_match.specs.declared.filter.Asked.TheVariants.{Span};
 ghost use Rattle.ere_refs.specs.Refers.{refs_fit};
 ghost use Rattle.ere_relaxed.specs.Relaxed.{SpansAll};
+ghost use Rattle.ere_slow.specs.Slow.{HasNoHitBefore};
 ghost use Rattle.ere_tree.specs.Shape.{greatest_group, has_refs};
 ghost use Rattle.ere_tree.specs.View.{view};
 
+use crate::bytes::Bytes;
 use crate::ends::{Ends, end_at, end_nowhere};
+use crate::line::Line;
 use crate::literal::earliest;
 use crate::span::find_span;
-use crate::starts::{Ahead, Starts};
+use crate::starts::Ahead;
 use ere_auto::{Auto, Steps};
 use ere_refs::{MAX_TRIES, Tries, refs_fit, try_from};
 use ere_relaxed::relaxed;
@@ -42,11 +46,14 @@ const FIRST_TRIES: usize = 1_000_000;
 /// How many ends one of them may look at.
 const FEW_TRIES: usize = 100_000;
 
+/// How many bytes one of them may go through.
+const FEW_BYTES: usize = 20_000_000;
+
 /// How many ends tries may look at where groups aren't asked for.
 const SPAN_TRIES: usize = 1_000_000;
 
-/// How far places of which it is told at once may lie from the first of them.
-const NEAR: usize = 4_096;
+/// After how many bytes of long spans it is told of many places at once.
+const MANY_BYTES: usize = 2_000_000;
 
 /// What is asked of a hit: what its groups hold, or where it lies alone.
 #[derive(Clone, Copy)]
@@ -63,20 +70,61 @@ struct Try {
     span: Cap,
 }
 
+impl Try {
+    /// The same up to another end.
+    fn up_to(self, to: usize) -> Try
+        ensures { result ≡ record {
+          asked = self.asked;
+          from = self.from;
+          span = record { from = self.span.from; to = to };
+        } }
+    {
+        let span = Cap {
+            from: self.span.from,
+            to,
+        };
+        Try { span, ..self }
+    }
+
+    /// The same from another place on.
+    fn at(self, place: usize) -> Try
+        ensures { result ≡ record {
+          asked = self.asked;
+          from = self.from;
+          span = record { from = place; to = self.span.to };
+        } }
+    {
+        let span = Cap {
+            from: place,
+            to: self.span.to,
+        };
+        Try { span, ..self }
+    }
+
+    /// How long its span is, and at least a byte.
+    fn width(self) -> usize
+        ensures { 0 < result }
+    {
+        self.span.to.saturating_sub(self.span.from).max(1)
+    }
+}
+
 /// How much a search of an expression with references may still do: what it may try from each place on its own, what in few
-/// tries, what else it may try, what it may list, how far it may go for ends, and from how many places at once.
+/// tries, what else it may try, how many bytes of long spans tries may go through, what it may list, how far it may go for ends, and
+/// from how many places at once.
 #[derive(Drop)]
 struct Budget {
     own: Tries,
     first: Tries,
     tries: Tries,
+    bytes: Bytes,
     limit: Limit,
     ends: Ends,
     ahead: Ahead,
 }
 
 impl Budget {
-    fn new(alloc: Global, asked: Asked) -> Budget {
+    fn new(alloc: Global, asked: Asked, slice: &[u8]) -> Budget {
         let most = match asked {
             Asked::Groups => MAX_TRIES,
             Asked::Span => SPAN_TRIES,
@@ -85,10 +133,16 @@ impl Budget {
             own: Tries::new(alloc).part(ALL_OWN_TRIES),
             first: Tries::new(alloc).part(FIRST_TRIES),
             tries: Tries::new(alloc).part(most),
+            bytes: Bytes::new(slice),
             limit: Limit::new(),
             ends: Ends::new(),
             ahead: Ahead::new(),
         }
+    }
+
+    /// Whether much was done so far.
+    fn is_much(&self) -> bool {
+        self.ends.are_many() || self.bytes.has_taken(MANY_BYTES)
     }
 }
 
@@ -139,31 +193,6 @@ impl Filter {
         }
         self.automaton.span_from(slice, place + 1)
     }
-
-    /// A span's start with up to so many other places in the span, near behind it, at which a hit may begin.
-    fn starts(
-        &mut self,
-        alloc: Global,
-        slice: &[u8],
-        span: Cap,
-        others: usize,
-    ) -> Result<Starts, AllocError>
-        ensures starts { IfOk result (AreStarts (state_of self.old.automaton) slice.now span) }
-        ensures kept { StaysFilter (state_of self.old.automaton) (state_of self.new.automaton) }
-    {
-        let near = NEAR.min(span.to.saturating_sub(span.from));
-        let mut starts = Starts::new(alloc, span)?;
-        for _ in 0..others {
-            let Some(next) = self.behind(slice, starts.last) else {
-                return Ok(starts);
-            };
-            if next.from.saturating_sub(span.from) > near {
-                return Ok(starts);
-            }
-            starts.put(next)?;
-        }
-        Ok(starts)
-    }
 }
 
 /// Whether parts of the expression are tried. Where there are very many, derivations are listed.
@@ -200,25 +229,30 @@ fn tried_hit(
     }
 }
 
-/// The same in some of the first tries.
-fn few_tries(
+/// The same in up to so many of some tries. Of the bytes that may be gone through in long spans it takes those that it went through.
+fn some_tries(
     ere: &Ere,
     free: &Ere,
     text: &[u8],
-    from: usize,
-    span: Cap,
-    budget: &mut Budget,
+    one: Try,
+    most: usize,
+    tries: &mut Tries,
+    bytes: &mut Bytes,
 ) -> Result<Option<Hit>, AllocError>
     requires refs { refs_fit (greatest_group (view ere.now)) (view ere.now) ≡ true }
     requires no_refs { has_refs (view free.now) ≡ false }
     requires spans { SpansAll (view ere.now) (view free.now) }
-    requires inside { from ≤ length text.now }
-    requires lies { MayLie (drop from text.now) (view ere.now) (Some span) }
-    ensures { IfOk result (TellsHitAt text.now (view ere.now) from span.from) }
+    requires inside { one.from ≤ length text.now }
+    requires lies { MayLie (drop one.from text.now) (view ere.now) (Some one.span) }
+    ensures { IfOk result (TellsHitAt text.now (view ere.now) one.from one.span.from) }
 {
-    let mut few = budget.first.part(FEW_TRIES);
-    let found = tried_hit(ere, free, text, from, span, &mut few);
-    budget.first.join(few);
+    let width = one.width();
+    let mut some = tries.part(most.min(bytes.times(width)));
+    let given = some.left();
+    let found = tried_hit(ere, free, text, one.from, one.span, &mut some);
+    let ends = given.saturating_sub(some.left());
+    bytes.take(width, ends.saturating_add(1));
+    tries.join(some);
     found
 }
 
@@ -228,29 +262,28 @@ fn hit_at(
     ere: &Ere,
     free: &Ere,
     text: &[u8],
-    from: usize,
-    span: Cap,
+    one: Try,
     budget: &mut Budget,
 ) -> Result<Option<Hit>, AllocError>
     requires refs { refs_fit (greatest_group (view ere.now)) (view ere.now) ≡ true }
     requires no_refs { has_refs (view free.now) ≡ false }
     requires spans { SpansAll (view ere.now) (view free.now) }
-    requires inside { from ≤ length text.now }
-    requires lies { MayLie (drop from text.now) (view ere.now) (Some span) }
-    ensures { IfOk result (TellsHitAt text.now (view ere.now) from span.from) }
+    requires inside { one.from ≤ length text.now }
+    requires lies { MayLie (drop one.from text.now) (view ere.now) (Some one.span) }
+    ensures { IfOk result (TellsHitAt text.now (view ere.now) one.from one.span.from) }
 {
     let alloc = budget.tries.memory();
-    let slice = text.split_at(from).1;
-    match end_at(alloc, ere, slice, span, &mut budget.ends) {
+    let slice = text.split_at(one.from).1;
+    match end_at(alloc, ere, slice, one.span, &mut budget.ends) {
         Ok(None) => Ok(None),
         Ok(Some(to)) => {
-            let span = Cap {
-                from: span.from,
-                to,
-            };
-            tried_hit(ere, free, text, from, span, &mut budget.tries)
+            let (tries, bytes) = (&mut budget.tries, &mut budget.bytes);
+            some_tries(ere, free, text, one.up_to(to), usize::MAX, tries, bytes)
         }
-        Err(_) => tried_hit(ere, free, text, from, span, &mut budget.tries),
+        Err(_) => {
+            let (tries, bytes) = (&mut budget.tries, &mut budget.bytes);
+            some_tries(ere, free, text, one, usize::MAX, tries, bytes)
+        }
     }
 }
 
@@ -292,54 +325,70 @@ fn told_at(
     requires lies { MayLie (drop one.from text.now) (view ere.now) (Some one.span) }
     ensures { IfOk result (TellsAskedAt one.asked text.now (view ere.now) one.from one.span.from) }
 {
-    let Try { asked, from, span } = one;
     let alloc = budget.tries.memory();
     if !is_tried(ere) {
-        return slow_hit_from(alloc, ere, text, from, span.from, &mut budget.limit);
+        return slow_hit_from(alloc, ere, text, one.from, one.span.from, &mut budget.limit);
     }
-    let width = span.to.saturating_sub(span.from).max(1);
-    let most = OWN_TRIES.min(OWN_BYTES / width);
+    let most = OWN_TRIES.min(OWN_BYTES / one.width());
     budget.own.join(Tries::new(alloc).part(MORE_OWN_TRIES));
-    let mut own = budget.own.part(most);
-    if let Ok(hit) = tried_hit(ere, free, text, from, span, &mut own) {
-        budget.own.join(own);
+    if let Ok(hit) = some_tries(
+        ere,
+        free,
+        text,
+        one,
+        most,
+        &mut budget.own,
+        &mut budget.bytes,
+    ) {
         return Ok(hit);
     }
-    match asked {
-        Asked::Groups => match few_tries(ere, free, text, from, span, budget) {
-            Ok(hit) => Ok(hit),
-            Err(_) => hit_at(ere, free, text, from, span, budget),
-        },
-        Asked::Span => match span_at(ere, text, from, span, budget) {
+    match one.asked {
+        Asked::Groups => {
+            let few = FEW_TRIES.min(FEW_BYTES / one.width());
+            match some_tries(
+                ere,
+                free,
+                text,
+                one,
+                few,
+                &mut budget.first,
+                &mut budget.bytes,
+            ) {
+                Ok(hit) => Ok(hit),
+                Err(_) => hit_at(ere, free, text, one, budget),
+            }
+        }
+        Asked::Span => match span_at(ere, text, one.from, one.span, budget) {
             Ok(hit) => Ok(hit),
             Err(_) => {
                 budget.tries.join(Tries::new(alloc).part(most));
-                tried_hit(ere, free, text, from, span, &mut budget.tries)
+                let (tries, bytes) = (&mut budget.tries, &mut budget.bytes);
+                some_tries(ere, free, text, one, usize::MAX, tries, bytes)
             }
         },
     }
 }
 
-/// The last of some places from a span's start on, of which it is told at once that no hit begins at one of them.
+/// The last of some places from one of a line on, of which it is told at once that no hit begins at one of them.
 fn passed(
     ere: &Ere,
     slice: &[u8],
-    span: Cap,
-    filter: &mut Filter,
+    place: usize,
+    line: &Line,
     budget: &mut Budget,
 ) -> Result<Option<usize>, AllocError>
-    requires built { IsFilter (state_of filter.old.automaton) (view ere.now) }
-    requires lies { MayLie slice.now (view ere.now) (Some span) }
-    ensures passed { IfOk result (PassesFrom slice.now (view ere.now) span.from) }
-    ensures kept { StaysFilter (state_of filter.old.automaton) (state_of filter.new.automaton) }
+    requires line { HasLine slice.now (view ere.now) place line.now }
+    requires before { HasNoHitBefore slice.now (view ere.now) place }
+    ensures { IfOk result (PassesFrom slice.now (view ere.now) place) }
 {
-    if !budget.ends.are_many() || budget.ahead.count == 0 {
+    let count = budget.ahead.count;
+    if count == 0 {
         return Ok(None);
     }
     let alloc = budget.tries.memory();
-    let starts = filter.starts(alloc, slice, span, budget.ahead.count)?;
+    let starts = line.starts(alloc, place, count)?;
     let within = Cap {
-        from: span.from,
+        from: place,
         to: starts.high,
     };
     let places = starts.places.as_slice();
@@ -359,26 +408,83 @@ fn passed(
     }
 }
 
-/// What is asked of the hit that begins where a span does, or the last of some places from there on at which none begins.
+/// What is asked of the hit that begins at a place of a line, or the last of some places from there on at which none begins.
 fn try_at(
     ere: &Ere,
     free: &Ere,
     text: &[u8],
     one: Try,
-    filter: &mut Filter,
+    line: &Line,
     budget: &mut Budget,
 ) -> Result<Tried, AllocError>
     requires no_refs { has_refs (view free.now) ≡ false }
     requires spans { SpansAll (view ere.now) (view free.now) }
-    requires built { IsFilter (state_of filter.old.automaton) (view ere.now) }
     requires inside { one.from ≤ length text.now }
-    requires lies { MayLie (drop one.from text.now) (view ere.now) (Some one.span) }
-    ensures tried { IfOk result (TellsTried one.asked text.now (view ere.now) one.from one.span.from) }
-    ensures kept { StaysFilter (state_of filter.old.automaton) (state_of filter.new.automaton) }
+    requires line { HasLine (drop one.from text.now) (view ere.now) one.span.from line.now }
+    requires before { HasNoHitBefore (drop one.from text.now) (view ere.now) one.span.from }
+    ensures { IfOk result (TellsTried one.asked text.now (view ere.now) one.from one.span.from) }
 {
     let slice = text.split_at(one.from).1;
-    if let Some(last) = passed(ere, slice, one.span, filter, budget)? {
+    let place = one.span.from;
+    if let Some(last) = passed(ere, slice, place, line, budget)? {
         return Ok(Tried::Passed(last));
+    }
+    let to = line.end_from(budget.tries.memory(), free, slice, place)?;
+    match told_at(ere, free, text, one.up_to(to), budget)? {
+        Some(hit) => Ok(Tried::Hit(hit)),
+        None => Ok(Tried::Passed(place)),
+    }
+}
+
+/// What is asked of the hit that begins at a place of a line or behind it, or that none does.
+fn try_line(
+    ere: &Ere,
+    free: &Ere,
+    text: &[u8],
+    one: Try,
+    line: &Line,
+    budget: &mut Budget,
+) -> Result<Tried, AllocError>
+    requires no_refs { has_refs (view free.now) ≡ false }
+    requires spans { SpansAll (view ere.now) (view free.now) }
+    requires inside { one.from ≤ length text.now }
+    requires line { HasLine (drop one.from text.now) (view ere.now) one.span.from line.now }
+    requires before { HasNoHitBefore (drop one.from text.now) (view ere.now) one.span.from }
+    ensures { IfOk result (TellsTried one.asked text.now (view ere.now) one.from one.span.from) }
+{
+    let mut next = one.span.from;
+    for place in one.span.from..line.high + 1 {
+        if place >= next && line.has(place) {
+            match try_at(ere, free, text, one.at(place), line, budget)? {
+                Tried::Hit(hit) => return Ok(Tried::Hit(hit)),
+                Tried::Passed(last) => next = last.saturating_add(1),
+            }
+        }
+    }
+    Ok(Tried::Passed(line.high))
+}
+
+/// What is asked of the hit that begins where a span does, or the last of some places from there on at which none begins. Where
+/// much was done so far, it is told of all of them in the line.
+fn try_once(
+    ere: &Ere,
+    free: &Ere,
+    text: &[u8],
+    one: Try,
+    budget: &mut Budget,
+) -> Result<Tried, AllocError>
+    requires no_refs { has_refs (view free.now) ≡ false }
+    requires spans { SpansAll (view ere.now) (view free.now) }
+    requires inside { one.from ≤ length text.now }
+    requires lies { MayLie (drop one.from text.now) (view ere.now) (Some one.span) }
+    ensures { IfOk result (TellsTried one.asked text.now (view ere.now) one.from one.span.from) }
+{
+    if budget.is_much() {
+        let slice = text.split_at(one.from).1;
+        let alloc = budget.tries.memory();
+        if let Some(line) = Line::of(alloc, free, slice, one.span.from)? {
+            return try_line(ere, free, text, one, &line, budget);
+        }
     }
     match told_at(ere, free, text, one, budget)? {
         Some(hit) => Ok(Tried::Hit(hit)),
@@ -410,11 +516,11 @@ pub(crate) fn find_filtered<L: Ledger>(
         return Err(NoMemory);
     };
     let mut filter = Filter::new(alloc, &free)?;
-    let mut budget = Budget::new(alloc, asked);
+    let mut budget = Budget::new(alloc, asked, slice);
     let mut found = filter.first(slice, begin, steps);
     while let Some(span) = found {
         let one = Try { asked, from, span };
-        match try_at(ere, &free, text, one, &mut filter, &mut budget) {
+        match try_once(ere, &free, text, one, &mut budget) {
             Ok(Tried::Passed(last)) => found = filter.behind(slice, last),
             Ok(Tried::Hit(hit)) => return Ok(Some(hit)),
             Err(_) => return Err(NoMemory),

@@ -4,8 +4,10 @@
 //! where a filter without references lets one begin.
 #![tactic(auto)]
 
+mod bytes;
 mod ends;
 mod filter;
+mod line;
 mod literal;
 mod search;
 mod span;

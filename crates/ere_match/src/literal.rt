@@ -21,7 +21,7 @@ fn first_place(slice: &[u8], bytes: &[u8]) -> usize
 
 /// Whether a match can hold a newline, as far as sets and plain text tell.
 #[cycle(newlines)]
-fn may_hold_newline(ere: &Ere) -> bool
+pub(crate) fn may_hold_newline(ere: &Ere) -> bool
     ensures { result ≡ may_hold_newline (view ere.now) }
 {
     match ere {

@@ -1,8 +1,6 @@
 //! Places at which hits may begin, and for how many of them it is told at once that none does.
 ghost use Rattle.std.specs.Prelude.{◌≡◌, ◌∷◌, ◌++◌, [], OnOk, IfOk};
-ghost use Rattle.ere_match.specs.Starts.{IsGreater};
 
-use ere_tree::Cap;
 use std::alloc::{AllocError, Global};
 
 /// For how many places at once it is told at most.
@@ -43,7 +41,8 @@ impl Ahead {
     }
 }
 
-/// Places at which hits may begin, one behind the other, the last of them, and how far those may reach that begin there.
+/// Places at which hits may begin, one behind the other, the last place that was looked at, and how far those may reach that begin
+/// there.
 #[derive(Drop)]
 pub(crate) struct Starts {
     pub(crate) places: Vec<usize>,
@@ -52,30 +51,38 @@ pub(crate) struct Starts {
 }
 
 impl Starts {
-    /// The start of a span.
-    pub(crate) fn new(alloc: Global, span: Cap) -> Result<Starts, AllocError>
-        ensures places { IfOk result (λ made. made.places.items ≡ span.from ∷ []) }
-        ensures last { IfOk result (λ made. made.last ≡ span.from) }
-        ensures high { IfOk result (λ made. made.high ≡ span.to) }
+    /// One place, from where they reach this far.
+    pub(crate) fn new(alloc: Global, place: usize, high: usize) -> Result<Starts, AllocError>
+        ensures places { IfOk result (λ made. made.places.items ≡ place ∷ []) }
+        ensures last { IfOk result (λ made. made.last ≡ place) }
+        ensures high { IfOk result (λ made. made.high ≡ high) }
     {
         let mut places = Vec::new(alloc);
-        places.push(span.from)?;
+        places.push(place)?;
         Ok(Starts {
             places,
-            last: span.from,
-            high: span.to,
+            last: place,
+            high,
         })
     }
 
-    /// Adds the start of a span that begins behind the last one.
-    pub(crate) fn put(&mut self, span: Cap) -> Result<(), AllocError>
-        ensures places { OnOk result (self.new.places.items ≡ self.old.places.items ++ span.from ∷ []) }
-        ensures last { OnOk result (self.new.last ≡ span.from) }
-        ensures high { OnOk result (IsGreater self.old.high span.to self.new.high) }
+    /// Adds the next place.
+    pub(crate) fn put(&mut self, place: usize) -> Result<(), AllocError>
+        ensures places { OnOk result (self.new.places.items ≡ self.old.places.items ++ place ∷ []) }
+        ensures last { OnOk result (self.new.last ≡ place) }
+        ensures high { self.new.high ≡ self.old.high }
     {
-        self.places.push(span.from)?;
-        self.last = span.from;
-        self.high = self.high.max(span.to);
+        self.places.push(place)?;
+        self.last = place;
         Ok(())
+    }
+
+    /// Passes the next place, at which none begins.
+    pub(crate) fn pass(&mut self, place: usize)
+        ensures places { self.new.places.items ≡ self.old.places.items }
+        ensures last { self.new.last ≡ place }
+        ensures high { self.new.high ≡ self.old.high }
+    {
+        self.last = place;
     }
 }

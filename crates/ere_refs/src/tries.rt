@@ -41,6 +41,11 @@ impl Tries {
         self.left = self.left.saturating_add(part.left);
     }
 
+    /// How many ends may still be looked at.
+    pub fn left(&self) -> usize {
+        self.left
+    }
+
     /// The memory that tries are made in.
     pub fn memory(&self) -> Global {
         self.alloc

@@ -37,10 +37,10 @@ loop-found-smaller g c =
     let s = c.split_at.result.1.now in
     let t = view c.args.ere.now in
     let lies = subst (MayLie s t) c.in-Some.is c.loop-found.invariant.lies in
-    let built = c.try_at.ensures.kept t c.loop-found.invariant.built in
+    let built = c.loop-found.invariant.built in
     let a = c.args in
     let passed = subst (TellsTried a.asked a.text.now t a.from c.in-Some.span.from) c.in-Ok-Passed.field-0-is
-    c.in-Ok-Passed.ensures.tried in
+    c.in-Ok-Passed.ensures in
     fewer (length s) c.in-Some.span c.in-Ok-Passed.last c.loop-found.found c.behind-found.result c.in-Some.is
     (omega (arith, lies.1.0, lies.1.1)) passed.0 (c.behind-found.ensures.behind t built)
 
@@ -49,10 +49,10 @@ loop-found-preserved g c =
     let s = c.split_at.result.1.now in
     let t = view c.args.ere.now in
     let last = c.in-Ok-Passed.last in
-    let built = c.try_at.ensures.kept t c.loop-found.invariant.built in
+    let built = c.loop-found.invariant.built in
     let a = c.args in
     let passed = subst (TellsTried a.asked a.text.now t a.from c.in-Some.span.from) c.in-Ok-Passed.field-0-is
-    c.in-Ok-Passed.ensures.tried in
+    c.in-Ok-Passed.ensures in
     record {
       no_refs = c.loop-found.invariant.no_refs;
       spans = c.loop-found.invariant.spans;
