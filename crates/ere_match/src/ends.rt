@@ -13,7 +13,10 @@ use ere_tree::{Cap, Ere};
 use std::alloc::{AllocError, Global};
 
 /// How many steps all searches depth first may take.
-const DIVE_STEPS: usize = 2_000_000;
+const DIVE_STEPS: usize = 500_000;
+
+/// How many steps all searches for the ends from many places at once may take.
+const ALL_MANY_STEPS: usize = 9_000_000;
 
 /// How many steps a search with the references to one group alone may take.
 const GROUP_STEPS: usize = 100_000;
@@ -26,12 +29,12 @@ const MANY_STEPS: usize = 100_000;
 
 const MANY_PLACES: usize = 4;
 
-/// How much may still be done for ends: from one place, from many at once, and depth first; the group whose references are asked
-/// first; how often they may tell nothing; and of how many places they told.
+/// How many steps may still be taken for ends: by rows in all, by those from many places at once, and depth first; the group whose
+/// references are asked first; how often they may tell nothing; and of how many places they told.
 #[derive(Drop)]
 pub(crate) struct Ends {
-    one: Budget,
-    many: Budget,
+    steps: usize,
+    many: usize,
     dives: usize,
     first: usize,
     misses: usize,
@@ -41,8 +44,8 @@ pub(crate) struct Ends {
 impl Ends {
     pub(crate) fn new() -> Ends {
         Ends {
-            one: Budget::new(MAX_STEPS),
-            many: Budget::new(MAX_STEPS / 2),
+            steps: MAX_STEPS,
+            many: ALL_MANY_STEPS,
             dives: DIVE_STEPS,
             first: 0,
             misses: MISSES,
@@ -52,7 +55,46 @@ impl Ends {
 
     /// Whether it was much so far.
     pub(crate) fn are_many(&self) -> bool {
-        self.one.has_taken(MANY_STEPS) || self.told > MANY_PLACES
+        self.steps < MAX_STEPS - MANY_STEPS || self.told > MANY_PLACES
+    }
+
+    /// The greatest end in a span of what begins where it does, told in up to so many steps.
+    fn greatest(
+        &mut self,
+        alloc: Global,
+        ere: &Ere,
+        slice: &[u8],
+        span: Cap,
+        most: usize,
+    ) -> Result<Option<usize>, AllocError>
+        requires order { span.from ≤ span.to }
+        requires inside { span.to ≤ length slice.now }
+        ensures { IfOk result (TellsEnd slice.now (view ere.now) span.from span.to) }
+    {
+        let mut steps = Budget::new(self.steps.min(most));
+        let found = greatest_end(alloc, ere, slice, span.from, span.to, &mut steps);
+        self.steps = self.steps.saturating_sub(steps.taken());
+        found
+    }
+
+    /// Whether what begins at one of the places ends nowhere in the span, told in up to so many steps. False tells nothing.
+    fn nowhere(
+        &mut self,
+        alloc: Global,
+        ere: &Ere,
+        slice: &[u8],
+        span: Cap,
+        places: &[usize],
+        most: usize,
+    ) -> Result<bool, AllocError>
+        requires places { All (IsIn span.from span.to) places.now }
+        requires inside { span.to ≤ length slice.now }
+        ensures { IfOk result (λ none. none ≡ true → EndsNowhere slice.now (view ere.now) places.now span.to) }
+    {
+        let mut steps = Budget::new(self.steps.min(most));
+        let none = ends_nowhere(alloc, ere, slice, span, places, &mut steps);
+        self.steps = self.steps.saturating_sub(steps.taken());
+        none
     }
 }
 
@@ -77,8 +119,11 @@ fn bound_at(
     let count = singles.len();
     for turn in 0..count {
         let index = ends.first.saturating_add(turn) % count;
-        let mut steps = Budget::new(GROUP_STEPS);
-        match greatest_end(alloc, &singles[index], slice, span.from, high, &mut steps) {
+        let nearer = Cap {
+            from: span.from,
+            to: high,
+        };
+        match ends.greatest(alloc, &singles[index], slice, nearer, GROUP_STEPS) {
             Ok(None) => {
                 ends.first = index;
                 ends.told = ends.told.saturating_add(1);
@@ -119,7 +164,7 @@ pub(crate) fn end_at(
             return Ok(Some(high));
         }
     }
-    greatest_end(alloc, ere, slice, span.from, high, &mut ends.one)
+    ends.greatest(alloc, ere, slice, nearer, usize::MAX)
 }
 
 /// Whether what begins at one of the places ends nowhere in the span, by the references to one group at a time, and else by all.
@@ -141,14 +186,13 @@ pub(crate) fn end_nowhere(
         let count = singles.len();
         for turn in 0..count {
             let index = ends.first.saturating_add(turn) % count;
-            let mut steps = Budget::new(GROUP_STEPS);
-            if let Ok(true) = ends_nowhere(
+            if let Ok(true) = ends.nowhere(
                 alloc,
                 &singles[index],
                 slice,
                 span,
                 places,
-                &mut steps,
+                GROUP_STEPS,
             ) {
                 ends.first = index;
                 return Ok(true);
@@ -156,5 +200,9 @@ pub(crate) fn end_nowhere(
         }
         ends.misses = ends.misses.saturating_sub(1);
     }
-    ends_nowhere(alloc, ere, slice, span, places, &mut ends.many)
+    let (given, most) = (ends.steps, ends.many);
+    let none = ends.nowhere(alloc, ere, slice, span, places, most);
+    let taken = given.saturating_sub(ends.steps);
+    ends.many = ends.many.saturating_sub(taken);
+    none
 }

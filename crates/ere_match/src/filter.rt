@@ -33,7 +33,7 @@ const MAX_TRIED: u64 = 5_000;
 const OWN_TRIES: usize = 1_500;
 
 /// How many ends all of these may look at, and how many more for each place.
-const ALL_OWN_TRIES: usize = 500_000;
+const ALL_OWN_TRIES: usize = 200_000;
 
 const MORE_OWN_TRIES: usize = 64;
 
@@ -50,7 +50,7 @@ const FEW_TRIES: usize = 100_000;
 const FEW_BYTES: usize = 20_000_000;
 
 /// How many ends tries may look at where groups aren't asked for.
-const SPAN_TRIES: usize = 1_000_000;
+const SPAN_TRIES: usize = 20_000;
 
 /// After how many bytes of long spans it is told of many places at once.
 const MANY_BYTES: usize = 2_000_000;

@@ -2,7 +2,7 @@
 use std::alloc::AllocError;
 
 /// How many steps one search may take. One that wants more is given up as for want of memory.
-pub const MAX_STEPS: usize = 20_000_000;
+pub const MAX_STEPS: usize = 12_000_000;
 
 /// How many rows one search may have at a time. One that wants more is given up as for want of memory.
 pub const MAX_ROWS: usize = 600_000;
@@ -26,9 +26,9 @@ impl Budget {
         }
     }
 
-    /// Whether more than so many steps were taken.
-    pub fn has_taken(&self, count: usize) -> bool {
-        self.left < self.given.saturating_sub(count)
+    /// How many steps were taken.
+    pub fn taken(&self) -> usize {
+        self.given.saturating_sub(self.left)
     }
 
     /// So many steps are taken.

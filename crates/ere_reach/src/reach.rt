@@ -48,7 +48,7 @@ fn reach_freely(
             row.places.as_slice(),
         )?;
         let held = kept(site.alloc, row.held.as_slice(), live)?;
-        budget.take(row.places.len())?;
+        budget.take(row.places.len().saturating_add(site.weight()))?;
         found.put(held.as_slice(), ends.as_slice(), budget)?;
     }
     Ok(found)
@@ -411,7 +411,7 @@ fn reach_by_free_group(
     for row in &rows.rows {
         for from in &row.places {
             let ends = ends_from(site.alloc, inner, site.text, site.window(), &[*from])?;
-            budget.take(ends.len().saturating_add(1))?;
+            budget.take(ends.len().saturating_add(site.weight()))?;
             let closing = Closing {
                 site,
                 number,

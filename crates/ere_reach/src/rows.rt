@@ -176,7 +176,7 @@ impl Rows {
         ensures put { OnOk result (IsPut self.old held.now places.now self.new) }
         ensures done { OnOk result (KeepsDone self.old self.new) }
     {
-        budget.take(places.len())?;
+        budget.take(places.len().saturating_add(held.len()))?;
         if places.is_empty() {
             return Ok(());
         }

@@ -5,6 +5,11 @@ ghost use Rattle.ere_places.specs.declared.window.Direction.TheVariants.{Ahead};
 use ere_places::{Direction, Window};
 use std::alloc::Global;
 
+/// As how many bytes a step counts where a window is gone through, and as how many steps that counts at most.
+const FOR_A_STEP: usize = 64;
+
+const MOST_STEPS: usize = 64;
+
 /// A text, and the places in it from `low` to `high` that are looked at.
 #[derive(Clone, Copy)]
 pub(crate) struct Site<'t> {
@@ -15,6 +20,12 @@ pub(crate) struct Site<'t> {
 }
 
 impl<'t> Site<'t> {
+    /// As how many steps it counts to go through its window.
+    pub(crate) fn weight(self) -> usize {
+        let width = self.high.saturating_sub(self.low);
+        (width / FOR_A_STEP).min(MOST_STEPS).saturating_add(1)
+    }
+
     /// Its window, ahead.
     pub(crate) fn window(self) -> Window
         ensures low { result.low ≡ self.entry.low }

@@ -30,7 +30,7 @@ loop-turn-preserved c =
     (in_turn c.in_ok-singles.singles.items c.saturating_add.result c.len-count.result one
     (omega (arith, c.len-count.ensures, c.in_ok-singles.singles.ok.0))
     (omega (arith, c.loop-turn-test.true)) c.index.ensures) in
-    elim c.match-greatest_end.branch [
+    elim c.match-greatest.branch [
       | in-Ok-Some w ↦
           subst (λ (n : ℕ). IsBound s t span.from span.to (Some n)) (sym w.high-is)
           (bound_nearer s t (view one) span.from high span.to w.in-Ok-Some.end

@@ -28,5 +28,5 @@ returns c =
     let span = c.args.span in
     let high = c.in-Some.high in
     let known = subst (IsBound s t span.from span.to) c.in-Some.is c.in_ok-high.ensures in
-    IfOk-weaker c.greatest_end.result (TellsEnd s t span.from high) (TellsEnd s t span.from span.to)
-    (λ found told. told_within s t span.from high span.to found known told) c.greatest_end.ensures
+    IfOk-weaker c.greatest.result (TellsEnd s t span.from high) (TellsEnd s t span.from span.to)
+    (λ found told. told_within s t span.from high span.to found known told) c.greatest.ensures
