@@ -38,7 +38,7 @@ const ALL_OWN_TRIES: usize = 200_000;
 const MORE_OWN_TRIES: usize = 64;
 
 /// How many bytes their spans may have, since a try goes through its span.
-const OWN_BYTES: usize = 600_000;
+const OWN_BYTES: usize = 300_000;
 
 /// How many ends all first tries may look at.
 const FIRST_TRIES: usize = 1_000_000;
@@ -110,8 +110,8 @@ impl Try {
 }
 
 /// How much a search of an expression with references may still do: what it may try from each place on its own, what in few
-/// tries, what else it may try, how many bytes of long spans tries may go through, what it may list, how far it may go for ends, and
-/// from how many places at once.
+/// tries, what else it may try, what it may list, how far it may go for ends, and from how many places at once; and how many bytes
+/// of long spans it went through.
 #[derive(Drop)]
 struct Budget {
     own: Tries,
@@ -124,7 +124,7 @@ struct Budget {
 }
 
 impl Budget {
-    fn new(alloc: Global, asked: Asked, slice: &[u8]) -> Budget {
+    fn new(alloc: Global, asked: Asked) -> Budget {
         let most = match asked {
             Asked::Groups => MAX_TRIES,
             Asked::Span => SPAN_TRIES,
@@ -133,7 +133,7 @@ impl Budget {
             own: Tries::new(alloc).part(ALL_OWN_TRIES),
             first: Tries::new(alloc).part(FIRST_TRIES),
             tries: Tries::new(alloc).part(most),
-            bytes: Bytes::new(slice),
+            bytes: Bytes::new(),
             limit: Limit::new(),
             ends: Ends::new(),
             ahead: Ahead::new(),
@@ -142,7 +142,7 @@ impl Budget {
 
     /// Whether much was done so far.
     fn is_much(&self) -> bool {
-        self.ends.are_many() || self.bytes.has_taken(MANY_BYTES)
+        self.ends.are_many() || self.bytes.are_past(MANY_BYTES)
     }
 }
 
@@ -229,7 +229,7 @@ fn tried_hit(
     }
 }
 
-/// The same in up to so many of some tries. Of the bytes that may be gone through in long spans it takes those that it went through.
+/// The same in up to so many of some tries. The bytes of long spans are counted that it went through.
 fn some_tries(
     ere: &Ere,
     free: &Ere,
@@ -247,7 +247,7 @@ fn some_tries(
     ensures { IfOk result (TellsHitAt text.now (view ere.now) one.from one.span.from) }
 {
     let width = one.width();
-    let mut some = tries.part(most.min(bytes.times(width)));
+    let mut some = tries.part(most);
     let given = some.left();
     let found = tried_hit(ere, free, text, one.from, one.span, &mut some);
     let ends = given.saturating_sub(some.left());
@@ -516,7 +516,7 @@ pub(crate) fn find_filtered<L: Ledger>(
         return Err(NoMemory);
     };
     let mut filter = Filter::new(alloc, &free)?;
-    let mut budget = Budget::new(alloc, asked, slice);
+    let mut budget = Budget::new(alloc, asked);
     let mut found = filter.first(slice, begin, steps);
     while let Some(span) = found {
         let one = Try { asked, from, span };
