@@ -29,6 +29,9 @@ use tt_base::NoMemory;
 /// How large an expression is at most of which parts are tried, as they are by calls inside calls.
 const MAX_TRIED: u64 = 5_000;
 
+/// How many ends tries may look at, however long their span is.
+const LEAST_TRIES: usize = 16;
+
 /// How many ends the tries from each place may look at.
 const OWN_TRIES: usize = 1_500;
 
@@ -38,7 +41,7 @@ const ALL_OWN_TRIES: usize = 200_000;
 const MORE_OWN_TRIES: usize = 64;
 
 /// How many bytes their spans may have, since a try goes through its span.
-const OWN_BYTES: usize = 300_000;
+const OWN_BYTES: usize = 120_000;
 
 /// How many ends all first tries may look at.
 const FIRST_TRIES: usize = 1_000_000;
@@ -49,8 +52,10 @@ const FEW_TRIES: usize = 100_000;
 /// How many bytes one of them may go through.
 const FEW_BYTES: usize = 20_000_000;
 
-/// How many ends tries may look at where groups aren't asked for.
+/// How many ends tries may look at where groups aren't asked for, and how many bytes one of them may go through.
 const SPAN_TRIES: usize = 20_000;
+
+const SPAN_BYTES: usize = 2_000_000;
 
 /// After how many bytes of long spans it is told of many places at once.
 const MANY_BYTES: usize = 2_000_000;
@@ -106,6 +111,11 @@ impl Try {
         ensures { 0 < result }
     {
         self.span.to.saturating_sub(self.span.from).max(1)
+    }
+
+    /// How many ends tries of it may look at, up to so many, where all of them go through so many bytes.
+    fn tries(self, most: usize, bytes: usize) -> usize {
+        most.min(bytes / self.width()).max(LEAST_TRIES)
     }
 }
 
@@ -329,7 +339,7 @@ fn told_at(
     if !is_tried(ere) {
         return slow_hit_from(alloc, ere, text, one.from, one.span.from, &mut budget.limit);
     }
-    let most = OWN_TRIES.min(OWN_BYTES / one.width());
+    let most = one.tries(OWN_TRIES, OWN_BYTES);
     budget.own.join(Tries::new(alloc).part(MORE_OWN_TRIES));
     if let Ok(hit) = some_tries(
         ere,
@@ -344,7 +354,7 @@ fn told_at(
     }
     match one.asked {
         Asked::Groups => {
-            let few = FEW_TRIES.min(FEW_BYTES / one.width());
+            let few = one.tries(FEW_TRIES, FEW_BYTES);
             match some_tries(
                 ere,
                 free,
@@ -362,8 +372,9 @@ fn told_at(
             Ok(hit) => Ok(hit),
             Err(_) => {
                 budget.tries.join(Tries::new(alloc).part(most));
+                let last = one.tries(SPAN_TRIES, SPAN_BYTES);
                 let (tries, bytes) = (&mut budget.tries, &mut budget.bytes);
-                some_tries(ere, free, text, one, usize::MAX, tries, bytes)
+                some_tries(ere, free, text, one, last, tries, bytes)
             }
         },
     }
