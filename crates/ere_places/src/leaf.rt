@@ -129,7 +129,7 @@ pub(crate) fn past_leaves(
     requires window { window.high ≤ length text.now }
     ensures { IfOk result (Finds text.now (view ere.now) window from.now) }
 {
-    let mut found = Vec::new(alloc);
+    let mut found = Vec::with_capacity(alloc, from.len())?;
     for place in from {
         if let Some(end) = past_leaf(ere, text, window, *place) {
             found.push(end)?;
