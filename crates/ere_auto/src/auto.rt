@@ -101,8 +101,8 @@ impl Auto {
         }
     }
 
-    /// What `build` makes.
-    pub(crate) fn new(alloc: Global, ere: &Ere) -> Result<Auto, AllocError>
+    /// What `build` makes. Want of memory is an `AllocError`.
+    pub fn new(alloc: Global, ere: &Ere) -> Result<Auto, AllocError>
         requires { has_refs (view ere.now) ≡ false }
         ensures fresh { IfOk result (λ made. HasSeen (state_of made) (view ere.now) []) }
         ensures begin { IfOk result (λ made. made.begin ≡ 0) }

@@ -1,12 +1,15 @@
 //! Where an expression that begins at one of some places ends.
-ghost use Rattle.std.specs.Prelude.{◌≡◌, ◌≤◌, [], false, length, vec_len, IfOk};
+ghost use Rattle.std.specs.Prelude.{◌≡◌, ◌≤◌, [], false, length, vec_len, IfOk, OnOk};
 ghost use Rattle.std.specs.List.{All};
 ghost use Rattle.ere_tree.specs.Shape.{has_refs};
+ghost use Rattle.ere_tree.specs.Tree.{Tree};
 ghost use Rattle.ere_tree.specs.View.{view};
 ghost use Rattle.ere_table.specs.Path.{LeadsAs};
 ghost use Rattle.ere_places.specs.Places.{Finds, IsInside};
 ghost use Rattle.ere_places.specs.declared.window.Direction.TheVariants.{Ahead};
 ghost use Rattle.ere_auto.specs.Ends.{AreOne, PassesAll, StandsAll};
+ghost use Rattle.ere_auto.specs.Seen.{IsFor};
+ghost use Rattle.ere_auto.specs.State.{state_of};
 
 use crate::auto::{Auto, is_line_start};
 use crate::closure::close;
@@ -114,21 +117,22 @@ fn greatest_of(places: &[usize]) -> usize
     greatest
 }
 
-/// The places that `ends_from` tells, from few places one by one: the automaton keeps its steps, so it takes one for a byte.
-fn one_by_one(
+/// The places that `ends_from` tells of the automaton's expression, from one place after the other: the automaton keeps its
+/// steps, so it takes one for a byte.
+pub fn ends_by(
+    automaton: &mut Auto,
     alloc: Global,
-    ere: &Ere,
     text: &[u8],
     window: Window,
     from: &[usize],
 ) -> Result<Vec<usize>, AllocError>
-    requires no_refs { has_refs (view ere.now) ≡ false }
+    requires expression { (t : Tree) × IsFor (state_of automaton.old) t }
     requires ahead { window.direction ≡ Ahead }
     requires window { window.high ≤ length text.now }
     requires inside { All (IsInside window) from.now }
-    ensures { IfOk result (Finds text.now (view ere.now) window from.now) }
+    ensures ends { (t : Tree) → IsFor (state_of automaton.old) t → IfOk result (Finds text.now t window from.now) }
+    ensures kept { (t : Tree) → IsFor (state_of automaton.old) t → OnOk result (IsFor (state_of automaton.new) t) }
 {
-    let mut automaton = Auto::new(alloc, ere)?;
     let mut seen = Seen::new(alloc, window.direction, nearest(window.direction, from));
     let mut all = Vec::new(alloc);
     for place in from {
@@ -189,7 +193,8 @@ pub fn ends_from(
         return image(alloc, ere, text, window, from);
     }
     if from.len() <= FEW {
-        return one_by_one(alloc, ere, text, window, from);
+        let mut automaton = Auto::new(alloc, ere)?;
+        return ends_by(&mut automaton, alloc, text, window, from);
     }
     walked(alloc, ere, text, window, from)
 }

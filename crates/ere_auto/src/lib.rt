@@ -18,5 +18,5 @@ mod thread;
 mod threads;
 
 pub use auto::Auto;
-pub use ends::ends_from;
+pub use ends::{ends_by, ends_from};
 pub use steps::Steps;

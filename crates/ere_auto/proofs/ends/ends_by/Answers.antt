@@ -4,19 +4,18 @@ use Rattle.std.proofs.lemmas.List.Elements.{All-cons, All-get_or, All-nil}
 use Rattle.ere_places.proofs.ReachLemmas.{reached_beyond}
 use Rattle.ere_places.specs.Places.{AreReached, LeadsInside}
 use Rattle.ere_places.specs.Seen.{is_beyond}
-use Rattle.ere_tree.specs.View.{view}
+use Rattle.ere_tree.specs.Tree.{Tree}
 use Rattle.ere_auto.proofs.AloneLemmas.{no_place, one_place_more}
-use Rattle.ere_auto.proofs.ends.one_by_one.Goals as goal
+use Rattle.ere_auto.proofs.ends.ends_by.Goals as goal
 
 pub loop-place-init : goal.loop-place-init
 loop-place-init c =
     let s = c.args.text.now in
-    let t = view c.args.ere.now in
     let window = c.args.window in
     let from = c.args.from.now in
     let none = c.new-all.ensures.items in
     record {
-      expression = c.in_ok-automaton.ensures.fresh.expression;
+      kept = λ t is. is;
       held = λ q. (
         λ on. absurd (true≢false (sym on ∙ c.new-seen.ensures.empty q)),
         λ has. let gone = subst (λ (xs : List ℕ). Contains xs q) none has in absurd (omega (arith, gone.1)),
@@ -25,13 +24,13 @@ loop-place-init c =
           subst (λ d. All (λ p. IsTrue (is_beyond d c.new-seen.result.base p)) from) (sym c.new-seen.ensures.direction)
           (subst (λ b. All (λ p. IsTrue (is_beyond window.direction b p)) from) (sym c.new-seen.ensures.base) c.nearest.ensures);
       direction = c.new-seen.ensures.direction;
-      found = subst (AreReached (LeadsInside s t window) []) (sym none) (no_place s t window);
+      found = λ (t : Tree) is. subst (AreReached (LeadsInside s t window) []) (sym none) (no_place s t window);
     }
 
 pub put_new-requires-clause-beyond : goal.put_new-requires-clause-beyond
 put_new-requires-clause-beyond c =
     let s = c.args.text.now in
-    let t = view c.args.ere.now in
+    let t = c.requires.expression.0 in
     let window = c.args.window in
     let seen = c.loop-place.seen in
     let place = get_or c.args.from.now c.loop-place.place-index 0 in
@@ -39,12 +38,12 @@ put_new-requires-clause-beyond c =
     reached_beyond s t window seen.direction seen.base (place ∷ []) c.as_slice.result.now c.loop-place.invariant.direction
     (All-cons P place [] (All-get_or P c.args.from.now c.loop-place.place-index 0 c.loop-place-test.true
     c.loop-place.invariant.near) (All-nil P))
-    (rw (sym c.as_slice.ensures.value) at c.in_ok-ends.ensures.ends t c.loop-place.invariant.expression)
+    (rw (sym c.as_slice.ensures.value) at c.in_ok-ends.ensures.ends t
+    (c.loop-place.invariant.kept t c.requires.expression.1))
 
 pub loop-place-preserved : goal.loop-place-preserved
 loop-place-preserved c =
     let s = c.args.text.now in
-    let t = view c.args.ere.now in
     let window = c.args.window in
     let from = c.args.from.now in
     let old = c.loop-place.seen in
@@ -52,18 +51,18 @@ loop-place-preserved c =
     let put = c.in_ok-put_new.ensures in
     let i = c.loop-place.invariant in
     record {
-      expression = c.in_ok-ends.ensures.kept t i.expression;
+      kept = λ t is. c.in_ok-ends.ensures.kept t (i.kept t is);
       held = put.same;
       near = subst (λ d. All (λ p. IsTrue (is_beyond d seen.base p)) from) (sym put.direction)
           (subst (λ b. All (λ p. IsTrue (is_beyond old.direction b p)) from) (sym put.base) i.near);
       direction = put.direction ∙ i.direction;
-      found =
+      found = λ (t : Tree) is.
           one_place_more s t window from c.in_ok-ends.ends.items c.loop-place.all.items c.put_new.new.list.items
-          c.loop-place.place-index c.loop-place-test.true i.found (c.in_ok-ends.ensures.ends t i.expression)
+          c.loop-place.place-index c.loop-place-test.true (i.found t is) (c.in_ok-ends.ensures.ends t (i.kept t is))
           (rw c.as_slice.ensures.value at put.all);
     }
 
-pub returns : goal.returns
-returns c =
-    subst (λ (xs : List ℕ). AreReached (LeadsInside c.args.text.now (view c.args.ere.now) c.args.window) xs c.loop-place.all.items)
-    (take_all c.loop-place.place-index c.args.from.now c.loop-place-test.false) c.loop-place.invariant.found
+pub returns-clause-ends : goal.returns-clause-ends
+returns-clause-ends c = λ t is.
+    subst (λ (xs : List ℕ). AreReached (LeadsInside c.args.text.now t c.args.window) xs c.loop-place.all.items)
+    (take_all c.loop-place.place-index c.args.from.now c.loop-place-test.false) (c.loop-place.invariant.found t is)
