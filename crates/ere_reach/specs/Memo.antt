@@ -11,6 +11,7 @@ use Rattle.ere_reach.specs.declared.memo.Start.{Start}
 use Rattle.ere_reach.specs.declared.memo.Told.{Told}
 use Rattle.ere_reach.specs.declared.rows.Rows.{Rows}
 use Rattle.ere_reach.specs.declared.site.Site.{Site}
+use Rattle.ere_reach.specs.Asked.{AreBuilt}
 use Rattle.ere_reach.specs.Held.{Covers, part_in}
 use Rattle.ere_reach.specs.Leads.{Does, Goes, Step}
 use Rattle.ere_reach.specs.Live.{HasRead, reads}
@@ -41,8 +42,10 @@ pub record IsOf (t : Tree) (start : Start) (told : Told) : Type 0 where
 abbrev pub Holds : Site → Told → Type 0
 Holds site told = LeadsFrom site (view told.inner.now) told.live.items told.held.items told.from told.rows
 
-abbrev pub AllHold : Site → Memo → Type 0
-AllHold site memo = (told : Told) → Contains memo.slots.items (Some told) → Holds site told
+-- all that was told holds, and what is kept to tell where expressions end serves these
+pub record AllHold (site : Site) (memo : Memo) : Type 0 where
+  pub told : (told : Told) → Contains memo.slots.items (Some told) → Holds site told
+  pub asked : AreBuilt memo.asked
 
 -- a slot has what one had before, or this one
 abbrev pub HasOld : Memo → Memo → Type 0

@@ -4,6 +4,9 @@ use std::alloc::AllocError;
 /// How many steps one search may take. One that wants more is given up as for want of memory.
 pub const MAX_STEPS: usize = 12_000_000;
 
+/// How many bytes or places that are looked at count as one step.
+pub(crate) const FOR_A_STEP: usize = 64;
+
 /// How many rows one search may have at a time. One that wants more is given up as for want of memory.
 pub const MAX_ROWS: usize = 600_000;
 

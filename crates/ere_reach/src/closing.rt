@@ -4,13 +4,10 @@ ghost use Rattle.ere_tree.specs.Derivation.{IsSameText};
 ghost use Rattle.ere_reach.specs.Held.{Tells};
 ghost use Rattle.ere_reach.specs.Leads.{FitsKnown, FitsText, StandsFirst, StandsNoMore, StandsNotBefore};
 
-use crate::budget::Budget;
+use crate::budget::{Budget, FOR_A_STEP};
 use crate::site::Site;
 use ere_tree::Cap;
 use std::alloc::AllocError;
-
-/// How many places that are looked at count as one step.
-const FOR_A_STEP: usize = 64;
 
 /// Whether two texts of one length are the same with letters in either case. Most differ in the first byte.
 fn is_like(one: &[u8], other: &[u8]) -> bool

@@ -2,6 +2,7 @@
 //! behind them still reads.
 #![tactic(auto)]
 
+mod asked;
 mod budget;
 mod closing;
 mod ending;

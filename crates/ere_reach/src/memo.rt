@@ -4,6 +4,7 @@ ghost use Rattle.std.specs.List.{Contains};
 ghost use Rattle.ere_reach.specs.Memo.{HasOld, HasOldOr, IsOf};
 ghost use Rattle.ere_tree.specs.View.{view};
 
+use crate::asked::AskedEnds;
 use crate::held::{Held, are_same};
 use crate::rows::{MIX, Rows, hash_of, slot_of};
 use crate::same::are_one;
@@ -75,10 +76,11 @@ impl<'e> Told<'e> {
     }
 }
 
-/// A table of what was told. It may forget.
+/// A table of what was told, which may forget, and where expressions without references end, of which it was asked.
 #[derive(Drop)]
 pub(crate) struct Memo<'e> {
     alloc: Global,
+    pub(crate) asked: AskedEnds<'e>,
     slots: Vec<Option<Told<'e>>>,
     used: usize,
     weight: usize,
@@ -98,10 +100,12 @@ fn slot_for(from: usize, held: &[Held], live: &[u32], count: usize) -> usize
 
 impl<'e> Memo<'e> {
     pub(crate) fn new(alloc: Global) -> Memo<'e>
-        ensures { result.slots.items ≡ [] }
+        ensures slots { result.slots.items ≡ [] }
+        ensures asked { result.asked.all.items ≡ [] }
     {
         Memo {
             alloc,
+            asked: AskedEnds::new(alloc),
             slots: Vec::new(alloc),
             used: 0,
             weight: 0,
@@ -113,6 +117,7 @@ impl<'e> Memo<'e> {
         ensures of { IfSome result (IsOf (view inner.now) start.entry) }
         ensures there { IfSome result (λ told. Contains self.old.slots.items (Some told)) }
         ensures kept { HasOld self.old self.new }
+        ensures asked { self.new.asked ≡ self.old.asked }
     {
         let count = self.slots.len();
         if count == 0 {
@@ -134,7 +139,8 @@ impl<'e> Memo<'e> {
 
     /// Makes so many slots anew, with nothing in them.
     fn clear(&mut self, count: usize) -> Result<(), AllocError>
-        ensures { OnOk result (HasOld self.old self.new) }
+        ensures kept { OnOk result (HasOld self.old self.new) }
+        ensures asked { self.new.asked ≡ self.old.asked }
     {
         let mut slots = Vec::with_capacity(self.alloc, count)?;
         for _ in 0..count {
@@ -148,7 +154,8 @@ impl<'e> Memo<'e> {
 
     /// Counts one more of this weight. Where there is no room, what was told before is forgotten.
     fn make_room(&mut self, weight: usize) -> Result<(), AllocError>
-        ensures { OnOk result (HasOld self.old self.new) }
+        ensures kept { OnOk result (HasOld self.old self.new) }
+        ensures asked { self.new.asked ≡ self.old.asked }
     {
         if self.used >= self.slots.len() / 2 {
             let count = self.slots.len().saturating_mul(4).max(FIRST_SLOTS);
@@ -163,7 +170,8 @@ impl<'e> Memo<'e> {
 
     /// Puts something in that is told.
     pub(crate) fn put(&mut self, told: Told<'e>) -> Result<(), AllocError>
-        ensures { OnOk result (HasOldOr self.old told.entry self.new) }
+        ensures kept { OnOk result (HasOldOr self.old told.entry self.new) }
+        ensures asked { self.new.asked ≡ self.old.asked }
     {
         self.make_room(told.weight)?;
         let count = self.slots.len();

@@ -20,27 +20,29 @@ use crate::memo::{Memo, Start, Told};
 use crate::moving::{has_byte, refers_or_sets, sets_one};
 use crate::rows::Rows;
 use crate::site::Site;
-use ere_auto::ends_from;
 use ere_tree::{Cap, Ere};
 use std::alloc::AllocError;
 
 /// By an expression without references and groups that are read.
-fn reach_freely(
+fn reach_freely<'e>(
     site: Site<'_>,
-    ere: &Ere,
+    ere: &'e Ere,
     rows: &Rows,
     live: &[u32],
+    memo: &mut Memo<'e>,
     budget: &mut Budget,
 ) -> Result<Rows, AllocError>
     requires fits { FitsText site }
     requires inside { AreInside site.low site.high rows.now }
     requires refs { has_refs (view ere.now) ≡ false }
     requires sets { sets_one (view ere.now) live.now ≡ false }
-    ensures { IfOk result (LeadsOver site.entry (view ere.now) live.now rows.now) }
+    requires memo { AllHold site memo.old }
+    ensures leads { IfOk result (LeadsOver site.entry (view ere.now) live.now rows.now) }
+    ensures memo { OnOk result (AllHold site.entry memo.new) }
 {
     let mut found = Rows::new(site.alloc, site.low);
     for row in &rows.rows {
-        let ends = ends_from(
+        let ends = memo.asked.ends(
             site.alloc,
             ere,
             site.text,
@@ -392,25 +394,30 @@ fn put_closed(
 }
 
 /// By a group that is read, where what it holds has no reference and sets no other group that is read.
-fn reach_by_free_group(
+fn reach_by_free_group<'e>(
     site: Site<'_>,
     number: u32,
-    inner: &Ere,
+    inner: &'e Ere,
     rows: &Rows,
     live: &[u32],
+    memo: &mut Memo<'e>,
     budget: &mut Budget,
 ) -> Result<Rows, AllocError>
     requires fits { FitsText site }
     requires inside { AreInside site.low site.high rows.now }
     requires refs { has_refs (view inner.now) ≡ false }
     requires sets { (others : List ℕ) × IsWithout number live.now others × (sets_one (view inner.now) others ≡ false) }
-    ensures { IfOk result (LeadsOver site.entry (group number (view inner.now)) live.now rows.now) }
+    requires memo { AllHold site memo.old }
+    ensures leads { IfOk result (LeadsOver site.entry (group number (view inner.now)) live.now rows.now) }
+    ensures memo { OnOk result (AllHold site.entry memo.new) }
 {
     let mut found = Rows::new(site.alloc, site.low);
     let mut list = Vec::new(site.alloc);
     for row in &rows.rows {
         for from in &row.places {
-            let ends = ends_from(site.alloc, inner, site.text, site.window(), &[*from])?;
+            let ends = memo
+                .asked
+                .ends(site.alloc, inner, site.text, site.window(), &[*from])?;
             budget.take(ends.len().saturating_add(site.weight()))?;
             let closing = Closing {
                 site,
@@ -563,7 +570,7 @@ fn reach_by_group<'e>(
     let read = live_before(site.alloc, inner, others.as_slice())?;
     let starts = with_kept(site, rows, read.as_slice(), budget)?;
     if !refers_or_sets(inner, others.as_slice()) {
-        let found = reach_by_free_group(site, number, inner, &starts, live, budget)?;
+        let found = reach_by_free_group(site, number, inner, &starts, live, memo, budget)?;
         budget.release(starts.len());
         return Ok(found);
     }
@@ -641,7 +648,7 @@ pub(crate) fn reach<'e>(
         return Ok(Rows::new(site.alloc, site.low));
     }
     if !refers_or_sets(ere, live) {
-        return reach_freely(site, ere, rows, live, budget);
+        return reach_freely(site, ere, rows, live, memo, budget);
     }
     match ere {
         Ere::Cat(parts) => reach_through(site, parts.as_slice(), rows, live, memo, budget),
@@ -655,7 +662,9 @@ pub(crate) fn reach<'e>(
         Ere::Ref { number, fold } => {
             reach_by_reference(site, *number, *fold, rows, live, budget)
         }
-        Ere::Empty | Ere::Plain(_) | Ere::Set(_) => reach_freely(site, ere, rows, live, budget),
-        Ere::LineStart | Ere::LineEnd => reach_freely(site, ere, rows, live, budget),
+        Ere::Empty | Ere::Plain(_) | Ere::Set(_) => reach_freely(
+            site, ere, rows, live, memo, budget,
+        ),
+        Ere::LineStart | Ere::LineEnd => reach_freely(site, ere, rows, live, memo, budget),
     }
 }

@@ -2,12 +2,11 @@
 ghost use Rattle.std.specs.Prelude.{◌≡◌};
 ghost use Rattle.ere_places.specs.declared.window.Direction.TheVariants.{Ahead};
 
+use crate::budget::FOR_A_STEP;
 use ere_places::{Direction, Window};
 use std::alloc::Global;
 
-/// As how many bytes a step counts where a window is gone through, and as how many steps that counts at most.
-const FOR_A_STEP: usize = 64;
-
+/// As how many steps it counts at most to go through a window.
 const MOST_STEPS: usize = 64;
 
 /// A text, and the places in it from `low` to `high` that are looked at.

@@ -19,4 +19,4 @@ returns c =
     (no_state c.new-start.result c.new-start.ensures.none) c.in_ok-put.ensures.put c.in_ok-found.ensures.leads
 
 pub reach-requires-clause-memo : goal.reach-requires-clause-memo
-reach-requires-clause-memo c = none_hold c.args.site c.new-memo.result c.new-memo.ensures
+reach-requires-clause-memo c = none_hold c.args.site c.new-memo.result c.new-memo.ensures.slots c.new-memo.ensures.asked

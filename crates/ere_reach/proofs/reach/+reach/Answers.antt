@@ -150,6 +150,7 @@ reach_by_group-reach_by_free_group-requires t c =
       inside = kept_inside c.args.site _ c.args.rows.now c.in_ok-starts.starts c.in_ok-starts.ensures c.requires.inside;
       refs = free.refers c.if-not-refers_or_sets.true;
       sets = (c.in_ok-others.others.items, c.in_ok-others.ensures, unset);
+      memo = c.requires.memo;
     }
 
 pub reach_by_group-returns-then-not-refers_or_sets-clause-leads : goal.reach_by_group-returns-then-not-refers_or_sets-clause-leads
@@ -161,7 +162,7 @@ reach_by_group-returns-then-not-refers_or_sets-clause-leads t c =
     c.in_ok-starts.starts c.in_ok-found.found
     (all_of_group a.number t a.live.now c.in_ok-others.others.items c.in_ok-read.read.items c.in_ok-others.ensures
     (rw c.as_slice.ensures.value at c.in_ok-read.ensures))
-    (rw c.as_slice-2.ensures.value at c.in_ok-starts.ensures) c.in_ok-found.ensures
+    (rw c.as_slice-2.ensures.value at c.in_ok-starts.ensures) c.in_ok-found.ensures.leads
 
 pub reach_by_group-reach_by_bound_group-requires : goal.reach_by_group-reach_by_bound_group-requires
 reach_by_group-reach_by_bound_group-requires t c =
@@ -184,20 +185,20 @@ reach_by_group-returns-clause-leads t c =
 pub told_from-returns-in-Some-clause-leads : goal.told_from-returns-in-Some-clause-leads
 told_from-returns-in-Some-clause-leads t c =
     told_leads c.args.site (view c.args.inner.now) c.args.start c.in-Some.told c.in-Some.ensures.of
-    (c.requires.memo c.in-Some.told c.in-Some.ensures.there)
+    (c.requires.memo.told c.in-Some.told c.in-Some.ensures.there)
 
 pub told_from-returns-in-Some-clause-holds : goal.told_from-returns-in-Some-clause-holds
-told_from-returns-in-Some-clause-holds t c = c.requires.memo c.in-Some.told c.in-Some.ensures.there
+told_from-returns-in-Some-clause-holds t c = c.requires.memo.told c.in-Some.told c.in-Some.ensures.there
 
 pub told_from-returns-in-Some-clause-memo : goal.told_from-returns-in-Some-clause-memo
 told_from-returns-in-Some-clause-memo t c =
-    still_hold c.args.site c.args.memo.now c.take.new.self c.take.ensures.kept c.requires.memo
+    still_hold c.args.site c.args.memo.now c.take.new.self c.take.ensures.kept c.take.ensures.asked c.requires.memo
 
 pub told_from-reach-requires : goal.told_from-reach-requires
 told_from-reach-requires t c =
     let it = one_inside c.args.site c.args.start.held.now c.args.start.from c.new-one.result c.put.new.self
     c.new-one.ensures.none c.in_ok-put.ensures.put c.requires.inside in
-    (search rules, (c.requires.fits, (it, still_hold c.args.site c.args.memo.now c.take.new.self c.take.ensures.kept c.requires.memo)))
+    (search rules, (c.requires.fits, (it, still_hold c.args.site c.args.memo.now c.take.new.self c.take.ensures.kept c.take.ensures.asked c.requires.memo)))
 
 pub told_from-returns-clause-leads : goal.told_from-returns-clause-leads
 told_from-returns-clause-leads t c =
@@ -271,7 +272,7 @@ reach_by_bound_group-loop-from-preserved t c =
           (rw c.as_slice-in-loop-from.ensures.value at (rw c.as_slice-in-loop-from-2.ensures.value at
           c.in_ok-told.ensures.leads)) puts.1) puts.2
           (taken_in_more rows k g places j p c.loop-from-test.true refl) c.loop-from.invariant.found;
-      memo = more_hold c.args.site c.told_from.new.memo c.in_ok-told.told c.put.new.self c.in_ok-put.ensures
+      memo = more_hold c.args.site c.told_from.new.memo c.in_ok-told.told c.put.new.self c.in_ok-put.ensures.kept c.put.ensures.asked
           c.in_ok-told.ensures.memo c.in_ok-told.ensures.holds;
     }
 

@@ -18,16 +18,22 @@ use Rattle.ere_reach.proofs.reach.reach_by_free_group.Goals.{then-from-to+then-t
 pub loop-row-init : goal.loop-row-init
 loop-row-init c =
     let tree = group c.args.number (view c.args.inner.now) in
-    gone_first c.args.site (Does c.args.site.text.now tree) (reads tree) c.args.live.now
-    c.deref-row-items.result.now c.new-found.result c.new-found.ensures.none
+    record {
+      found = gone_first c.args.site (Does c.args.site.text.now tree) (reads tree) c.args.live.now
+          c.deref-row-items.result.now c.new-found.result c.new-found.ensures.none;
+      memo = c.requires.memo;
+    }
 
 pub loop-from-init : goal.loop-from-init
-loop-from-init c = gone_same _ _ _ _ _ _
-    (taken_in_none c.deref-row-items.result.now c.loop-row.row-index c.row-item.result.held.items
-    c.deref-from-items.result.now) c.loop-row.invariant
+loop-from-init c = record {
+  found = gone_same _ _ _ _ _ _
+      (taken_in_none c.deref-row-items.result.now c.loop-row.row-index c.row-item.result.held.items
+      c.deref-from-items.result.now) c.loop-row.invariant.found;
+  memo = c.loop-row.invariant.memo;
+}
 
-pub ends_from-requires-clause-inside : goal.ends_from-requires-clause-inside
-ends_from-requires-clause-inside c =
+pub ends-requires-clause-inside : goal.ends-requires-clause-inside
+ends-requires-clause-inside c =
     let p = get_or c.deref-from-items.result.now c.loop-from.from-index 0 in
     let lies = place_inside c.args.site c.args.rows.now c.deref-row-items.result.now c.loop-row.row-index
     c.row-item.result c.deref-from-items.result.now c.loop-from.from-index c.deref-row-items.ensures.value
@@ -90,21 +96,27 @@ loop-from-preserved c =
     c.loop-row-test.true c.row-item.is c.deref-from-items.ensures.value c.loop-from-test.true in
     let puts = closed_ends a.site a.number p a.live.now c.loop-from.found g c.deref-to-items.result.now
     c.loop-to.to-index c.loop-to.found c.loop-to-test.false c.loop-to.invariant.closed in
-    free_group_more a.site a.number (view a.inner.now) a.live.now c.requires.sets.0 c.requires.sets.1 c.requires.refs
-    c.requires.sets.2 c.window.result c.window.ensures.low c.window.ensures.high c.window.ensures.direction g p
-    c.in_ok-ends.ends c.loop-from.found c.loop-to.found (TakenIn rows k g places j) (TakenIn rows k g places (j + 1))
-    lies.0 c.in_ok-ends.ensures (rw c.deref-to-items.ensures.value at puts)
-    (taken_in_more rows k g places j p c.loop-from-test.true refl) c.loop-from.invariant
+    record {
+      found = free_group_more a.site a.number (view a.inner.now) a.live.now c.requires.sets.0 c.requires.sets.1 c.requires.refs
+          c.requires.sets.2 c.window.result c.window.ensures.low c.window.ensures.high c.window.ensures.direction g p
+          c.in_ok-ends.ends c.loop-from.found c.loop-to.found (TakenIn rows k g places j) (TakenIn rows k g places (j + 1))
+          lies.0 c.in_ok-ends.ensures.ends (rw c.deref-to-items.ensures.value at puts)
+          (taken_in_more rows k g places j p c.loop-from-test.true refl) c.loop-from.invariant.found;
+      memo = record { told = c.loop-from.invariant.memo.told; asked = c.in_ok-ends.ensures.built };
+    }
 
 pub loop-row-preserved : goal.loop-row-preserved
-loop-row-preserved c = gone_same _ _ _ _ _ _
-    (taken_in_all c.deref-row-items.result.now c.loop-row.row-index c.row-item.result c.deref-from-items.result.now
-    c.loop-from.from-index c.loop-row-test.true c.row-item.is c.deref-from-items.ensures.value c.loop-from-test.false)
-    c.loop-from.invariant
+loop-row-preserved c = record {
+  found = gone_same _ _ _ _ _ _
+      (taken_in_all c.deref-row-items.result.now c.loop-row.row-index c.row-item.result c.deref-from-items.result.now
+      c.loop-from.from-index c.loop-row-test.true c.row-item.is c.deref-from-items.ensures.value c.loop-from-test.false)
+      c.loop-from.invariant.found;
+  memo = c.loop-from.invariant.memo;
+}
 
-pub returns : goal.returns
-returns c =
+pub returns-clause-leads : goal.returns-clause-leads
+returns-clause-leads c =
     let tree = group c.args.number (view c.args.inner.now) in
     gone_last c.args.site (Does c.args.site.text.now tree) (reads tree) c.args.live.now c.args.rows.now c.loop-row.found
     c.deref-row-items.result.now c.loop-row.row-index c.deref-row-items.ensures.value c.loop-row-test.false
-    c.loop-row.invariant
+    c.loop-row.invariant.found

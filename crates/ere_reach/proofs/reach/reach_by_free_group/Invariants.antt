@@ -1,6 +1,7 @@
 use Rattle.std.proofs.Common.{[]}
 use Rattle.ere_tree.specs.View.{view}
 use Rattle.ere_reach.specs.Leads.{FitsKnown}
+use Rattle.ere_reach.specs.Memo.{AllHold}
 use Rattle.ere_reach.proofs.GroupLemmas.{ClosesSoFar}
 use Rattle.ere_reach.proofs.KeepsLemmas.{ClosedSoFar}
 use Rattle.ere_reach.proofs.TakenLemmas.{Taken, TakenIn}
@@ -14,10 +15,14 @@ invariant-loop-to l = record {
 }
 
 abbrev pub invariant-loop-from : goal.invariant-loop-from
-invariant-loop-from l =
-    ClosesSoFar l.site l.number (view l.inner) l.live
-    (TakenIn l.row-items l.row-index l.row.held.items l.from-items l.from-index) l.found
+invariant-loop-from l = record {
+  found : ClosesSoFar l.site l.number (view l.inner) l.live
+      (TakenIn l.row-items l.row-index l.row.held.items l.from-items l.from-index) l.found;
+  memo : AllHold l.site l.memo;
+}
 
 abbrev pub invariant-loop-row : goal.invariant-loop-row
-invariant-loop-row l =
-    ClosesSoFar l.site l.number (view l.inner) l.live (Taken l.row-items l.row-index) l.found
+invariant-loop-row l = record {
+  found : ClosesSoFar l.site l.number (view l.inner) l.live (Taken l.row-items l.row-index) l.found;
+  memo : AllHold l.site l.memo;
+}

@@ -12,11 +12,14 @@ use Rattle.ere_reach.proofs.reach.reach_freely.Goals as goal
 pub loop-row-init : goal.loop-row-init
 loop-row-init c =
     let t = view c.args.ere.now in
-    gone_first c.args.site (Does c.args.site.text.now t) (reads t) c.args.live.now c.deref-row-items.result.now
-    c.new-found.result c.new-found.ensures.none
+    record {
+      found = gone_first c.args.site (Does c.args.site.text.now t) (reads t) c.args.live.now c.deref-row-items.result.now
+          c.new-found.result c.new-found.ensures.none;
+      memo = c.requires.memo;
+    }
 
-pub ends_from-requires-clause-inside : goal.ends_from-requires-clause-inside
-ends_from-requires-clause-inside c =
+pub ends-requires-clause-inside : goal.ends-requires-clause-inside
+ends-requires-clause-inside c =
     all_each (IsInside c.window.result) c.as_slice.result.now (λ q h.
     let lies = row_inside c.args.site c.args.rows.now c.deref-row-items.result.now c.loop-row.row-index
     c.row-item.result c.deref-row-items.ensures.value c.requires.inside c.loop-row-test.true c.row-item.is q
@@ -29,20 +32,23 @@ loop-row-preserved c =
     let rows = c.deref-row-items.result.now in
     let k = c.loop-row.row-index in
     let row = c.row-item.result in
-    free_more a.site (view a.ere.now) a.live.now c.requires.refs c.requires.sets c.window.result c.window.ensures.low
-    c.window.ensures.high c.window.ensures.direction row.held.items c.in_ok-held.held.items row.places.items
-    c.in_ok-ends.ends (Taken rows k) (Taken rows (k + 1)) c.loop-row.found c.put.new.self
-    (λ p at. (row_inside a.site a.rows.now rows k row c.deref-row-items.ensures.value c.requires.inside
-    c.loop-row-test.true c.row-item.is p at).0)
-    (rw c.as_slice-in-loop-row.ensures.value at c.in_ok-held.ensures)
-    (rw c.as_slice.ensures.value at c.in_ok-ends.ensures)
-    (taken_row rows k row c.loop-row-test.true c.row-item.is)
-    (rw (c.as_slice-in-loop-row-2.ensures.value, c.as_slice-in-loop-row-3.ensures.value) at c.in_ok-put.ensures.put)
-    c.loop-row.invariant
+    record {
+      found = free_more a.site (view a.ere.now) a.live.now c.requires.refs c.requires.sets c.window.result c.window.ensures.low
+          c.window.ensures.high c.window.ensures.direction row.held.items c.in_ok-held.held.items row.places.items
+          c.in_ok-ends.ends (Taken rows k) (Taken rows (k + 1)) c.loop-row.found c.put.new.self
+          (λ p at. (row_inside a.site a.rows.now rows k row c.deref-row-items.ensures.value c.requires.inside
+          c.loop-row-test.true c.row-item.is p at).0)
+          (rw c.as_slice-in-loop-row.ensures.value at c.in_ok-held.ensures)
+          (rw c.as_slice.ensures.value at c.in_ok-ends.ensures.ends)
+          (taken_row rows k row c.loop-row-test.true c.row-item.is)
+          (rw (c.as_slice-in-loop-row-2.ensures.value, c.as_slice-in-loop-row-3.ensures.value) at c.in_ok-put.ensures.put)
+          c.loop-row.invariant.found;
+      memo = record { told = c.loop-row.invariant.memo.told; asked = c.in_ok-ends.ensures.built };
+    }
 
-pub returns : goal.returns
-returns c =
+pub returns-clause-leads : goal.returns-clause-leads
+returns-clause-leads c =
     let t = view c.args.ere.now in
     gone_last c.args.site (Does c.args.site.text.now t) (reads t) c.args.live.now c.args.rows.now c.loop-row.found
     c.deref-row-items.result.now c.loop-row.row-index c.deref-row-items.ensures.value c.loop-row-test.false
-    c.loop-row.invariant
+    c.loop-row.invariant.found
