@@ -36,7 +36,7 @@ const LEAST_TRIES: usize = 16;
 const OWN_TRIES: usize = 1_500;
 
 /// How many ends all of these may look at, and how many more for each place.
-const ALL_OWN_TRIES: usize = 200_000;
+const ALL_OWN_TRIES: usize = 25_000;
 
 const MORE_OWN_TRIES: usize = 64;
 
