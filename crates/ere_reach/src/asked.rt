@@ -21,6 +21,9 @@ const FEW: usize = 8;
 /// From how many places at once the text is gone through once.
 const MANY: usize = 32;
 
+/// For how many expressions it is kept what was asked of them, so that automata take some megabytes at most.
+const MOST_KEPT: usize = 64;
+
 /// An expression of which it was asked, from how many places, and its automaton once these were many.
 #[derive(Drop)]
 struct Asked<'e> {
@@ -110,6 +113,9 @@ impl<'e> AskedEnds<'e> {
             if are_one(self.all[index].ere, ere) {
                 return self.all[index].ends(alloc, text, window, from);
             }
+        }
+        if self.all.len() >= MOST_KEPT {
+            return ends_from(alloc, ere, text, window, from);
         }
         let mut asked = Asked {
             ere,
