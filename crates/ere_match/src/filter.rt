@@ -117,6 +117,11 @@ impl Try {
     fn tries(self, most: usize, bytes: usize) -> usize {
         most.min(bytes / self.width()).max(LEAST_TRIES)
     }
+
+    /// How many ends the first tries of it may look at.
+    fn own_tries(self) -> usize {
+        self.tries(OWN_TRIES, OWN_BYTES)
+    }
 }
 
 /// How much a search of an expression with references may still do: what it may try from each place on its own, what in few
@@ -321,6 +326,43 @@ fn span_at(
     }
 }
 
+/// What is asked of the hit that begins where a span does, where a few tries don't tell.
+fn told_further(
+    ere: &Ere,
+    free: &Ere,
+    text: &[u8],
+    one: Try,
+    budget: &mut Budget,
+) -> Result<Option<Hit>, AllocError>
+    requires refs { refs_fit (greatest_group (view ere.now)) (view ere.now) ≡ true }
+    requires no_refs { has_refs (view free.now) ≡ false }
+    requires spans { SpansAll (view ere.now) (view free.now) }
+    requires inside { one.from ≤ length text.now }
+    requires lies { MayLie (drop one.from text.now) (view ere.now) (Some one.span) }
+    ensures { IfOk result (TellsAskedAt one.asked text.now (view ere.now) one.from one.span.from) }
+{
+    match one.asked {
+        Asked::Groups => {
+            let few = one.tries(FEW_TRIES, FEW_BYTES);
+            let (first, bytes) = (&mut budget.first, &mut budget.bytes);
+            if let Ok(hit) = some_tries(ere, free, text, one, few, first, bytes) {
+                return Ok(hit);
+            }
+            hit_at(ere, free, text, one, budget)
+        }
+        Asked::Span => {
+            if let Ok(hit) = span_at(ere, text, one.from, one.span, budget) {
+                return Ok(hit);
+            }
+            let more = Tries::new(budget.tries.memory()).part(one.own_tries());
+            budget.tries.join(more);
+            let last = one.tries(SPAN_TRIES, SPAN_BYTES);
+            let (tries, bytes) = (&mut budget.tries, &mut budget.bytes);
+            some_tries(ere, free, text, one, last, tries, bytes)
+        }
+    }
+}
+
 /// What is asked of the hit that begins where a span does. A few tries tell it most often.
 fn told_at(
     ere: &Ere,
@@ -339,45 +381,12 @@ fn told_at(
     if !is_tried(ere) {
         return slow_hit_from(alloc, ere, text, one.from, one.span.from, &mut budget.limit);
     }
-    let most = one.tries(OWN_TRIES, OWN_BYTES);
     budget.own.join(Tries::new(alloc).part(MORE_OWN_TRIES));
-    if let Ok(hit) = some_tries(
-        ere,
-        free,
-        text,
-        one,
-        most,
-        &mut budget.own,
-        &mut budget.bytes,
-    ) {
+    let (own, bytes) = (&mut budget.own, &mut budget.bytes);
+    if let Ok(hit) = some_tries(ere, free, text, one, one.own_tries(), own, bytes) {
         return Ok(hit);
     }
-    match one.asked {
-        Asked::Groups => {
-            let few = one.tries(FEW_TRIES, FEW_BYTES);
-            match some_tries(
-                ere,
-                free,
-                text,
-                one,
-                few,
-                &mut budget.first,
-                &mut budget.bytes,
-            ) {
-                Ok(hit) => Ok(hit),
-                Err(_) => hit_at(ere, free, text, one, budget),
-            }
-        }
-        Asked::Span => match span_at(ere, text, one.from, one.span, budget) {
-            Ok(hit) => Ok(hit),
-            Err(_) => {
-                budget.tries.join(Tries::new(alloc).part(most));
-                let last = one.tries(SPAN_TRIES, SPAN_BYTES);
-                let (tries, bytes) = (&mut budget.tries, &mut budget.bytes);
-                some_tries(ere, free, text, one, last, tries, bytes)
-            }
-        },
-    }
+    told_further(ere, free, text, one, budget)
 }
 
 /// The last of some places from one of a line on, of which it is told at once that no hit begins at one of them.
