@@ -1,5 +1,6 @@
 -- What one group's references tell of all of them, and greatest ends up to a bound.
 -- None is hard: whatever an expression derives is derived where some references gave way.
+-- Nothing ends behind a bound, so the greatest end up to it is the greatest of all.
 use Rattle.std.proofs.Common.{◌≡◌, ℕ, ◌<◌, ◌≤◌, ◌%◌, Option, Some, None, List, length, get_or, sym, arith}
 use Rattle.std.specs.FinMap.{empty}
 use Rattle.std.specs.List.{Contains}

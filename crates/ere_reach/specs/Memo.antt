@@ -3,17 +3,20 @@
 use Rattle.std.specs.Prelude.{◌≡◌, ℕ, ◌≤◌, ◌⊎◌, Some, List, [], ◌∷◌, false}
 use Rattle.std.specs.List.{Contains}
 use Rattle.ere_tree.specs.Captures.{Captures}
-use Rattle.ere_tree.specs.Tree.{Tree}
+use Rattle.ere_tree.specs.Tree.{Tree, group}
 use Rattle.ere_tree.specs.View.{view}
+use Rattle.ere_reach.specs.declared.frame.Frame.{Frame}
 use Rattle.ere_reach.specs.declared.held.Held.{Held}
 use Rattle.ere_reach.specs.declared.memo.Memo.{Memo}
 use Rattle.ere_reach.specs.declared.memo.Start.{Start}
 use Rattle.ere_reach.specs.declared.memo.Told.{Told}
+use Rattle.ere_reach.specs.declared.reach.Closing.{Closing}
+use Rattle.ere_reach.specs.declared.reach.Group.{Group}
 use Rattle.ere_reach.specs.declared.rows.Rows.{Rows}
 use Rattle.ere_reach.specs.declared.site.Site.{Site}
 use Rattle.ere_reach.specs.Asked.{AreBuilt}
 use Rattle.ere_reach.specs.Held.{Covers, part_in}
-use Rattle.ere_reach.specs.Leads.{Does, Goes, Step}
+use Rattle.ere_reach.specs.Leads.{Does, Goes, PutsClosed, Step}
 use Rattle.ere_reach.specs.Live.{HasRead, reads}
 use Rattle.ere_reach.specs.Moving.{sets_one}
 use Rattle.ere_reach.specs.Rows.{AreInside, HasState}
@@ -72,3 +75,13 @@ abbrev pub IsFramed : List ℕ → List ℕ → List Held → Rows → Rows → 
 IsFramed own others held inside found =
     ((h : List Held) (p : ℕ) → HasState found h p → (g : List Held) × HasState inside g p × IsFramedBy own others held g h)
     × ((g : List Held) (p : ℕ) → HasState inside g p → (h : List Held) × HasState found h p × IsFramedBy own others held g h)
+
+-- the tree of a group
+abbrev pub tree_of : Group → Tree
+tree_of it = group it.number (view it.inner.now)
+
+-- those behind a group, from the states behind its inside, where of the groups that don't stand in it a frame tells
+abbrev pub PutsFramed : Closing → Frame → Rows → Rows → Rows → Type 0
+PutsFramed closing frame inside old new =
+    (framed : Rows) × IsFramed frame.own.now frame.others.now frame.held.now inside framed
+    × PutsClosed closing.site closing.group.number closing.from closing.live.now framed old new

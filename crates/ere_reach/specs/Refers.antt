@@ -1,8 +1,10 @@
 -- What references of an expression name.
 -- Own rule: what other groups hold makes no difference to what the expression derives.
-use Rattle.std.specs.Prelude.{◌≢◌, take, length, ◌≡◌, ◌↔◌, ℕ, ◌⊎◌, List}
+use Rattle.std.specs.Prelude.{◌≢◌, take, length, ◌≡◌, ◌↔◌, ℕ, ◌⊎◌, List, false}
 use Rattle.std.specs.List.{Contains}
+use Rattle.ere_tree.specs.Shape.{has_refs}
 use Rattle.ere_tree.specs.Tree.{Tree, Trees, cat, alt, repeat, group, back, none, then, trees_of}
+use Rattle.ere_reach.specs.Moving.{sets_one}
 
 abbrev mutual
   -- a reference to this number stands in the tree
@@ -34,3 +36,8 @@ AddsRefs all old new = HasMore (OneRefers (trees_of all)) old new
 -- it has the others of a list, and not this one
 abbrev pub IsWithout : ℕ → List ℕ → List ℕ → Type 0
 IsWithout own numbers found = (n : ℕ) → Contains found n ↔ (Contains numbers n × (n ≢ own))
+
+-- what a group of this number holds has no reference, and sets no other group that is read
+pub record IsFree (t : Tree) (number : ℕ) (live : List ℕ) : Type 0 where
+  pub refers : has_refs t ≡ false
+  pub sets : (others : List ℕ) × IsWithout number live others × (sets_one t others ≡ false)

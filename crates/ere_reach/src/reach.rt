@@ -2,13 +2,13 @@
 ghost use Rattle.std.specs.Prelude.{◌≡◌, ℕ, ◌+◌, ◌-◌, ◌≤◌, false, map, List, [], ◌∷◌, IfOk, IsTrue, OnOk};
 ghost use Rattle.ere_reach.specs.Leads.{Enters, FitsKnown, FitsText, LeadsFurther, LeadsUpTo, LeadsOver, LeadsThrough, IsClosed, MayHave, PutsBeyond, PutsClosed, KeepsRows, StandsAt};
 ghost use Rattle.ere_reach.specs.Live.{HasRead, reads};
-ghost use Rattle.ere_reach.specs.Memo.{AllHold, Holds, IsFramed, LeadsFrom};
+ghost use Rattle.ere_reach.specs.Memo.{AllHold, Holds, LeadsFrom, PutsFramed, tree_of};
 ghost use Rattle.ere_reach.specs.Moving.{sets_one};
-ghost use Rattle.ere_reach.specs.Refers.{IsWithout};
+ghost use Rattle.ere_reach.specs.Refers.{IsFree};
 ghost use Rattle.ere_reach.specs.Rows.{AreInside, AreSame, HasState, IsDone, IsFresh, IsIn, IsPut};
 ghost use Rattle.ere_reach.specs.declared.rows.Rows.{Rows};
 ghost use Rattle.ere_tree.specs.Shape.{has_refs};
-ghost use Rattle.ere_tree.specs.Tree.{alt, back, group, repeat, trees_of};
+ghost use Rattle.ere_tree.specs.Tree.{alt, back, repeat, trees_of};
 ghost use Rattle.ere_tree.specs.View.{view};
 
 use crate::budget::Budget;
@@ -232,12 +232,18 @@ fn enter_fresh(
     Ok(found)
 }
 
+/// So many members at most of a repeat, none of which is empty.
+#[derive(Clone, Copy)]
+struct Further<'e> {
+    inner: &'e Ere,
+    most: usize,
+}
+
 /// By up to so many members that aren't empty. States that tell the same of what is read are entered once.
 #[cycle(reach)]
 fn reach_by_members<'e>(
     site: Site<'_>,
-    inner: &'e Ere,
-    most: usize,
+    further: Further<'e>,
     rows: &Rows,
     live: &[u32],
     memo: &mut Memo<'e>,
@@ -245,11 +251,13 @@ fn reach_by_members<'e>(
 ) -> Result<Rows, AllocError>
     requires fits { FitsText site }
     requires inside { AreInside site.low site.high rows.now }
-    requires read { HasRead (reads (view inner.now)) live.now live.now }
+    requires read { HasRead (reads (view further.inner.now)) live.now live.now }
     requires memo { AllHold site memo.old }
-    ensures leads { IfOk result (LeadsUpTo site.entry (view inner.now) most live.now rows.now) }
+    ensures leads { IfOk result (LeadsUpTo site.entry (view further.entry.inner.now) further.entry.most live.now
+        rows.now) }
     ensures memo { OnOk result (AllHold site.entry memo.new) }
 {
+    let Further { inner, most } = further;
     let read = live_before(site.alloc, inner, live)?;
     let mut entered = Rows::new(site.alloc, site.low);
     let mut all = Rows::new(site.alloc, site.low);
@@ -281,13 +289,19 @@ fn further_members(least: u32, most: Option<u32>, width: usize) -> Option<usize>
     }
 }
 
+/// A repeat of members, at least and at most so many.
+#[derive(Clone, Copy)]
+struct Repeat<'e> {
+    inner: &'e Ere,
+    least: u32,
+    most: Option<u32>,
+}
+
 /// By a repeat.
 #[cycle(reach)]
 fn reach_by_repeat<'e>(
     site: Site<'_>,
-    inner: &'e Ere,
-    least: u32,
-    most: Option<u32>,
+    repeated: Repeat<'e>,
     rows: &Rows,
     live: &[u32],
     memo: &mut Memo<'e>,
@@ -296,15 +310,18 @@ fn reach_by_repeat<'e>(
     requires fits { FitsText site }
     requires inside { AreInside site.low site.high rows.now }
     requires memo { AllHold site memo.old }
-    ensures leads { IfOk result (LeadsOver site.entry (repeat (view inner.now) least most) live.now rows.now) }
+    ensures leads { IfOk result (LeadsOver site.entry
+        (repeat (view repeated.entry.inner.now) repeated.entry.least repeated.entry.most) live.now rows.now) }
     ensures memo { OnOk result (AllHold site.entry memo.new) }
 {
-    let Some(more) = further_members(least, most, site.high.saturating_sub(site.low)) else {
+    let Repeat { inner, least, most } = repeated;
+    let Some(most) = further_members(least, most, site.high.saturating_sub(site.low)) else {
         return Ok(Rows::new(site.alloc, site.low));
     };
+    let further = Further { inner, most };
     let between = live_between(site.alloc, inner, live)?;
     if least == 0 {
-        let all = reach_by_members(site, inner, more, rows, between.as_slice(), memo, budget)?;
+        let all = reach_by_members(site, further, rows, between.as_slice(), memo, budget)?;
         return kept_behind(site, all, between.as_slice(), live, budget);
     }
     let mut now = reach(site, inner, rows, between.as_slice(), memo, budget)?;
@@ -313,68 +330,91 @@ fn reach_by_repeat<'e>(
         budget.release(now.len());
         now = next;
     }
-    let all = reach_by_members(site, inner, more, &now, between.as_slice(), memo, budget)?;
+    let all = reach_by_members(site, further, &now, between.as_slice(), memo, budget)?;
     let found = kept_behind(site, all, between.as_slice(), live, budget)?;
     budget.release(now.len());
     Ok(found)
 }
 
+/// A group with its number.
+#[derive(Clone, Copy)]
+struct Group<'e> {
+    number: u32,
+    inner: &'e Ere,
+}
+
 /// A group that is closed from a place on, and the groups that are read behind it.
 #[derive(Clone, Copy)]
-struct Closing<'t> {
+struct Closing<'t, 'e> {
     site: Site<'t>,
-    number: u32,
+    group: Group<'e>,
     from: usize,
     live: &'t [u32],
 }
 
-/// Adds one end of what a group holds. What is held there is left in the list.
+/// What is known of the texts that begin where a group does, and what is held at the end that was put last.
+#[derive(Drop)]
+struct Ending {
+    known: Known,
+    list: Vec<Held>,
+}
+
+impl Ending {
+    /// Nothing yet of the texts that begin at this place.
+    fn new(site: Site<'_>, from: usize) -> Ending
+        ensures { FitsKnown site.entry from result.known }
+    {
+        Ending {
+            known: Known::new(site, from),
+            list: Vec::new(site.alloc),
+        }
+    }
+}
+
+/// Adds one end of what a group holds.
 fn put_end(
-    closing: Closing<'_>,
+    closing: Closing<'_, '_>,
     held: &[Held],
     to: usize,
-    known: &mut Known,
-    list: &mut Vec<Held>,
+    ending: &mut Ending,
     found: &mut Rows,
     budget: &mut Budget,
 ) -> Result<(), AllocError>
     requires fits { FitsText closing.site }
     requires order { closing.from ≤ to }
     requires inside { to ≤ closing.site.high }
-    requires known { FitsKnown closing.site closing.from known.old }
-    ensures closed { OnOk result (IsClosed closing.entry.site closing.entry.number closing.entry.from
-        closing.entry.live.now held.now to list.new.items) }
-    ensures put { OnOk result (IsPut found.old list.new.items (to ∷ []) found.new) }
-    ensures known { OnOk result (FitsKnown closing.entry.site closing.entry.from known.new) }
+    requires known { FitsKnown closing.site closing.from ending.old.known }
+    ensures closed { OnOk result (IsClosed closing.entry.site closing.entry.group.number closing.entry.from
+        closing.entry.live.now held.now to ending.new.list.items) }
+    ensures put { OnOk result (IsPut found.old ending.new.list.items (to ∷ []) found.new) }
+    ensures known { OnOk result (FitsKnown closing.entry.site closing.entry.from ending.new.known) }
 {
     let (site, from) = (closing.site, closing.from);
-    let part = closed_over(site, from, to, known, budget)?;
-    keep_with(list, held, closing.live, closing.number, part)?;
-    found.put(list.as_slice(), &[to], budget)?;
+    let part = closed_over(site, from, to, &mut ending.known, budget)?;
+    keep_with(
+        &mut ending.list,
+        held,
+        closing.live,
+        closing.group.number,
+        part,
+    )?;
+    found.put(ending.list.as_slice(), &[to], budget)?;
     Ok(())
 }
 
 /// Adds the rows behind a group that begins at a place, from those behind what it holds.
 fn put_closed(
-    site: Site<'_>,
-    number: u32,
-    from: usize,
+    closing: Closing<'_, '_>,
     inside: &Rows,
-    live: &[u32],
     found: &mut Rows,
     budget: &mut Budget,
 ) -> Result<(), AllocError>
-    requires fits { FitsText site }
-    ensures { OnOk result (PutsClosed site.entry number from live.now inside.now found.old found.new) }
+    requires fits { FitsText closing.site }
+    ensures { OnOk result (PutsClosed closing.entry.site closing.entry.group.number closing.entry.from closing.entry.live.now
+        inside.now found.old found.new) }
 {
-    let closing = Closing {
-        site,
-        number,
-        from,
-        live,
-    };
-    let mut known = Known::new(site, from);
-    let mut list = Vec::new(site.alloc);
+    let (site, from) = (closing.site, closing.from);
+    let mut ending = Ending::new(site, from);
     for row in &inside.rows {
         for to in &row.places {
             if from <= *to && *to <= site.high {
@@ -382,8 +422,7 @@ fn put_closed(
                     closing,
                     row.held.as_slice(),
                     *to,
-                    &mut known,
-                    &mut list,
+                    &mut ending,
                     found,
                     budget,
                 )?;
@@ -396,8 +435,7 @@ fn put_closed(
 /// By a group that is read, where what it holds has no reference and sets no other group that is read.
 fn reach_by_free_group<'e>(
     site: Site<'_>,
-    number: u32,
-    inner: &'e Ere,
+    group: Group<'e>,
     rows: &Rows,
     live: &[u32],
     memo: &mut Memo<'e>,
@@ -405,15 +443,15 @@ fn reach_by_free_group<'e>(
 ) -> Result<Rows, AllocError>
     requires fits { FitsText site }
     requires inside { AreInside site.low site.high rows.now }
-    requires refs { has_refs (view inner.now) ≡ false }
-    requires sets { (others : List ℕ) × IsWithout number live.now others × (sets_one (view inner.now) others ≡ false) }
+    requires free { IsFree (view group.inner.now) group.number live.now }
     requires memo { AllHold site memo.old }
-    ensures leads { IfOk result (LeadsOver site.entry (group number (view inner.now)) live.now rows.now) }
+    ensures leads { IfOk result (LeadsOver site.entry (tree_of group.entry) live.now rows.now) }
     ensures memo { OnOk result (AllHold site.entry memo.new) }
 {
     let mut found = Rows::new(site.alloc, site.low);
-    let mut list = Vec::new(site.alloc);
+    let mut ending = Ending::new(site, site.low);
     for row in &rows.rows {
+        let (inner, held) = (group.inner, row.held.as_slice());
         for from in &row.places {
             let ends = memo
                 .asked
@@ -421,17 +459,14 @@ fn reach_by_free_group<'e>(
             budget.take(ends.len().saturating_add(site.weight()))?;
             let closing = Closing {
                 site,
-                number,
+                group,
                 from: *from,
                 live,
             };
-            let held = row.held.as_slice();
-            let mut known = Known::new(site, *from);
+            ending.known = Known::new(site, *from);
             for to in &ends {
                 if *from <= *to && *to <= site.high {
-                    put_end(
-                        closing, held, *to, &mut known, &mut list, &mut found, budget,
-                    )?;
+                    put_end(closing, held, *to, &mut ending, &mut found, budget)?;
                 }
             }
         }
@@ -441,56 +476,49 @@ fn reach_by_free_group<'e>(
 
 /// Adds the rows behind a group that begins at a place, from those behind what it holds with what other groups held before.
 fn put_framed(
-    closing: Closing<'_>,
+    closing: Closing<'_, '_>,
     inside: &Rows,
     frame: Frame<'_>,
     found: &mut Rows,
     budget: &mut Budget,
 ) -> Result<(), AllocError>
     requires fits { FitsText closing.site }
-    ensures { OnOk result ((framed : Rows)
-        × IsFramed frame.entry.own.now frame.entry.others.now frame.entry.held.now inside.now framed
-        × PutsClosed closing.entry.site closing.entry.number closing.entry.from closing.entry.live.now framed found.old
-        found.new) }
+    ensures { OnOk result (PutsFramed closing.entry frame.entry inside.now found.old found.new) }
 {
-    let Closing {
-        site,
-        number,
-        from,
-        live,
-    } = closing;
     if frame.is_empty() {
-        return put_closed(site, number, from, inside, live, found, budget);
+        return put_closed(closing, inside, found, budget);
     }
-    let all = framed(site, inside, frame, budget)?;
-    put_closed(site, number, from, &all, live, found, budget)?;
+    let all = framed(closing.site, inside, frame, budget)?;
+    put_closed(closing, &all, found, budget)?;
     budget.release(all.len());
     Ok(())
 }
 
-/// What the inside of a group leads to from a start.
+/// What the inside of a group leads to from where the group begins, where so much is held, and these groups are read behind it.
 #[cycle(reach)]
 fn told_from<'e>(
-    site: Site<'_>,
-    inner: &'e Ere,
-    start: Start<'_>,
+    closing: Closing<'_, 'e>,
+    held: &[Held],
+    live: &[u32],
     memo: &mut Memo<'e>,
     budget: &mut Budget,
 ) -> Result<Told<'e>, AllocError>
-    requires fits { FitsText site }
-    requires inside { IsIn site.low site.high start.from }
-    requires memo { AllHold site memo.old }
-    ensures leads { IfOk result (λ told. LeadsFrom site.entry (view inner.now) start.entry.live.now
-        start.entry.held.now start.entry.from told.rows) }
-    ensures holds { IfOk result (Holds site.entry) }
-    ensures memo { OnOk result (AllHold site.entry memo.new) }
+    requires fits { FitsText closing.site }
+    requires inside { IsIn closing.site.low closing.site.high closing.from }
+    requires memo { AllHold closing.site memo.old }
+    ensures leads { IfOk result (λ told. LeadsFrom closing.entry.site (view closing.entry.group.inner.now) live.now held.now
+        closing.entry.from told.rows) }
+    ensures holds { IfOk result (Holds closing.entry.site) }
+    ensures memo { OnOk result (AllHold closing.entry.site memo.new) }
 {
+    let (site, inner, from) = (closing.site, closing.group.inner, closing.from);
+    let start = Start { from, held, live };
     if let Some(told) = memo.take(inner, start) {
         return Ok(told);
     }
     let mut one = Rows::new(site.alloc, site.low);
-    one.put(start.held, &[start.from], budget)?;
-    let rows = reach(site, inner, &one, start.live, memo, budget)?;
+    one.put(held, &[from], budget)?;
+    let rows = reach(site, inner, &one, live, memo, budget)?;
     let told = Told::new(site.alloc, inner, start, rows)?;
     budget.release(told.rows.len() + 1);
     Ok(told)
@@ -500,8 +528,7 @@ fn told_from<'e>(
 #[cycle(reach)]
 fn reach_by_bound_group<'e>(
     site: Site<'_>,
-    number: u32,
-    inner: &'e Ere,
+    group: Group<'e>,
     rows: &Rows,
     live: &[u32],
     memo: &mut Memo<'e>,
@@ -510,12 +537,12 @@ fn reach_by_bound_group<'e>(
     requires fits { FitsText site }
     requires inside { AreInside site.low site.high rows.now }
     requires memo { AllHold site memo.old }
-    ensures leads { IfOk result (LeadsOver site.entry (group number (view inner.now)) live.now rows.now) }
+    ensures leads { IfOk result (LeadsOver site.entry (tree_of group.entry) live.now rows.now) }
     ensures memo { OnOk result (AllHold site.entry memo.new) }
 {
-    let rest = without(site.alloc, live, number)?;
-    let own = set_in(site.alloc, inner, rest.as_slice())?;
-    let read = live_before(site.alloc, inner, own.as_slice())?;
+    let rest = without(site.alloc, live, group.number)?;
+    let own = set_in(site.alloc, group.inner, rest.as_slice())?;
+    let read = live_before(site.alloc, group.inner, own.as_slice())?;
     let mut found = Rows::new(site.alloc, site.low);
     for row in &rows.rows {
         let before = row.held.as_slice();
@@ -526,19 +553,13 @@ fn reach_by_bound_group<'e>(
             others: rest.as_slice(),
         };
         for from in &row.places {
-            let from = *from;
-            let start = Start {
-                from,
-                held: held.as_slice(),
-                live: own.as_slice(),
-            };
             let closing = Closing {
                 site,
-                number,
-                from,
+                group,
+                from: *from,
                 live,
             };
-            let told = told_from(site, inner, start, memo, budget)?;
+            let told = told_from(closing, held.as_slice(), own.as_slice(), memo, budget)?;
             put_framed(closing, &told.rows, frame, &mut found, budget)?;
             memo.put(told)?;
         }
@@ -550,8 +571,7 @@ fn reach_by_bound_group<'e>(
 #[cycle(reach)]
 fn reach_by_group<'e>(
     site: Site<'_>,
-    number: u32,
-    inner: &'e Ere,
+    group: Group<'e>,
     rows: &Rows,
     live: &[u32],
     memo: &mut Memo<'e>,
@@ -560,9 +580,10 @@ fn reach_by_group<'e>(
     requires fits { FitsText site }
     requires inside { AreInside site.low site.high rows.now }
     requires memo { AllHold site memo.old }
-    ensures leads { IfOk result (LeadsOver site.entry (group number (view inner.now)) live.now rows.now) }
+    ensures leads { IfOk result (LeadsOver site.entry (tree_of group.entry) live.now rows.now) }
     ensures memo { OnOk result (AllHold site.entry memo.new) }
 {
+    let Group { number, inner } = group;
     if !live.contains(&number) {
         return reach(site, inner, rows, live, memo, budget);
     }
@@ -570,11 +591,11 @@ fn reach_by_group<'e>(
     let read = live_before(site.alloc, inner, others.as_slice())?;
     let starts = with_kept(site, rows, read.as_slice(), budget)?;
     if !refers_or_sets(inner, others.as_slice()) {
-        let found = reach_by_free_group(site, number, inner, &starts, live, memo, budget)?;
+        let found = reach_by_free_group(site, group, &starts, live, memo, budget)?;
         budget.release(starts.len());
         return Ok(found);
     }
-    let found = reach_by_bound_group(site, number, inner, &starts, live, memo, budget)?;
+    let found = reach_by_bound_group(site, group, &starts, live, memo, budget)?;
     budget.release(starts.len());
     Ok(found)
 }
@@ -628,6 +649,49 @@ fn reach_by_reference(
     Ok(found)
 }
 
+/// By an expression that has a reference, or sets a group that is read.
+#[cycle(reach)]
+fn reach_by_kind<'e>(
+    site: Site<'_>,
+    ere: &'e Ere,
+    rows: &Rows,
+    live: &[u32],
+    memo: &mut Memo<'e>,
+    budget: &mut Budget,
+) -> Result<Rows, AllocError>
+    requires fits { FitsText site }
+    requires inside { AreInside site.low site.high rows.now }
+    requires memo { AllHold site memo.old }
+    ensures leads { IfOk result (LeadsOver site.entry (view ere.now) live.now rows.now) }
+    ensures memo { OnOk result (AllHold site.entry memo.new) }
+{
+    match ere {
+        Ere::Cat(parts) => reach_through(site, parts.as_slice(), rows, live, memo, budget),
+        Ere::Alt(choices) => reach_by_one(site, choices.as_slice(), rows, live, memo, budget),
+        Ere::Repeat { inner, least, most } => {
+            let repeated = Repeat {
+                inner,
+                least: *least,
+                most: *most,
+            };
+            reach_by_repeat(site, repeated, rows, live, memo, budget)
+        }
+        Ere::Group { number, inner } => {
+            let group = Group {
+                number: *number,
+                inner,
+            };
+            reach_by_group(site, group, rows, live, memo, budget)
+        }
+        Ere::Ref { number, fold } => {
+            reach_by_reference(site, *number, *fold, rows, live, budget)
+        }
+        Ere::Empty | Ere::Plain(_) | Ere::Set(_) | Ere::LineStart | Ere::LineEnd => {
+            reach_freely(site, ere, rows, live, memo, budget)
+        }
+    }
+}
+
 /// The rows to which the expression leads from these, where those groups are read behind it.
 #[cycle(reach)]
 pub(crate) fn reach<'e>(
@@ -650,21 +714,5 @@ pub(crate) fn reach<'e>(
     if !refers_or_sets(ere, live) {
         return reach_freely(site, ere, rows, live, memo, budget);
     }
-    match ere {
-        Ere::Cat(parts) => reach_through(site, parts.as_slice(), rows, live, memo, budget),
-        Ere::Alt(choices) => reach_by_one(site, choices.as_slice(), rows, live, memo, budget),
-        Ere::Repeat { inner, least, most } => {
-            reach_by_repeat(site, inner, *least, *most, rows, live, memo, budget)
-        }
-        Ere::Group { number, inner } => {
-            reach_by_group(site, *number, inner, rows, live, memo, budget)
-        }
-        Ere::Ref { number, fold } => {
-            reach_by_reference(site, *number, *fold, rows, live, budget)
-        }
-        Ere::Empty | Ere::Plain(_) | Ere::Set(_) => reach_freely(
-            site, ere, rows, live, memo, budget,
-        ),
-        Ere::LineStart | Ere::LineEnd => reach_freely(site, ere, rows, live, memo, budget),
-    }
+    reach_by_kind(site, ere, rows, live, memo, budget)
 }

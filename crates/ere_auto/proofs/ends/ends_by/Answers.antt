@@ -1,3 +1,6 @@
+-- Place by place the ends of one are told by an automaton of the expression, and those that weren't seen before are added.
+-- What is seen is kept from the place on that lies farthest back, so that each end of a place lies beyond it.
+-- The hard one is `loop-place-preserved`: the automaton stays one of the expression, and each place brings its ends.
 use Rattle.std.proofs.Common.{ℕ, List, [], ◌∷◌, IsTrue, get_or, sym, ◌∙◌, subst, take_all, arith, true≢false}
 use Rattle.std.specs.List.{All, Contains}
 use Rattle.std.proofs.lemmas.List.Elements.{All-cons, All-get_or, All-nil}

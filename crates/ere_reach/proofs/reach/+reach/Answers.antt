@@ -116,8 +116,8 @@ reach_by_one-returns-clause-leads t c =
 
 -- THE WHOLE
 
-pub reach-returns-in-Cat-clause-leads : goal.reach-returns-in-Cat-clause-leads
-reach-returns-in-Cat-clause-leads t c =
+pub reach_by_kind-returns-in-Cat-clause-leads : goal.reach_by_kind-returns-in-Cat-clause-leads
+reach_by_kind-returns-in-Cat-clause-leads t c =
     let site = c.args.site in
     let live = c.args.live.now in
     let rows = c.args.rows.now in
@@ -134,11 +134,11 @@ reach-returns-in-Cat-clause-leads t c =
 pub reach_by_group-returns-then-not-contains-clause-leads : goal.reach_by_group-returns-then-not-contains-clause-leads
 reach_by_group-returns-then-not-contains-clause-leads t c =
     let a = c.args in
-    let unread : Contains a.live.now a.number → ⊥ = λ has.
-    passes_none a.live.now a.number a.number (sym c.contains.ensures.value ∙ c.if-not-contains.true) has refl in
-    IfOk-weaker c.reach.result (LeadsOver a.site (view a.inner.now) a.live.now a.rows.now)
-    (LeadsOver a.site (group a.number (view a.inner.now)) a.live.now a.rows.now)
-    (λ found leads. group_over a.site a.number (view a.inner.now) a.live.now a.rows.now found unread leads)
+    let unread : Contains a.live.now a.group.number → ⊥ = λ has.
+    passes_none a.live.now a.group.number a.group.number (sym c.contains.ensures.value ∙ c.if-not-contains.true) has refl in
+    IfOk-weaker c.reach.result (LeadsOver a.site (view a.group.inner.now) a.live.now a.rows.now)
+    (LeadsOver a.site (group a.group.number (view a.group.inner.now)) a.live.now a.rows.now)
+    (λ found leads. group_over a.site a.group.number (view a.group.inner.now) a.live.now a.rows.now found unread leads)
     c.reach.ensures.leads
 
 pub reach_by_group-reach_by_free_group-requires : goal.reach_by_group-reach_by_free_group-requires
@@ -148,19 +148,21 @@ reach_by_group-reach_by_free_group-requires t c =
     record {
       fits = c.requires.fits;
       inside = kept_inside c.args.site _ c.args.rows.now c.in_ok-starts.starts c.in_ok-starts.ensures c.requires.inside;
-      refs = free.refers c.if-not-refers_or_sets.true;
-      sets = (c.in_ok-others.others.items, c.in_ok-others.ensures, unset);
+      free = record {
+        refers = free.refers c.if-not-refers_or_sets.true;
+        sets = (c.in_ok-others.others.items, c.in_ok-others.ensures, unset);
+      };
       memo = c.requires.memo;
     }
 
 pub reach_by_group-returns-then-not-refers_or_sets-clause-leads : goal.reach_by_group-returns-then-not-refers_or_sets-clause-leads
 reach_by_group-returns-then-not-refers_or_sets-clause-leads t c =
     let a = c.args in
-    let t = view a.inner.now in
-    let tree = group a.number t in
+    let t = view a.group.inner.now in
+    let tree = group a.group.number t in
     kept_leads a.site (Does a.site.text.now tree) (reads tree) a.live.now c.in_ok-read.read.items a.rows.now
     c.in_ok-starts.starts c.in_ok-found.found
-    (all_of_group a.number t a.live.now c.in_ok-others.others.items c.in_ok-read.read.items c.in_ok-others.ensures
+    (all_of_group a.group.number t a.live.now c.in_ok-others.others.items c.in_ok-read.read.items c.in_ok-others.ensures
     (rw c.as_slice.ensures.value at c.in_ok-read.ensures))
     (rw c.as_slice-2.ensures.value at c.in_ok-starts.ensures) c.in_ok-found.ensures.leads
 
@@ -172,11 +174,11 @@ reach_by_group-reach_by_bound_group-requires t c =
 pub reach_by_group-returns-clause-leads : goal.reach_by_group-returns-clause-leads
 reach_by_group-returns-clause-leads t c =
     let a = c.args in
-    let t = view a.inner.now in
-    let tree = group a.number t in
+    let t = view a.group.inner.now in
+    let tree = group a.group.number t in
     kept_leads a.site (Does a.site.text.now tree) (reads tree) a.live.now c.in_ok-read.read.items a.rows.now
     c.in_ok-starts.starts c.in_ok-found-2.found
-    (all_of_group a.number t a.live.now c.in_ok-others.others.items c.in_ok-read.read.items c.in_ok-others.ensures
+    (all_of_group a.group.number t a.live.now c.in_ok-others.others.items c.in_ok-read.read.items c.in_ok-others.ensures
     (rw c.as_slice.ensures.value at c.in_ok-read.ensures))
     (rw c.as_slice-2.ensures.value at c.in_ok-starts.ensures) c.in_ok-found-2.ensures.leads
 
@@ -184,7 +186,7 @@ reach_by_group-returns-clause-leads t c =
 
 pub told_from-returns-in-Some-clause-leads : goal.told_from-returns-in-Some-clause-leads
 told_from-returns-in-Some-clause-leads t c =
-    told_leads c.args.site (view c.args.inner.now) c.args.start c.in-Some.told c.in-Some.ensures.of
+    told_leads c.args.closing.site (view c.args.closing.group.inner.now) (record { from = c.args.closing.from; held = c.args.held; live = c.args.live }) c.in-Some.told c.in-Some.ensures.of
     (c.requires.memo.told c.in-Some.told c.in-Some.ensures.there)
 
 pub told_from-returns-in-Some-clause-holds : goal.told_from-returns-in-Some-clause-holds
@@ -192,36 +194,36 @@ told_from-returns-in-Some-clause-holds t c = c.requires.memo.told c.in-Some.told
 
 pub told_from-returns-in-Some-clause-memo : goal.told_from-returns-in-Some-clause-memo
 told_from-returns-in-Some-clause-memo t c =
-    still_hold c.args.site c.args.memo.now c.take.new.self c.take.ensures.kept c.take.ensures.asked c.requires.memo
+    still_hold c.args.closing.site c.args.memo.now c.take.new.self c.take.ensures.kept c.take.ensures.asked c.requires.memo
 
 pub told_from-reach-requires : goal.told_from-reach-requires
 told_from-reach-requires t c =
-    let it = one_inside c.args.site c.args.start.held.now c.args.start.from c.new-one.result c.put.new.self
+    let it = one_inside c.args.closing.site c.args.held.now c.args.closing.from c.new-one.result c.put.new.self
     c.new-one.ensures.none c.in_ok-put.ensures.put c.requires.inside in
-    (search rules, (c.requires.fits, (it, still_hold c.args.site c.args.memo.now c.take.new.self c.take.ensures.kept c.take.ensures.asked c.requires.memo)))
+    (search rules, (c.requires.fits, (it, still_hold c.args.closing.site c.args.memo.now c.take.new.self c.take.ensures.kept c.take.ensures.asked c.requires.memo)))
 
 pub told_from-returns-clause-leads : goal.told_from-returns-clause-leads
 told_from-returns-clause-leads t c =
     let a = c.args in
-    subst (LeadsFrom a.site (view a.inner.now) a.start.live.now a.start.held.now a.start.from)
+    subst (LeadsFrom a.closing.site (view a.closing.group.inner.now) a.live.now a.held.now a.closing.from)
     (sym c.in_ok-told.ensures.rows)
-    (leads_from a.site (view a.inner.now) a.start.live.now a.start.held.now a.start.from c.new-one.result
+    (leads_from a.closing.site (view a.closing.group.inner.now) a.live.now a.held.now a.closing.from c.new-one.result
     c.put.new.self c.in_ok-rows.rows c.new-one.ensures.none c.in_ok-put.ensures.put c.in_ok-rows.ensures.leads)
 
 pub told_from-returns-clause-holds : goal.told_from-returns-clause-holds
 told_from-returns-clause-holds t c =
     let a = c.args in
-    told_holds a.site (view a.inner.now) a.start c.in_ok-told.told c.in_ok-told.ensures.of
-    (subst (LeadsFrom a.site (view a.inner.now) a.start.live.now a.start.held.now a.start.from)
+    told_holds a.closing.site (view a.closing.group.inner.now) (record { from = a.closing.from; held = a.held; live = a.live }) c.in_ok-told.told c.in_ok-told.ensures.of
+    (subst (LeadsFrom a.closing.site (view a.closing.group.inner.now) a.live.now a.held.now a.closing.from)
     (sym c.in_ok-told.ensures.rows)
-    (leads_from a.site (view a.inner.now) a.start.live.now a.start.held.now a.start.from c.new-one.result
+    (leads_from a.closing.site (view a.closing.group.inner.now) a.live.now a.held.now a.closing.from c.new-one.result
     c.put.new.self c.in_ok-rows.rows c.new-one.ensures.none c.in_ok-put.ensures.put c.in_ok-rows.ensures.leads))
 
 -- A GROUP WITH REFERENCES OR OTHER GROUPS IN IT
 
 pub reach_by_bound_group-loop-row-init : goal.reach_by_bound_group-loop-row-init
 reach_by_bound_group-loop-row-init t c =
-    let tree = group c.args.number (view c.args.inner.now) in
+    let tree = group c.args.group.number (view c.args.group.inner.now) in
     record {
       found = gone_first c.args.site (Does c.args.site.text.now tree) (reads tree) c.args.live.now
           c.deref-row-items.result.now c.new-found.result c.new-found.ensures.none;
@@ -247,7 +249,7 @@ reach_by_bound_group-told_from-requires t c =
 pub reach_by_bound_group-loop-from-preserved : goal.reach_by_bound_group-loop-from-preserved
 reach_by_bound_group-loop-from-preserved t c =
     let a = c.args in
-    let inner = view a.inner.now in
+    let inner = view a.group.inner.now in
     let rows = c.deref-row-items.result.now in
     let k = c.loop-row.row-index in
     let g = c.as_slice-before.result.now in
@@ -262,7 +264,7 @@ reach_by_bound_group-loop-from-preserved t c =
     let puts = rw c.as_slice-in-loop-row-2.ensures.value at (rw c.as_slice-in-loop-row-3.ensures.value at
     c.in_ok-put_framed.ensures) in
     record {
-      found = group_more a.site a.number inner a.live.now others c.in_ok-rest.ensures g p puts.0 c.loop-from.found
+      found = group_more a.site a.group.number inner a.live.now others c.in_ok-rest.ensures g p puts.0 c.loop-from.found
           c.put_framed.new.found (TakenIn rows k g places j) (TakenIn rows k g places (j + 1))
           (place_inside a.site a.rows.now rows k c.row-item.result places j c.deref-row-items.ensures.value
           c.requires.inside c.loop-row-test.true c.row-item.is c.deref-from-items.ensures.value c.loop-from-test.true).0
@@ -294,7 +296,7 @@ reach_by_bound_group-loop-row-preserved t c =
 pub reach_by_bound_group-returns-clause-leads : goal.reach_by_bound_group-returns-clause-leads
 reach_by_bound_group-returns-clause-leads t c =
     let a = c.args in
-    let tree = group a.number (view a.inner.now) in
+    let tree = group a.group.number (view a.group.inner.now) in
     gone_last a.site (Does a.site.text.now tree) (reads tree) a.live.now a.rows.now c.loop-row.found
     c.deref-row-items.result.now c.loop-row.row-index c.deref-row-items.ensures.value c.loop-row-test.false
     c.loop-row.invariant.found
@@ -384,15 +386,15 @@ reach_by_members-loop-init t c =
 
 pub reach_by_members-returns-then-len-eq0-clause-leads : goal.reach_by_members-returns-then-len-eq0-clause-leads
 reach_by_members-returns-then-len-eq0-clause-leads t c =
-    rounds_over c.args.site (view c.args.inner.now) c.args.live.now c.in_ok-read.read.items c.loop.all c.loop.entered
+    rounds_over c.args.site (view c.args.further.inner.now) c.args.live.now c.in_ok-read.read.items c.loop.all c.loop.entered
     c.enter_fresh.new.entered c.in_ok-first.first c.loop.invariant.rounds.entry
     (rw c.as_slice.ensures.value at c.in_ok-first.ensures.enters) c.args.rows.now c.enter_fresh.new.all c.loop.counter
-    c.args.most c.requires.fits (omega arith) c.in_ok-read.ensures c.requires.read c.loop.invariant.rounds.round
+    c.args.further.most c.requires.fits (omega arith) c.in_ok-read.ensures c.requires.read c.loop.invariant.rounds.round
     c.in_ok-first.ensures.same (sym c.len.ensures ∙ c.if-len-eq0.true)
 
 pub reach_by_members-reach_by_further-requires : goal.reach_by_members-reach_by_further-requires
 reach_by_members-reach_by_further-requires t c =
-    let inside = first_inside c.args.site (view c.args.inner.now) c.args.live.now c.in_ok-read.read.items c.loop.all
+    let inside = first_inside c.args.site (view c.args.further.inner.now) c.args.live.now c.in_ok-read.read.items c.loop.all
     c.loop.entered c.enter_fresh.new.entered c.in_ok-first.first c.loop.invariant.rounds.entry
     (rw c.as_slice.ensures.value at c.in_ok-first.ensures.enters) c.loop.invariant.rounds.round.inside in
     (search rules, (c.requires.fits, (inside, c.loop.invariant.memo)))
@@ -400,7 +402,7 @@ reach_by_members-reach_by_further-requires t c =
 pub reach_by_members-loop-preserved : goal.reach_by_members-loop-preserved
 reach_by_members-loop-preserved t c =
     record {
-      rounds = rounds_more c.args.site (view c.args.inner.now) c.args.live.now c.in_ok-read.read.items c.loop.all
+      rounds = rounds_more c.args.site (view c.args.further.inner.now) c.args.live.now c.in_ok-read.read.items c.loop.all
           c.loop.entered c.enter_fresh.new.entered c.in_ok-first.first c.loop.invariant.rounds.entry
           (rw c.as_slice.ensures.value at c.in_ok-first.ensures.enters) c.args.rows.now
           c.enter_fresh.new.all c.in_ok-next.next c.absorb.new.self c.loop.counter c.in_ok-read.ensures c.requires.read
@@ -411,22 +413,22 @@ reach_by_members-loop-preserved t c =
 
 pub reach_by_members-returns-clause-leads : goal.reach_by_members-returns-clause-leads
 reach_by_members-returns-clause-leads t c =
-    round_last _ (view c.args.inner.now) _ _ _ c.loop.counter c.args.most c.requires.fits (omega arith)
+    round_last _ (view c.args.further.inner.now) _ _ _ c.loop.counter c.args.further.most c.requires.fits (omega arith)
     c.loop.invariant.rounds.round
 
 -- A REPEAT
 
 pub reach_by_repeat-reach_by_members-requires : goal.reach_by_repeat-reach_by_members-requires
 reach_by_repeat-reach_by_members-requires t c =
-    let read = least_read (view c.args.inner.now) c.args.live.now _ _ c.as_slice.ensures.value c.in_ok-between.ensures in
+    let read = least_read (view c.args.repeated.inner.now) c.args.live.now _ _ c.as_slice.ensures.value c.in_ok-between.ensures in
     (search rules, (c.requires.fits, (c.requires.inside, (read, c.requires.memo))))
 
 pub reach_by_repeat-returns-then-least-eq0-clause-leads : goal.reach_by_repeat-returns-then-least-eq0-clause-leads
 reach_by_repeat-returns-then-least-eq0-clause-leads t c =
     let a = c.args in
     IfOk-weaker c.kept_behind.result (KeepsRows a.site a.live.now c.in_ok-all.all)
-    (LeadsOver a.site (repeat (view a.inner.now) a.least a.most) a.live.now a.rows.now)
-    (λ found kept. least_end a.site (view a.inner.now) a.least a.most a.live.now _ a.rows.now c.in-Some.more
+    (LeadsOver a.site (repeat (view a.repeated.inner.now) a.repeated.least a.repeated.most) a.live.now a.rows.now)
+    (λ found kept. least_end a.site (view a.repeated.inner.now) a.repeated.least a.repeated.most a.live.now _ a.rows.now c.in-Some.most
     c.saturating_sub.result _ 0 a.rows.now c.in_ok-all.all found c.in-Some.ensures c.saturating_sub.ensures
     c.requires.inside c.as_slice.ensures.value c.in_ok-between.ensures (least_none _ _ _ _ _ _ _ c.requires.inside)
     (omega arith) c.in_ok-all.ensures.leads kept) c.kept_behind.ensures
@@ -449,7 +451,7 @@ reach_by_repeat-loop-preserved t c =
 
 pub reach_by_repeat-returns-clause-leads : goal.reach_by_repeat-returns-clause-leads
 reach_by_repeat-returns-clause-leads t c =
-    least_end c.args.site (view c.args.inner.now) c.args.least c.args.most c.args.live.now _ c.args.rows.now
-    c.in-Some.more c.saturating_sub.result _ c.loop.counter c.loop.now c.in_ok-all-2.all c.in_ok-found.found
+    least_end c.args.site (view c.args.repeated.inner.now) c.args.repeated.least c.args.repeated.most c.args.live.now _ c.args.rows.now
+    c.in-Some.most c.saturating_sub.result _ c.loop.counter c.loop.now c.in_ok-all-2.all c.in_ok-found.found
     c.in-Some.ensures c.saturating_sub.ensures c.requires.inside c.as_slice-3.ensures.value c.in_ok-between.ensures
     c.loop.invariant.least (omega arith) c.in_ok-all-2.ensures.leads c.in_ok-found.ensures

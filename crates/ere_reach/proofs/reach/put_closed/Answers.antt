@@ -9,9 +9,9 @@ use Rattle.ere_reach.proofs.reach.put_closed.Goals.{then-from-to+then-to-site+in
 
 pub loop-row-init : goal.loop-row-init
 loop-row-init c = record {
-  closed = closed_first c.args.site c.args.number c.args.from c.args.live.now c.args.found.now
+  closed = closed_first c.args.closing.site c.args.closing.group.number c.args.closing.from c.args.closing.live.now c.args.found.now
       c.deref-row-items.result.now;
-  known = c.new-known.ensures.fits;
+  known = c.new-ending.ensures;
 }
 
 pub loop-to-init : goal.loop-to-init
@@ -36,16 +36,16 @@ loop-to-preserved c =
     let grows = taken_in_more rows k g places j to c.loop-to-test.true refl in
     elim c.if-from-to.branch [
       | then-from-to+then-to-site+in_ok-put_end w ↦
-          rw (w.found-is, w.known-is) (record {
-            closed = closed_more a.site a.number a.from a.live.now a.found.now g w.put_end.new.list.items to S T
+          rw (w.found-is, w.ending-is) (record {
+            closed = closed_more a.closing.site a.closing.group.number a.closing.from a.closing.live.now a.found.now g w.put_end.new.ending.list.items to S T
                 c.loop-to.found w.put_end.new.found w.if-from-to.true w.if-to-site.true
                 (rw w.as_slice.ensures.value at w.in_ok-put_end.ensures.closed) grows w.in_ok-put_end.ensures.put
                 c.loop-to.invariant.closed;
             known = w.in_ok-put_end.ensures.known;
           })
       | else-from-to w ↦
-          rw (w.found-is, w.known-is) (record {
-            closed = closed_skip a.site a.number a.from a.live.now a.found.now g to S T c.loop-to.found
+          rw (w.found-is, w.ending-is) (record {
+            closed = closed_skip a.closing.site a.closing.group.number a.closing.from a.closing.live.now a.found.now g to S T c.loop-to.found
                 (λ on fits. elim w.else-from-to.branch [
                   | else-from-to-via-then-from-to+else-to-site v ↦ absurd (omega (arith, v.if-to-site.false, fits))
                   | else-from-to-via-else-from-to v ↦ absurd (omega (arith, v.if-from-to.false, on))
@@ -65,6 +65,6 @@ loop-row-preserved c = record {
 
 pub returns : goal.returns
 returns c =
-    closed_last c.args.site c.args.number c.args.from c.args.live.now c.args.found.now c.args.inside.now
+    closed_last c.args.closing.site c.args.closing.group.number c.args.closing.from c.args.closing.live.now c.args.found.now c.args.inside.now
     c.loop-row.found c.deref-row-items.result.now c.loop-row.row-index c.deref-row-items.ensures.value
     c.loop-row-test.false c.loop-row.invariant.closed

@@ -9,20 +9,20 @@ use Rattle.ere_reach.proofs.reach.reach_by_free_group.Given as goal
 
 abbrev pub invariant-loop-to : goal.invariant-loop-to
 invariant-loop-to l = record {
-  closed : ClosedSoFar l.site l.number l.from l.live l.initial.found
-      (TakenIn [] 0 l.row.held.items l.to-items l.to-index) l.found;
-  known : FitsKnown l.site l.from l.known;
+  closed : ClosedSoFar l.site l.group.number l.from l.live l.initial.found
+      (TakenIn [] 0 l.held l.to-items l.to-index) l.found;
+  known : FitsKnown l.site l.from l.ending.known;
 }
 
 abbrev pub invariant-loop-from : goal.invariant-loop-from
 invariant-loop-from l = record {
-  found : ClosesSoFar l.site l.number (view l.inner) l.live
-      (TakenIn l.row-items l.row-index l.row.held.items l.from-items l.from-index) l.found;
+  found : ClosesSoFar l.site l.group.number (view l.group.inner.now) l.live
+      (TakenIn l.row-items l.row-index l.held l.from-items l.from-index) l.found;
   memo : AllHold l.site l.memo;
 }
 
 abbrev pub invariant-loop-row : goal.invariant-loop-row
 invariant-loop-row l = record {
-  found : ClosesSoFar l.site l.number (view l.inner) l.live (Taken l.row-items l.row-index) l.found;
+  found : ClosesSoFar l.site l.group.number (view l.group.inner.now) l.live (Taken l.row-items l.row-index) l.found;
   memo : AllHold l.site l.memo;
 }
